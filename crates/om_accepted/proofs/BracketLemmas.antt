@@ -6,6 +6,7 @@ use Rattle.std.proofs.lemmas.Option.{same_Some, none-some}
 use Rattle.std.proofs.lemmas.List.Elements.{Contains-append_left, Contains-append_right, Contains-append_cases}
 use Rattle.std.proofs.lemmas.Slice.Eq.{bytes_eq-Decides}
 use Rattle.om_model.proofs.Options.{true_or_not, Contains-first, Contains-none, slice_get-Contains}
+use Rattle.om_model.proofs.Lists.{slice_get-append_left, slice_get-last}
 use Rattle.om_types.specs.declared.decl.Decl.{Decl}
 use Rattle.om_types.specs.declared.head.HeadOf.{HeadOf}
 use Rattle.om_types.specs.declared.head.HeadOf.TheVariants as heads
@@ -19,19 +20,10 @@ use Rattle.om_types.specs.Ty.{Ty, variable, named, tuple, bracket, part, tag, ta
 use Rattle.om_types.specs.Ty.{parts}
 use Rattle.om_equal.proofs.TagLemmas.{Contains-filtered, filtered-Contains}
 use Rattle.om_accepted.specs.Ranked.{Keeps}
-use Rattle.om_accepted.specs.Told.{Thing, bracket_thing, HasParts, HasItems, IsProper, items_of, own_thing, begins_as, things_inside, things_in, thing_of, IsTold, AllIsTold, TellsAll}
+use Rattle.om_accepted.specs.Told.{Thing, bracket_thing, HasParts, HasItems, IsProper, items_of, own_thing, begins_as, things_inside, thing_of, IsTold, AllIsTold, TellsAll}
 use Rattle.om_accepted.specs.Brackets.{HeadsArePlain, BracketsAreSound}
 
 -- ---- places in lists
-
-get_before : {X : Type 0} (xs ys : List X) (i : ℕ) (x : X) → slice_get xs i ≡ Some x → slice_get (xs ++ ys) i ≡ Some x
-get_before [] ys i x is = absurd (none-some x is)
-get_before (z ∷ xs) ys zero x is = is
-get_before (z ∷ xs) ys (suc i) x is = get_before xs ys i x is
-
-get_last : {X : Type 0} (xs : List X) (x : X) → slice_get (xs ++ x ∷ []) (length xs) ≡ Some x
-get_last [] x = refl
-get_last (z ∷ xs) x = get_last xs x
 
 -- ---- the tags that items bring
 
@@ -50,10 +42,10 @@ module _ (decls : List Decl) (plain : HeadsArePlain decls) where
     brings : Contains (tags_of_item decls item) one
 
   more_items : (items : List Ty) (last : Ty) (one : TagOf Ty) → Brought items one → Brought (items ++ last ∷ []) one
-  more_items items last one b = record { place = b.place; item = b.item; is = get_before items (last ∷ []) b.place b.item b.is; brings = b.brings }
+  more_items items last one b = record { place = b.place; item = b.item; is = slice_get-append_left items (last ∷ []) b.place b.item b.is; brings = b.brings }
 
   last_item : (items : List Ty) (last : Ty) (one : TagOf Ty) → Contains (tags_of_item decls last) one → Brought (items ++ last ∷ []) one
-  last_item items last one among = record { place = length items; item = last; is = get_last items last; brings = among }
+  last_item items last one among = record { place = length items; item = last; is = slice_get-last items last; brings = among }
 
   -- the tags of a head with more of them
   with_more :
@@ -217,7 +209,7 @@ module _ (decls : List Decl) (plain : HeadsArePlain decls) (Seen : ℕ → Type 
   includes : (whole included : Ty) → Within (including whole included) → AreVariants (head decls included)
   includes whole included w = ⊎_elim (λ is. is)
       (λ other.
-      let p = w.first (length (items_of whole)) (including bracket included) (get_last (items_of whole) (including bracket included)) in
+      let p = w.first (length (items_of whole)) (including bracket included) (slice_get-last (items_of whole) (including bracket included)) in
       absurd (variants p.0 (
         w.placed,
         w.occurs,
@@ -234,7 +226,7 @@ module _ (decls : List Decl) (plain : HeadsArePlain decls) (Seen : ℕ → Type 
   shorter t whole last same w = record {
     placed = w.placed;
     occurs = w.occurs;
-    first = λ i u is. w.first i u (ap (λ items. slice_get items i) same ∙ get_before (items_of whole) (last ∷ []) i u is);
+    first = λ i u is. w.first i u (ap (λ items. slice_get items i) same ∙ slice_get-append_left (items_of whole) (last ∷ []) i u is);
   }
 
   sound : (t : Ty) → IsProper t → (HasItems t → Within t) → Told (things_inside t) → HasSoundBrackets decls t

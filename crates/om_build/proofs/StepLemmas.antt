@@ -1,5 +1,5 @@
 -- What comes of a line, in code: its value, or why there is none; and its bytes, or a halt.
-use Rattle.std.proofs.Common.{ℕ, ◌≡◌, ◌+◌, false, List, length, Option, Some, None, Result, Ok, Err, inl, inr, refl, sym, ap, ◌∙◌, subst, arith}
+use Rattle.std.proofs.Common.{ℕ, ◌≡◌, ◌+◌, false, List, length, Option, Some, None, Result, Ok, Err, inl, inr, refl, sym, ◌∙◌, subst, arith}
 use Rattle.std.specs.Prelude.{IsErrAnd}
 use Rattle.om_model.specs.declared.value.Val.{Val}
 use Rattle.om_model.specs.declared.value.Obj.{Obj}
@@ -8,7 +8,6 @@ use Rattle.om_format.specs.Iso.{IsTreeOf}
 use Rattle.om_format.specs.Compat.{TooLargeFor32, too_large_for_32}
 use Rattle.om_format.specs.Tree.{Tree}
 use Rattle.om_outcome.specs.Outcome.{Unedited, nothing_said}
-use Rattle.om_edge.specs.Sink.{Puts}
 use Rattle.om_edge.specs.State.{ByteState, Change, change}
 use Rattle.om_promises.proofs.PutLemmas.{puts_nothing}
 use Rattle.om_stops.specs.declared.stop.Halt.{Halt}
@@ -66,15 +65,6 @@ module _ (r : Requested) (ready : IsReady r) (line : List ℕ) (new : List Obj) 
       → ReadsLine (type_over r) line number new (Err (halts.Stop (stops.Text number text)))
   line_stops number fault text told reads =
       inr (text, line_refused fault text told reads, refl)
-
--- memory ran out, by `?`
-pub read_memory :
-    (r : Requested) (line : List ℕ) (number : ℕ) (new : List Obj)
-    (result : Result (Option Val) Halt) → IsErrAnd result (λ h. h ≡ halts.Stop stops.Memory)
-    → ReadsLine (type_over r) line number new result
-read_memory r line number new (Ok value) is = absurd is
-read_memory r line number new (Err halt) is =
-    subst (λ h. ReadsLine (type_over r) line number new (Err h)) (sym is) (inl refl)
 
 -- ---- what is put
 

@@ -1,32 +1,30 @@
 -- The lines so far: one more piece without a line feed, one more line, and the end.
-use Rattle.std.proofs.Common.{◌≡◌, ℕ, suc, ◌+◌, ◌<◌, ◌≤◌, ◌^◌, Bool, true, List, [], ◌∷◌, ◌++◌, length, Result, Ok, Err, inl, inr, refl, sym, ap, ◌∙◌, subst, append_assoc, append-nil, length-append, arith}
+use Rattle.std.proofs.Common.{◌≡◌, ℕ, suc, ◌+◌, ◌<◌, ◌≤◌, ◌^◌, true, List, [], ◌∷◌, ◌++◌, length, Result, Ok, Err, inl, inr, refl, sym, ap, ◌∙◌, subst, append_assoc, append-nil, length-append, arith}
 use Rattle.std.specs.Prelude.{◌&&◌, IsErrAnd, take, drop}
-use Rattle.std.specs.List.{AllByRecursion}
 use Rattle.om_outcome.specs.Outcome as outcome
-use Rattle.om_outcome.specs.Outcome.{Said, Reply, says, stops, out_of_memory, texts_of, all_well}
-use Rattle.om_edge.specs.Sink.{Puts, PutsPart}
-use Rattle.om_edge.specs.State.{ByteState, Change, change}
+use Rattle.om_outcome.specs.Outcome.{Said, out_of_memory, all_well}
+use Rattle.om_edge.specs.Sink.{Puts}
+use Rattle.om_edge.specs.State.{ByteState, Change}
 use Rattle.om_stops.specs.declared.stop.Halt.{Halt}
 use Rattle.om_stops.specs.declared.stop.Halt.TheVariants as halts
 use Rattle.om_stops.specs.declared.stop.Stop.{Stop}
 use Rattle.om_stops.specs.Stops.{stop_of}
 use Rattle.om_promises.specs.Account.{HoldNoStop}
 use Rattle.om_promises.specs.Commands.{Item, value, text, Cut, SaysFirst}
-use Rattle.om_promises.proofs.PutLemmas.{puts_nothing}
-use Rattle.om_promises.proofs.ValueLemmas.{texts_of-one, all_well-snoc}
+use Rattle.om_promises.proofs.ValueLemmas.{all_well-snoc}
 use Rattle.om_work.specs.Works.{Has, ItemsStay, HaltsIn, PutsLast}
 use Rattle.memchr.specs.Find.{Nowhere, Passes, is_byte}
 use Rattle.std.proofs.lemmas.Bool.Decides.{Decides-eqb}
 use Rattle.om_work.proofs.FirstLemmas.{first_stays, first_next}
 use Rattle.om_declared.specs.Language.{TypeOver, declared_types}
-use Rattle.om_declared.specs.Types.{type_over, IsReady}
+use Rattle.om_declared.specs.Types.{type_over}
 use Rattle.om_declared.specs.declared.types.Requested.{Requested}
-use Rattle.om_texts.specs.Texts.{Built, blank, made, refused, untyped, counted, IsUnbroken, IsLine, IsSaidOf, AreTexts, StopsBy, StopsAtLine, EndsWithLine, building}
+use Rattle.om_texts.specs.Texts.{Built, blank, made, refused, untyped, counted, IsUnbroken, IsLine, IsSaidOf, AreTexts, StopsBy, building}
 use Rattle.om_texts.proofs.LineLemmas.{line_stays}
 use Rattle.om_texts.proofs.SaidLemmas.{fine_of}
 use Rattle.om_texts.proofs.TableLemmas.{goes_on}
 use Rattle.om_build.specs.Lines.{declared_texts}
-use Rattle.om_build.specs.Steps.{IsStopAt, HaltsAtLine, PutsLine, HasTexts, TakesLine}
+use Rattle.om_build.specs.Steps.{IsStopAt, HaltsAtLine, HasTexts, TakesLine}
 
 abbrev texts_stay : (t : TypeOver) → ItemsStay (building declared_types declared_texts) t
 texts_stay t bytes item more later (line, is, same) =
@@ -298,17 +296,3 @@ pub record IsFeedAt (bytes : List ℕ) (n : ℕ) : Type 0 where
   pub within : n + 1 ≤ length bytes
   pub all : bytes ≡ take n bytes ++ 10 ∷ drop (n + 1) bytes
   pub front : take (n + 1) bytes ≡ take n bytes ++ 10 ∷ []
-
--- no byte was taken
-pub texts_begin :
-    (r : Requested) → IsReady r → (held : List ℕ) → held ≡ []
-    → HasTexts r held 0 0 [] []
-texts_begin r ready held none = record {
-  ready = ready;
-  items = [];
-  first = record { cut = sym none; all_say = tt };
-  unbroken = subst IsUnbroken (sym none) tt;
-  counted = refl;
-  are_texts = refl;
-  well = refl;
-}

@@ -9,7 +9,7 @@ use Rattle.std.proofs.lemmas.List.Concat.{flat_map-append}
 use Rattle.om_model.specs.declared.value.Obj.{Obj}
 use Rattle.om_model.specs.declared.value.Obj.TheVariants as objects
 use Rattle.om_format.specs.Header.{head_of}
-use Rattle.om_format.specs.Words.{of_object, fields, objects as object_count, all_words32, all_words64}
+use Rattle.om_format.specs.Words.{of_object, fields, all_words32, all_words64, objects as object_count}
 use Rattle.om_format.specs.Token.{Token, integer, atom, shared, block, leaf, IsToken, IsLeaf, measure_of, Spells}
 use Rattle.om_format.specs.Tree.{Tree, Forest, node, none, more, trees_in, IsTree, AreTrees, tokens, forest_tokens, made, made_by, all_made, RefersBack, ReferBack, AllReferBack}
 use Rattle.om_format.specs.Spelled.{StatesWords32, SpelledUnder}
@@ -124,7 +124,7 @@ trees_in-le (more tree f) = omega (arith, some_tokens tree, trees_in-le f, lengt
 
 -- ---- each token has a spelling
 
-length-doubles : (all : List ℕ) → length (flat_map double_bytes all) ≡ 8 * length all
+pub length-doubles : (all : List ℕ) → length (flat_map double_bytes all) ≡ 8 * length all
 length-doubles [] = refl
 length-doubles (d ∷ ds) = omega (arith, length-doubles ds)
 

@@ -16,11 +16,6 @@ IsSomeAnd-weaker (Some x) P Q weaker holds = weaker x holds
 
 -- ---- what a list has
 
-pub slice_get_left : {X : Type 0} (xs ys : List X) (i : ℕ) (x : X) → slice_get xs i ≡ Some x → slice_get (xs ++ ys) i ≡ Some x
-slice_get_left [] ys i x is = absurd (none-some x is)
-slice_get_left (z ∷ xs) ys zero x is = is
-slice_get_left (z ∷ xs) ys (suc i) x is = slice_get_left xs ys i x is
-
 pub slice_get_right : {X : Type 0} (xs ys : List X) (i : ℕ) → slice_get (xs ++ ys) (length xs + i) ≡ slice_get ys i
 slice_get_right [] ys i = ap (slice_get ys) (omega arith)
 slice_get_right (z ∷ xs) ys i =

@@ -7,11 +7,12 @@ use Rattle.om_model.proofs.Options.{same_or_not}
 use Rattle.om_model.specs.declared.value.Val.{Val}
 use Rattle.om_model.specs.declared.value.Obj.{Obj}
 use Rattle.om_model.specs.declared.value.Obj.TheVariants as objects
+use Rattle.om_model.proofs.Lists.{slice_get-append_left}
 use Rattle.om_format.specs.Token.{Token, integer, atom, shared, block, leaf, IsLeaf, IsToken}
 use Rattle.om_format.specs.Tree.{Tree, Forest, node, none, more, trees_in, IsTree, AreTrees, root, roots, made, made_by, all_made, object_of, objects_of, all_objects, ReferBack, AllReferBack}
 use Rattle.om_format.specs.Iso.{AreAlike, AreAlikeObjects, IsPairing, IsTreeOf}
 use Rattle.om_format.proofs.Counts.{leaf_fields, length-object_of, length-objects_of}
-use Rattle.om_canonical.proofs.ListLemmas.{slice_get_left, slice_get_right}
+use Rattle.om_canonical.proofs.ListLemmas.{slice_get_right}
 use Rattle.om_canonical.proofs.IsoLemmas.{objects_of_pair, same_symmetric, same_transitive}
 
 -- ---- objects at a place
@@ -21,7 +22,7 @@ abbrev StandsAt : List Obj → ℕ → List Obj → Type 0
 StandsAt graph c objects = (i : ℕ) (o : Obj) → slice_get objects i ≡ Some o → slice_get graph (c + i) ≡ Some o
 
 StandsAt-left : (graph : List Obj) (c : ℕ) (xs ys : List Obj) → StandsAt graph c (xs ++ ys) → StandsAt graph c xs
-StandsAt-left graph c xs ys all i o is = all i o (slice_get_left xs ys i o is)
+StandsAt-left graph c xs ys all i o is = all i o (slice_get-append_left xs ys i o is)
 
 StandsAt-right : (graph : List Obj) (c n : ℕ) (xs ys : List Obj) → length xs ≡ n → StandsAt graph c (xs ++ ys) → StandsAt graph (c + n) ys
 StandsAt-right graph c n xs ys e all i o is =

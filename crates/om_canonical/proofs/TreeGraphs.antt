@@ -1,14 +1,16 @@
 -- The objects of a tree are a graph, and its root is a value of it, the same as itself.
-use Rattle.std.proofs.Common.{ℕ, ◌+◌, ◌≤◌, List, [], ◌∷◌, ◌++◌, length, arith}
+use Rattle.std.proofs.Common.{ℕ, ◌+◌, ◌≤◌, ◌∷◌, ◌++◌, length, arith}
 use Rattle.std.specs.List.{AllByRecursion}
 use Rattle.std.proofs.lemmas.List.Elements.{All-from_recursion}
 use Rattle.om_model.specs.declared.value.Obj.{Obj}
 use Rattle.om_model.specs.declared.value.Obj.TheVariants as objects
 use Rattle.om_model.specs.Graph.{IsValue, IsObject, IsGraph}
+use Rattle.om_model.proofs.Lists.{AllByRecursion-append}
 use Rattle.om_format.specs.Token.{Token, integer, atom, shared, block, leaf, IsLeaf}
 use Rattle.om_format.specs.Tree.{Tree, Forest, node, none, more, IsTree, AreTrees, root, roots, made, made_by, all_made, object_of, objects_of, all_objects, ReferBack, AllReferBack}
 use Rattle.om_format.specs.Iso.{Iso, IsTreeOf}
 use Rattle.om_format.proofs.Counts.{length-objects_of, length-roots}
+use Rattle.om_format.proofs.RootLemmas.{root_is_value}
 use Rattle.om_canonical.proofs.IsoLemmas.{same_reflexive}
 use Rattle.om_canonical.proofs.SameTree.{made_by_leaf}
 
@@ -32,10 +34,6 @@ leaf_valid (objects.I32 z) n h = h
 leaf_valid (objects.I64 z) n h = h
 leaf_valid (objects.Native z) n h = h
 
-all_append : {X : Type 0} (P : X → Type 0) (xs ys : List X) → AllByRecursion P xs → AllByRecursion P ys → AllByRecursion P (xs ++ ys)
-all_append P [] ys h k = k
-all_append P (x ∷ xs) ys h k = (h.0, all_append P xs ys h.1 k)
-
 object_valid : (t : Token) (f : Forest) (c n : ℕ) → IsTree (node t f) → ReferBack (node t f) c → c + made (node t f) ≤ n → AllByRecursion (IsObject n) (object_of t (roots f (c + made_by t)))
 object_valid (integer z) f c n h back fits = tt
 object_valid (atom tag) f c n h back fits = tt
@@ -50,13 +48,13 @@ object_valid (block tag size) f c n h back fits =
 mutual
   objects_valid : (tree : Tree) (c n : ℕ) → IsTree tree → ReferBack tree c → c + made tree ≤ n → AllByRecursion (IsObject n) (objects_of tree c)
   objects_valid (node t f) c n h back fits =
-      all_append (IsObject n) (object_of t (roots f (c + made_by t))) (all_objects f (c + made_by t)) (object_valid t f c n h back fits)
+      AllByRecursion-append (IsObject n) (object_of t (roots f (c + made_by t))) (all_objects f (c + made_by t)) (object_valid t f c n h back fits)
       (forest_valid f (c + made_by t) n h.2 back.1 (omega (arith, fits)))
 
   forest_valid : (f : Forest) (c n : ℕ) → AreTrees f → AllReferBack f c → c + all_made f ≤ n → AllByRecursion (IsObject n) (all_objects f c)
   forest_valid none c n h back fits = tt
   forest_valid (more tree f) c n h back fits =
-      all_append (IsObject n) (objects_of tree c) (all_objects f (c + made tree)) (objects_valid tree c n h.0 back.0 (omega (arith, fits)))
+      AllByRecursion-append (IsObject n) (objects_of tree c) (all_objects f (c + made tree)) (objects_valid tree c n h.0 back.0 (omega (arith, fits)))
       (forest_valid f (c + made tree) n h.1 back.1 (omega (arith, fits)))
 
 -- ---- a tree is that of its own value
@@ -67,12 +65,8 @@ is_graph tree is back =
     All-from_recursion (IsObject (length (objects_of tree 0))) (objects_of tree 0)
     (objects_valid tree 0 (length (objects_of tree 0)) is back (omega (arith, count)))
 
-pub is_root : (tree : Tree) → IsTree tree → ReferBack tree 0 → IsValue (length (objects_of tree 0)) (root tree 0)
-is_root tree is back =
-    let count = length-objects_of tree 0 is in root_valid tree 0 (length (objects_of tree 0)) is back (omega (arith, count))
-
 pub self_same : (tree : Tree) → IsTree tree → ReferBack tree 0 → Iso (objects_of tree 0) (root tree 0) (objects_of tree 0) (root tree 0)
-self_same tree is back = same_reflexive (objects_of tree 0) (root tree 0) (is_graph tree is back) (is_root tree is back)
+self_same tree is back = same_reflexive (objects_of tree 0) (root tree 0) (is_graph tree is back) (root_is_value tree is back)
 
 pub own_tree : (tree : Tree) → IsTree tree → ReferBack tree 0 → IsTreeOf (objects_of tree 0) (root tree 0) tree
 own_tree tree is back = record { is_tree = is; refers_back = back; same = self_same tree is back }

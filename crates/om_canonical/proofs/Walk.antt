@@ -11,13 +11,14 @@ use Rattle.om_model.specs.declared.value.Val.TheVariants as vals
 use Rattle.om_model.specs.declared.value.Obj.{Obj}
 use Rattle.om_model.specs.declared.value.Obj.TheVariants as objects
 use Rattle.om_model.specs.Graph.{IsValue, IsObject, IsGraph}
+use Rattle.om_model.proofs.Lists.{slice_get-append_left}
 use Rattle.om_format.specs.Token.{Token, integer, atom, shared, block, leaf, IsLeaf}
 use Rattle.om_format.specs.Tree.{Tree, Forest, node, none, more, trees_in, IsTree, AreTrees, root, roots, made, made_by, all_made, objects_of, all_objects, ReferBack, AllReferBack}
 use Rattle.om_format.specs.Iso.{AreAlike, AreAlikeObjects, IsPairing, IsTreeOf}
 use Rattle.om_format.proofs.Counts.{leaf_fields}
 use Rattle.om_canonical.specs.Laws.{HasOneTree}
 use Rattle.om_canonical.specs.Numbering.{pairs_from, numbered, AreDistinct, Shows, IsNumbering}
-use Rattle.om_canonical.proofs.ListLemmas.{IsSomeAnd-weaker, slice_get_left, slice_get_push, slice_get_push_cases, below, Contains-below, AllZip-weaker, AllZip-append, AllZip-at}
+use Rattle.om_canonical.proofs.ListLemmas.{IsSomeAnd-weaker, slice_get_push, slice_get_push_cases, below, Contains-below, AllZip-weaker, AllZip-append, AllZip-at}
 use Rattle.om_canonical.proofs.IsoLemmas.{AreAmong, AreAlike-more, AreAlikeObjects-more, alike_at}
 use Rattle.om_canonical.proofs.SameTree.{made_by_leaf, one_tree_only}
 
@@ -56,7 +57,7 @@ pub at_numbered : (ks : List ℕ) (k n : ℕ) → Contains (numbered ks) (k, n) 
 at_numbered ks k n among = let r = place_of 0 ks k n among in let e : n ≡ r.place = omega (arith, r.is) in rw e r.there
 
 numbered-more : (ks news : List ℕ) → AreAmong (numbered ks) (numbered (ks ++ news))
-numbered-more ks news k l among = numbered_at (ks ++ news) l k (slice_get_left ks news l k (at_numbered ks k l among))
+numbered-more ks news k l among = numbered_at (ks ++ news) l k (slice_get-append_left ks news l k (at_numbered ks k l among))
 
 -- ---- what was met
 
@@ -123,7 +124,7 @@ IsReady-more : (g : List Obj) (met unmet news : List ℕ) (c fuel n : ℕ) → I
 IsReady-more g met unmet news c fuel n ready distinct many = record {
   count = omega (arith, length-append met news, ready.count);
   distinct = distinct;
-  covered = λ k less. ⊎_elim (λ (m : IsMet met k). inl (m.0, slice_get_left met news m.0 k m.1)) (λ later. inr later) (ready.covered k less);
+  covered = λ k less. ⊎_elim (λ (m : IsMet met k). inl (m.0, slice_get-append_left met news m.0 k m.1)) (λ later. inr later) (ready.covered k less);
   few = ready.few;
 }
 
@@ -138,7 +139,7 @@ IsReady-new g met unmet c fuel k ready less new =
         distinct = AreDistinct-push met k ready.distinct new;
         covered = λ m inside. elim (same_or_not m k) [
           | inl same ↦ inl (length met, rw same (slice_get_push met k))
-          | inr other ↦ ⊎_elim (λ (s : IsMet met m). inl (s.0, slice_get_left met (k ∷ []) s.0 m s.1)) (λ later. inr (w.kept m other later)) (ready.covered m inside)
+          | inr other ↦ ⊎_elim (λ (s : IsMet met m). inl (s.0, slice_get-append_left met (k ∷ []) s.0 m s.1)) (λ later. inr (w.kept m other later)) (ready.covered m inside)
         ];
         few = omega (arith, w.fewer, ready.few);
       },
@@ -193,7 +194,7 @@ met_before g met c i k count distinct is =
 first_number : (met news : List ℕ) (c k : ℕ) → length met ≡ c → Contains (numbered (met ++ k ∷ news)) (k, c)
 first_number met news c k count =
     let assoc : (met ++ k ∷ []) ++ news ≡ met ++ k ∷ news = append_assoc met (k ∷ []) news in
-    let here = slice_get_left (met ++ k ∷ []) news (length met) k (slice_get_push met k) in
+    let here = slice_get-append_left (met ++ k ∷ []) news (length met) k (slice_get_push met k) in
     numbered_at (met ++ k ∷ news) c k (rw (assoc, count) at here)
 
 leaf_is_alike : (pairs : List (ℕ × ℕ)) (o : Obj) → IsLeaf o → AreAlikeObjects pairs o o

@@ -1,7 +1,6 @@
 -- Pairs that have the same objects at the same classes are accepted together, and a value has the type where they are.
-use Rattle.std.proofs.Common.{ℕ, ◌≡◌, ⊎_elim, inl, List, ◌∷◌, Option, Some, None, subst}
-use Rattle.std.specs.Prelude.{IsSomeAnd}
-use Rattle.om_model.proofs.Options.{Contains-first, Contains-later, Contains-cases}
+use Rattle.std.proofs.Common.{ℕ, ◌≡◌, ⊎_elim, inl, List, ◌∷◌, Some, subst}
+use Rattle.om_model.proofs.Options.{Contains-first, Contains-later, Contains-cases, IsSomeAnd-weaker}
 use Rattle.om_model.specs.declared.value.Val.{Val}
 use Rattle.om_model.specs.declared.value.Val.TheVariants as vals
 use Rattle.om_model.specs.declared.value.Obj.{Obj}
@@ -12,10 +11,6 @@ use Rattle.om_types.specs.Typing.{field_at, IsListed, IsHeld, IsTyping, HasType}
 use Rattle.om_types.proofs.FaultLemmas.{place_is_held}
 use Rattle.om_cert.specs.Accepted.{AreAccepted}
 use Rattle.om_cert.specs.Normal.{AreTheSame}
-
-some_more : {A : Type 0} (P Q : A → Type 0) (o : Option A) → ((x : A) → P x → Q x) → IsSomeAnd o P → IsSomeAnd o Q
-some_more P Q None more holds = absurd holds
-some_more P Q (Some x) more holds = more x holds
 
 module _ {T : Type 0} (shapes : Shapes T) (lawful : AreLawful shapes Everything) (graph : List Obj) where
   module _ (pairs others : List (ℕ × T)) (same : AreTheSame shapes pairs others) where
@@ -36,7 +31,7 @@ module _ {T : Type 0} (shapes : Shapes T) (lawful : AreLawful shapes Everything)
       held = λ o t i a among need.
           let k = same.back o t among in
           let there = lawful.needs graph (vals.Ref o) t k.0 i a (inl tt) (lawful.symmetric k.0 t k.2) need in
-          some_more (λ v. IsHeld shapes graph pairs v there.0) (λ v. IsHeld shapes graph others v a) (field_at graph o i)
+          IsSomeAnd-weaker (λ v. IsHeld shapes graph pairs v there.0) (λ v. IsHeld shapes graph others v a) (field_at graph o i)
           (λ v h. held_by_others v there.0 a (lawful.symmetric a there.0 there.2) h) (typing.held o k.0 i there.0 k.1 there.1);
       one_type = λ o t a among other mutable.
           let k = same.back o t among in

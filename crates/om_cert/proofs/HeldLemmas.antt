@@ -1,5 +1,6 @@
 -- What the pairs of one object tell, where there are many of them too.
 use Rattle.std.proofs.Common.{ℕ, zero, suc, ◌<◌, ◌≤◌, ◌+◌, ◌-◌, ◌%◌, ◌≡◌, ◌∙◌, ◌⊎◌, ⊎_elim, inl, inr, Bool, true, false, cond, List, length, Some, refl, sym, ap, subst, arith}
+use Rattle.om_scan.proofs.PlaceLemmas.{place_of as place_in}
 use Rattle.std.specs.Prelude.{Contains, slice_get, IsTrue, ◌↔◌, ◌==◌, not}
 use Rattle.std.proofs.lemmas.Bool.Decides.{Decides-eqb}
 use Rattle.std.specs.BTreeMap.{is_at}
@@ -21,7 +22,7 @@ use Rattle.om_heap.proofs.ReadLemmas.{word_of-inj}
 use Rattle.om_types.specs.Table.{Table, table_shapes}
 use Rattle.om_types.specs.Typing.{IsHeld, IsListed}
 use Rattle.om_section.specs.Increasing.{AreIncreasing}
-use Rattle.om_scan.proofs.PlaceLemmas.{place_of as place_in}
+use Rattle.om_scan.proofs.SetLemmas.{cond_true, cond_kept}
 use Rattle.om_cert.specs.Testing.{IsStart, IsPassing, IsSame, pair_cmp, AreCrowded, is_in, IsCrowd, IsAmongAt, IsElsewhere, IsSettled}
 
 -- two numbers differ by their test
@@ -44,14 +45,6 @@ same_key k q is = exact_pairs nat_cmp nat_cmp exact_unsigned exact_unsigned k q 
 at_itself : (k : ℕ × ℕ) → is_at (pair_cmp k) k ≡ true
 at_itself k =
     ap is_eq (tied_itself {R = pair_cmp} (then_total (on_total (λ (p : ℕ × ℕ). p.0) nat_cmp_total) (on_total (λ (p : ℕ × ℕ). p.1) nat_cmp_total)) k)
-
-either : (test other : Bool) → cond test true other ≡ true → (test ≡ true) ⊎ (other ≡ true)
-either true other is = inl refl
-either false other is = inr is
-
-kept : (test other : Bool) → other ≡ true → cond test true other ≡ true
-kept true other is = refl
-kept false other is = is
 
 here : (test other : Bool) → test ≡ true → cond test true other ≡ true
 here true other is = refl
@@ -93,10 +86,10 @@ module _ (table : Table) (pairs : List (ℕ × ℕ)) where
         subst (λ (q : ℕ × ℕ). (u : ℕ) × Contains pairs (q.0, u) × (slice_get table.classes u ≡ Some q.1)) key
         (t, slice_get-Contains pairs i (o, t) at_i, class))
         (λ before. crowd.some p d before)
-        (either (is_at (pair_cmp (o, c)) (p, d)) (contains pair_cmp old (p, d)) (sym (updates.0 (p, d)) ∙ is));
+        (cond_true (is_at (pair_cmp (o, c)) (p, d)) (contains pair_cmp old (p, d)) (sym (updates.0 (p, d)) ∙ is));
     all = λ k p s u d less at_k at_next own. ⊎_elim
         (λ before. updates.0 (p, d)
-        ∙ kept (is_at (pair_cmp (o, c)) (p, d)) (contains pair_cmp old (p, d)) (crowd.all k p s u d before at_k at_next own))
+        ∙ cond_kept (is_at (pair_cmp (o, c)) (p, d)) (contains pair_cmp old (p, d)) (crowd.all k p s u d before at_k at_next own))
         (λ same.
         let pair : ◌≡◌ {A = ℕ × ℕ} (o, t) (p, u) = same_Some (o, t) (p, u) (sym at_i ∙ (ap (slice_get pairs) (sym same) ∙ at_next)) in
         let class_is : c ≡ d = same_Some c d (sym class ∙ (ap (λ (q : ℕ × ℕ). slice_get table.classes q.1) pair ∙ own)) in

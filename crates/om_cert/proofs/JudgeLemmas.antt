@@ -1,11 +1,12 @@
 -- What verifying answers, from what it found of each pair.
-use Rattle.std.proofs.Common.{ℕ, zero, suc, ◌≡◌, ◌<◌, ◌≤◌, ◌+◌, ◌⊎◌, ⊎_elim, inl, inr, List, [], ◌∷◌, length, refl, sym, ap, subst, arith}
+use Rattle.std.proofs.Common.{ℕ, ◌≡◌, ◌<◌, ◌≤◌, ◌+◌, ◌⊎◌, ⊎_elim, inl, inr, List, [], ◌∷◌, length, refl, sym, ap, subst, arith}
 use Rattle.std.specs.Prelude.{Contains, slice_get, IsSomeAnd}
 use Rattle.std.proofs.lemmas.Option.{slice_get_within}
 use Rattle.om_model.proofs.Options.{IsSomeAnd-some}
 use Rattle.om_model.specs.declared.value.Val.{Val}
 use Rattle.om_model.specs.declared.value.Val.TheVariants as vals
 use Rattle.om_model.specs.declared.value.Obj.{Obj}
+use Rattle.om_model.proofs.Numbers.{less_same_more}
 use Rattle.om_types.specs.declared.fault.Fault.{Fault}
 use Rattle.om_types.specs.declared.fault.Fault.TheVariants.{Misfit, Clash}
 use Rattle.om_types.specs.Fault.{IsFault, IsLexicallyBefore}
@@ -18,16 +19,6 @@ use Rattle.om_cert.specs.declared.verified.Why.TheVariants.{Range, Unfit, Need, 
 use Rattle.om_cert.specs.declared.verified.Verified.TheVariants.{Yes, Rejected}
 use Rattle.om_cert.specs.Verified.{IsThere, LacksNeed, IsAtTwoTypes, IsWrong, IsVerified, fault_section, place_of}
 use Rattle.om_cert.specs.Testing.{AreAllThere, IsFirstOut, IsRight, IsRightAt, AreRight, IsWrongWith, IsFirstAt}
-
-less_same_more : (m n : ℕ) → (m < n) ⊎ ((m ≡ n) ⊎ (n < m))
-less_same_more zero zero = inr (inl refl)
-less_same_more zero (suc n) = inl (omega arith)
-less_same_more (suc m) zero = inr (inr (omega arith))
-less_same_more (suc m) (suc n) = one_more (less_same_more m n) where
-  one_more : (m < n) ⊎ ((m ≡ n) ⊎ (n < m)) → (suc m < suc n) ⊎ ((suc m ≡ suc n) ⊎ (suc n < suc m))
-  one_more (inl less) = inl (omega arith)
-  one_more (inr (inl same)) = inr (inl (ap suc same))
-  one_more (inr (inr greater)) = inr (inr (omega arith))
 
 -- ---- places
 

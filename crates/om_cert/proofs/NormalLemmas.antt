@@ -1,20 +1,11 @@
 -- Of the lists of pairs that have the same objects at the same classes one is in a section's order.
-use Rattle.std.proofs.Common.{ℕ, zero, suc, ◌<◌, ◌≡◌, ◌∙◌, ◌⊎◌, ⊎_elim, inl, inr, List, [], ◌∷◌, Some, refl, sym, ap, subst, arith}
+use Rattle.std.proofs.Common.{ℕ, suc, ◌<◌, ◌≡◌, ◌∙◌, ◌⊎◌, ⊎_elim, inl, inr, List, [], ◌∷◌, Some, refl, sym, ap, subst, arith}
 use Rattle.std.specs.Prelude.{Contains, slice_get}
 use Rattle.om_model.proofs.Options.{Contains-first, Contains-later, Contains-none, Contains-cases}
+use Rattle.om_model.proofs.Numbers.{less_same_more}
 use Rattle.om_types.specs.Table.{Table, table_shapes}
 use Rattle.om_section.specs.Increasing.{IsSmaller, AreIncreasing}
 use Rattle.om_cert.specs.Normal.{IsLeast, AreNormal, AreTheSame}
-
-less_same_more : (m n : ℕ) → (m < n) ⊎ ((m ≡ n) ⊎ (n < m))
-less_same_more zero zero = inr (inl refl)
-less_same_more zero (suc n) = inl (omega arith)
-less_same_more (suc m) zero = inr (inr (omega arith))
-less_same_more (suc m) (suc n) = one_more (less_same_more m n) where
-  one_more : (m < n) ⊎ ((m ≡ n) ⊎ (n < m)) → (suc m < suc n) ⊎ ((suc m ≡ suc n) ⊎ (suc n < suc m))
-  one_more (inl less) = inl (omega arith)
-  one_more (inr (inl same)) = inr (inl (ap suc same))
-  one_more (inr (inr greater)) = inr (inr (omega arith))
 
 -- ---- lists that increase
 

@@ -1,7 +1,7 @@
 -- The pairs that paths reach in a value that has the type are accepted, and are one list.
 use Rattle.std.proofs.Common.{ℕ, ◌≡◌, ◌∙◌, ◌++◌, inl, List, [], ◌∷◌, Some, refl, ap}
 use Rattle.std.specs.Prelude.{option_map, option_and_then, Contains, IsSomeAnd}
-use Rattle.om_model.proofs.Options.{Contains-none, IsSomeAnd-at}
+use Rattle.om_model.proofs.Options.{IsSomeAnd-at}
 use Rattle.om_model.specs.declared.value.Val.{Val}
 use Rattle.om_model.specs.declared.value.Val.TheVariants as vals
 use Rattle.om_model.specs.declared.value.Obj.{Obj}
@@ -10,7 +10,7 @@ use Rattle.om_types.specs.Lawful.{AreLawful, Everything}
 use Rattle.om_types.specs.Typing.{field_at, IsListed, IsHeld, IsTyping, HasType}
 use Rattle.om_types.specs.Fault.{type_of_field, step, value_at}
 use Rattle.om_types.specs.Table.{Table, table_shapes}
-use Rattle.om_types.proofs.FaultLemmas.{named_is_needed, place_is_held}
+use Rattle.om_types.proofs.FaultLemmas.{named_is_needed, held_by_some, place_is_held}
 use Rattle.om_typing.specs.Decidable.{AreDecidable}
 use Rattle.om_typing.proofs.NeedLemmas.{needed_is_named}
 use Rattle.om_typing.proofs.PathLemmas.{value_at-push}
@@ -20,20 +20,6 @@ use Rattle.om_cert.specs.Normal.{IsReachedBy, AreReached}
 use Rattle.om_cert.proofs.NormalLemmas.{normal_is_one}
 
 module _ {T : Type 0} (shapes : Shapes T) (lawful : AreLawful shapes Everything) (decidable : AreDecidable shapes) (graph : List Obj) where
-  nothing_is_typing : IsTyping shapes graph []
-  nothing_is_typing = record {
-    fits = λ o t among. absurd (Contains-none (o, t) among);
-    held = λ o t i u among. absurd (Contains-none (o, t) among);
-    one_type = λ o t u among. absurd (Contains-none (o, t) among);
-  }
-
-  -- a value that has a type is held by some typing
-  held_by_some : (v : Val) (t : T) → HasType shapes graph v t → (pairs : List (ℕ × T)) × IsTyping shapes graph pairs × IsHeld shapes graph pairs v t
-  held_by_some (vals.Int z) t has = ([], nothing_is_typing, record { fits = has.fits; listed = tt })
-  held_by_some (vals.Atom tag) t has = ([], nothing_is_typing, record { fits = has.fits; listed = tt })
-  held_by_some (vals.Ref o) t has =
-      (has.typed.0, has.typed.1, record { fits = has.fits; listed = (t, has.typed.2, lawful.reflexive t tt) })
-
   pub needed_step :
       (o i : ℕ) (t a : T) (w : Val) → Contains (shapes.needs graph (vals.Ref o) t) (i, a) → field_at graph o i ≡ Some w
       → step shapes graph (vals.Ref o) t i ≡ Some (w, a)
@@ -49,15 +35,15 @@ module _ {T : Type 0} (shapes : Shapes T) (lawful : AreLawful shapes Everything)
       (led : (o : ℕ) (u : T) → Contains pairs (o, u) → IsReachedBy shapes graph root t o u)
       (all : (path : List ℕ) (o : ℕ) (u : T) → value_at shapes graph root t path ≡ Some (vals.Ref o, u) → IsListed shapes pairs (vals.Ref o) u) where
     abbrev some_pairs : List (ℕ × T)
-    some_pairs = (held_by_some root t has).0
+    some_pairs = (held_by_some shapes Everything lawful graph root t tt has).0
 
     some_typing : IsTyping shapes graph some_pairs
-    some_typing = (held_by_some root t has).1
+    some_typing = (held_by_some shapes Everything lawful graph root t tt has).1
 
     -- where a path leads there is a value that the typing holds
     place : (path : List ℕ) (w : Val) (u : T) → value_at shapes graph root t path ≡ Some (w, u) → IsHeld shapes graph some_pairs w u
     place path w u leads =
-        (place_is_held shapes Everything lawful graph some_pairs some_typing path root t w u tt (held_by_some root t has).2 leads).1
+        (place_is_held shapes Everything lawful graph some_pairs some_typing path root t w u tt (held_by_some shapes Everything lawful graph root t tt has).2 leads).1
 
     listed_where_led :
         (path : List ℕ) (w : Val) (u a : T) → value_at shapes graph root t path ≡ Some (w, u) → shapes.equal u a → IsListed shapes pairs w a

@@ -5,26 +5,14 @@ use Rattle.std.specs.List.{flat_map}
 use Rattle.std.proofs.lemmas.List.{take-append-le, take-append-drop}
 use Rattle.std.proofs.lemmas.List.Concat.{flat_map-append}
 use Rattle.std.proofs.lemmas.List.Elements.{Contains-append_left, Contains-append_right, Contains-append_cases}
-use Rattle.std.proofs.lemmas.Option.{same_Some, slice_get-get_or, slice_get_within}
+use Rattle.std.proofs.lemmas.Option.{same_Some, slice_get_within}
 use Rattle.om_model.proofs.Options.{Contains-first, Contains-later, Contains-none, Contains-cases, Contains-flat_map, slice_get-Contains, slice_get_there}
+use Rattle.om_model.proofs.Lists.{slice_get-append_left, Contains-place}
 use Rattle.om_types.specs.declared.decl.Decl.{Decl}
 use Rattle.om_types.specs.Ty.{Ty}
 use Rattle.om_types.specs.Reached.{reached_from, IsWithoutRepeats, IsReached}
 
 -- ---- places
-
-in_front : {X : Type 0} (xs ys : List X) (k : ℕ) (x : X) → slice_get xs k ≡ Some x
-    → slice_get (xs ++ ys) k ≡ Some x
-in_front xs [] k x at = at_nil xs k x at where
-  at_nil : {X : Type 0} (xs : List X) (k : ℕ) (x : X) → slice_get xs k ≡ Some x
-      → slice_get (xs ++ []) k ≡ Some x
-  at_nil [] k x at = at
-  at_nil (y ∷ xs) zero x at = at
-  at_nil (y ∷ xs) (suc k) x at = at_nil xs k x at
-in_front [] (y ∷ ys) k x at =
-    let none = slice_get_within [] k x at in absurd (omega (arith, none))
-in_front (z ∷ xs) (y ∷ ys) zero x at = at
-in_front (z ∷ xs) (y ∷ ys) (suc k) x at = in_front xs (y ∷ ys) k x at
 
 in_taken : {X : Type 0} (n : ℕ) (xs : List X) (k : ℕ) (x : X) → k < n → slice_get xs k ≡ Some x
     → slice_get (take n xs) k ≡ Some x
@@ -32,10 +20,6 @@ in_taken zero xs k x less at = absurd (omega (arith, less))
 in_taken (suc n) [] k x less at = at
 in_taken (suc n) (y ∷ xs) zero x less at = at
 in_taken (suc n) (y ∷ xs) (suc k) x less at = in_taken n xs k x (omega (arith, less)) at
-
-place_of : {X : Type 0} (xs : List X) (x : X) → Contains xs x
-    → (k : ℕ) × (slice_get xs k ≡ Some x)
-place_of xs x (k, below, is) = (k, slice_get-get_or xs k x below ∙ ap Some is)
 
 -- ---- what is left without repeats
 
@@ -185,7 +169,7 @@ module _ (decls : List Decl) (t : Ty) where
 
       some : 0 < n
       some =
-          let at = place_of f.0 t (has t (Contains-first t (flat_map (reached_from decls) (take n types)))) in
+          let at = Contains-place f.0 t (has t (Contains-first t (flat_map (reached_from decls) (take n types)))) in
           let within = slice_get_within f.0 at.0 t at.1 in omega (arith, within, few)
 
       never : n < length types → ⊥
@@ -196,10 +180,10 @@ module _ (decls : List Decl) (t : Ty) where
           (in_taken n types from.0 from.1 from.2 from.3) in
           let among = has u.0 (Contains-later t (flat_map (reached_from decls) (take n types)) u.0
           (Contains-flat_map (reached_from decls) (take n types) from.1 u.0 w from.4)) in
-          let at = place_of f.0 u.0 among in
+          let at = Contains-place f.0 u.0 among in
           let within = slice_get_within f.0 at.0 u.0 at.1 in
           let same = one_place at.0 n u.0
-          (subst (λ l. slice_get l at.0 ≡ Some u.0) (sym f.2) (in_front f.0 f.1 at.0 u.0 at.1)) u.1 in
+          (subst (λ l. slice_get l at.0 ≡ Some u.0) (sym f.2) (slice_get-append_left f.0 f.1 at.0 u.0 at.1)) u.1 in
           omega (arith, same, within, few)
 
       by : (n < length types) ⊎ (length types ≤ n) → length types ≤ n

@@ -1,6 +1,5 @@
 -- So `verify` has one outcome of what `check --cert` put: it shows the lines of `check`.
-use Rattle.std.proofs.Common.{◌≡◌, ℕ, ◌+◌, ◌<◌, ◌≤◌, ◌^◌, List, [], ◌∷◌, ◌++◌, length, Some, Ok, inl, inr, refl, sym, ap, ◌∙◌, subst, append-nil, arith}
-use Rattle.std.proofs.lemmas.List.{append_cancel_left}
+use Rattle.std.proofs.Common.{◌≡◌, ℕ, ◌+◌, ◌<◌, ◌≤◌, ◌^◌, List, [], ◌∷◌, ◌++◌, length, Some, Ok, inl, inr, refl, sym, ap, ◌∙◌, subst, arith}
 use Rattle.std.specs.Prelude.{IfSome, slice_get}
 use Rattle.om_model.specs.Bytes.{AreBytes}
 use Rattle.om_format.specs.Stream.{SpellAll}
@@ -9,7 +8,7 @@ use Rattle.om_section.specs.declared.section.Section.{Section}
 use Rattle.om_section.specs.Format.{IsCertificate}
 use Rattle.om_section.specs.Laws.{texts_from, PutSectionsAreCertificates}
 use Rattle.om_cert_alike.specs.Alike.{ReachedTypesAreOne}
-use Rattle.om_outcome.specs.Outcome.{at_end, Taken, whole, opened, found_of, own, verify, ending_of, Said, nothing_said, says, replies, all_well, texts_of}
+use Rattle.om_outcome.specs.Outcome.{whole, found_of, own, verify, ending_of, Said, nothing_said, says, replies, all_well, texts_of}
 use Rattle.om_edge.specs.Files.{contents_of}
 use Rattle.om_edge.specs.Sink.{Puts}
 use Rattle.om_promises.specs.Account.{IsWanted}
@@ -21,6 +20,7 @@ use Rattle.om_promises.specs.Given.{TellsBytes, TakesFrom, IsFoundOf}
 use Rattle.om_promises.specs.Lawful.{AreLawful}
 use Rattle.om_promises.specs.LawfulLanguage.{IsGiven}
 use Rattle.om_promises.specs.Promises.{Promises, HasOutcome, told_files}
+use Rattle.om_promises.proofs.EndedLemmas.{IsEnd, HasEnded, has_ended, held, taken_whole, put_once}
 use Rattle.om_promises.proofs.OnceLemmas.{prepares_once}
 use Rattle.om_promises.proofs.SettledLemmas.{Goes}
 use Rattle.om_promises.proofs.ValueLemmas.{and_true, all_well-snoc}
@@ -31,36 +31,12 @@ use Rattle.om_verification.specs.Verification.{Verification}
 use Rattle.om_verification.proofs.SaidLemmas.{AreSaid}
 use Rattle.om_verifier.specs.Reading.{on_certificates}
 use Rattle.om_verifier.specs.Shown.{reads_sections, declared_sections}
-use Rattle.om_certified.specs.Certified.{HasPut, Certifies, Verifies, ConfirmsAll, PutCertificatesAreAccepted}
+use Rattle.om_certified.specs.Certified.{Certifies, Verifies, ConfirmsAll, PutCertificatesAreAccepted}
 use Rattle.om_certified.specs.Shown.{CertifiedAreShown}
-use Rattle.om_certified.proofs.EndedLemmas.{IsEnd, HasEnded, has_ended}
 use Rattle.om_certified.proofs.LineLemmas.{sections_many, all_good, AreLines, all_lines}
 use Rattle.om_certified.proofs.PutLemmas.{ArePut, are_put, status_by}
 use Rattle.om_certified.proofs.StatedLemmas.{are_stated}
 use Rattle.om_certified.proofs.TakenLemmas.{AreGood, all_taken}
-
--- ---- what the first call took and put
-
--- the file that was read has what it is told to hold
-held :
-    (contents other : List ℕ) → IsFoundOf (Some contents) (opened (whole other))
-    → contents ≡ other
-held contents other (rest, takes) =
-    takes.front ∙ (ap (λ rest. other ++ rest) (takes.ends refl) ∙ append-nil other)
-
--- an input that ended was taken whole
-taken_whole : (taken : Taken) (bytes rest : List ℕ) → taken.until ≡ at_end
-    → TakesFrom bytes taken rest → bytes ≡ taken.bytes
-taken_whole taken bytes rest ended takes =
-    takes.front ∙ (ap (λ rest. taken.bytes ++ rest) (takes.ends ended) ∙ append-nil taken.bytes)
-
--- what is put is one text
-put_once : (call : Call) (certificate put : List ℕ) → HasPut call certificate → Puts call.out put
-    → certificate ≡ put
-put_once call certificate put has puts =
-    let after : call.out.after.bytes ≡ Some (has.before ++ put) = rw has.had at puts.appended in
-    let same : Some (has.before ++ certificate) ≡ Some (has.before ++ put) = sym has.has ∙ after in
-    append_cancel_left has.before certificate put (cc same)
 
 -- ---- values and texts
 

@@ -1,17 +1,18 @@
 -- A value that is spelled has few objects, each of few fields, and refers to none behind them.
 use Rattle.std.proofs.Common.{◌≡◌, ℕ, zero, suc, ◌+◌, ◌<◌, ◌≤◌, ◌^◌, List, [], ◌∷◌, ◌++◌, length, Some, length-append, arith, subst}
 use Rattle.std.specs.Prelude.{slice_get}
-use Rattle.std.specs.List.{concat, AllZip, AllByRecursion}
+use Rattle.std.specs.List.{AllByRecursion}
 use Rattle.std.proofs.lemmas.Option.{slice_get_within, option_and_then_some, none-some, same_Some}
 use Rattle.om_model.specs.declared.value.Obj.{Obj}
 use Rattle.om_model.specs.declared.value.Obj.TheVariants as objects
 use Rattle.om_model.specs.declared.value.Val.{Val}
 use Rattle.om_model.specs.declared.value.Val.TheVariants as vals
+use Rattle.om_model.proofs.Lists.{AllByRecursion-append}
 use Rattle.om_format.specs.Spelled.{SpelledUnder}
-use Rattle.om_format.specs.Token.{Token, integer, atom, shared, block, leaf, Spells}
+use Rattle.om_format.specs.Token.{Token, integer, atom, shared, block, leaf}
 use Rattle.om_format.specs.Tree.{Tree, Forest, node, none, more, IsTree, AreTrees, trees_in, tokens, forest_tokens, root, roots, made, made_by, all_made, object_of, objects_of, all_objects}
 use Rattle.om_format.proofs.Counts.{length-roots}
-use Rattle.om_format.proofs.SpellValues.{some_bytes}
+use Rattle.om_format.proofs.SpellValues.{bytes_of_tokens}
 use Rattle.om_types.specs.Typing.{values_of, field_at}
 
 -- the value refers to no object behind object n
@@ -57,14 +58,6 @@ few_trees none = omega arith
 few_trees (more tree f) =
     omega (arith, some_tokens tree, few_trees f, length-append (tokens tree) (forest_tokens f))
 
-pieces_long : (all : List Token) (pieces : List (List ℕ)) → AllZip Spells all pieces
-    → length all ≤ length (concat pieces)
-pieces_long [] pieces h = omega arith
-pieces_long (t ∷ all) [] h = absurd h
-pieces_long (t ∷ all) (piece ∷ pieces) h =
-    let next = pieces_long all pieces h.1 in
-    omega (arith, some_bytes t piece h.0, next, length-append piece (concat pieces))
-
 -- ---- values
 
 root_up_to : (tree : Tree) (c n : ℕ) → c ≤ n → IsUpTo n (root tree c)
@@ -82,11 +75,6 @@ roots_up_to (more tree f) c n fits = (
 )
 
 -- ---- objects
-
-all_append : {X : Type 0} (P : X → Type 0) (xs ys : List X) → AllByRecursion P xs
-    → AllByRecursion P ys → AllByRecursion P (xs ++ ys)
-all_append P [] ys h k = k
-all_append P (x ∷ xs) ys h k = (h.0, all_append P xs ys h.1 k)
 
 object_few : (t : Token) (f : Forest) (c n : ℕ) → IsTree (node t f) → c + made (node t f) ≤ n
     → length (tokens (node t f)) ≤ n
@@ -119,7 +107,7 @@ mutual
   objects_few : (tree : Tree) (c n : ℕ) → IsTree tree → c + made tree ≤ n
       → length (tokens tree) ≤ n → AllByRecursion (IsFew n) (objects_of tree c)
   objects_few (node t f) c n h fits many =
-      all_append (IsFew n) (object_of t (roots f (c + made_by t)))
+      AllByRecursion-append (IsFew n) (object_of t (roots f (c + made_by t)))
       (all_objects f (c + made_by t)) (object_few t f c n h fits many)
       (forest_few f (c + made_by t) n h.2 (omega (arith, fits)) (omega (arith, many)))
 
@@ -128,7 +116,7 @@ mutual
   forest_few none c n h fits many = tt
   forest_few (more tree f) c n h fits many =
       let both = length-append (tokens tree) (forest_tokens f) in
-      all_append (IsFew n) (objects_of tree c) (all_objects f (c + made tree))
+      AllByRecursion-append (IsFew n) (objects_of tree c) (all_objects f (c + made tree))
       (objects_few tree c n h.0 (omega (arith, fits)) (omega (arith, many, both)))
       (forest_few f (c + made tree) n h.1 (omega (arith, fits)) (omega (arith, many, both)))
 
@@ -165,7 +153,7 @@ pub record IsSmall (tree : Tree) : Type 0 where
 pub spelled_small : (limit : ℕ) (bytes : List ℕ) (tree : Tree) → SpelledUnder limit bytes tree
     → IsSmall tree
 spelled_small limit bytes tree s =
-    let long = pieces_long (tokens tree) s.pieces s.spells.spells in
+    let long = bytes_of_tokens (tokens tree) s.pieces s.spells.spells in
     let n = length (tokens tree) in record {
       bound = n;
       below = omega (arith, long, s.spells.length, s.small);

@@ -1,7 +1,6 @@
 pub mod GraphLemmas
 pub mod PlaceLemmas
 pub mod StatedLemmas
-pub mod EndedLemmas
 pub mod PutLemmas
 pub mod TakenLemmas
 pub mod LineLemmas

@@ -21,7 +21,7 @@ use Rattle.om_certification.specs.Meanings.{Bar}
 use Rattle.om_certification.proofs.SaidLemmas.{AreSaid, say_first}
 use Rattle.om_certification.proofs.TableLemmas.{exact}
 use Rattle.om_certifier.specs.Certified.{is_yes, declared_certificates, on_certified}
-use Rattle.om_certified.proofs.EndedLemmas.{IsEnd}
+use Rattle.om_promises.proofs.EndedLemmas.{IsEnd}
 use Rattle.om_certified.proofs.StatedLemmas.{AreSections}
 
 -- ---- what is said of values

@@ -8,18 +8,12 @@ use Rattle.om_outcome.specs.declared.status.Status.TheVariants.{Well, No, Memory
 use Rattle.om_outcome.specs.Outcome.{Request, own, verify, Asks, the_verdict, tells, Said, texts_of, AllSay}
 use Rattle.om_edge.specs.Files.{File, contents_of}
 use Rattle.om_edge.specs.Sink.{Puts}
-use Rattle.om_promises.specs.Call.{Call}
+use Rattle.om_promises.specs.Call.{Call, HasPut}
 use Rattle.om_promises.specs.Commands.{Commands}
 use Rattle.om_promises.specs.CommandLaws.{Follow}
 use Rattle.om_promises.specs.Outside.{IsHonest}
 use Rattle.om_declared.specs.Language.{TypeOver, ReadsDeclarations, ReadsType, declared_types}
 use Rattle.om_certification.specs.Certification.{Asked, certified_by}
-
--- out is told, and the call put this there
-pub record HasPut (call : Call) (text : List ℕ) : Type 0 where
-  pub before : List ℕ
-  pub had : call.out.before.bytes ≡ Some before
-  pub has : call.out.after.bytes ≡ Some (before ++ text)
 
 -- The words ask to certify the values of the input at FILE and TYPE, each under the limit, and the
 -- call went to the input's end; its input, what FILE holds, and what it put on out are told.

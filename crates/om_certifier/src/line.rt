@@ -3,7 +3,6 @@
 ghost use Rattle.std.specs.Prelude.{◌≡◌, length, IfOk};
 ghost use Rattle.om_model.specs.Graph.{IsValue};
 ghost use Rattle.om_type_table.specs.Made.{table_of};
-ghost use Rattle.om_outcome.specs.Outcome.{Said};
 ghost use Rattle.om_declared.specs.Types.{type_over, IsReady};
 ghost use Rattle.om_certify.specs.Leasts.{AreLeasts};
 ghost use Rattle.om_certify.specs.Certified.{IsCertified};

@@ -6,6 +6,8 @@ use Rattle.std.proofs.lemmas.List.Elements.{Contains-append_left, Contains-push}
 use Rattle.om_model.specs.declared.value.Val.{Val}
 use Rattle.om_model.specs.declared.value.Val.TheVariants as vals
 use Rattle.om_model.specs.declared.value.Obj.{Obj}
+use Rattle.om_model.proofs.Lists.{slice_get-append_left}
+use Rattle.om_model.proofs.Numbers.{less_same_more}
 use Rattle.om_types.specs.declared.shape.ShapeOf.{ShapeOf}
 use Rattle.om_types.specs.Fault.{IsBefore, field_of, type_of_field, step, value_at}
 use Rattle.om_types.specs.Searched.{Entry, IsEntered}
@@ -15,8 +17,8 @@ use Rattle.om_typing.proofs.SearchedLemmas.{before_transitive, never_before_itse
 use Rattle.om_check.specs.Explored.{ComesBefore, needs_at, IsMetNeed, IsLedTo, AreExplored}
 use Rattle.om_check.proofs.OrderLemmas.{both_pushed, pushed_less, root_before}
 use Rattle.om_scan.proofs.PathLemmas.{need_is_named}
-use Rattle.om_scan.proofs.IncreaseLemmas.{numbers_compare, needs_increase}
-use Rattle.om_scan.proofs.PlaceLemmas.{slice_get-append_left, slice_get-push_cases}
+use Rattle.om_scan.proofs.IncreaseLemmas.{needs_increase}
+use Rattle.om_scan.proofs.PlaceLemmas.{slice_get-push_cases}
 
 -- ---- the order of needs
 
@@ -28,7 +30,7 @@ abbrev IsThis : ℕ → ℕ → ℕ → ℕ → Type 0
 IsThis k j n r = (k ≡ n) × (j ≡ r)
 
 pub needs_compare : (k j n r : ℕ) → OneOfThree (ComesBefore k j n r) (IsThis k j n r) (ComesBefore n r k j)
-needs_compare k j n r = by_place (numbers_compare k n) (numbers_compare j r) where
+needs_compare k j n r = by_place (less_same_more k n) (less_same_more j r) where
   by_place : (k < n) ⊎ ((k ≡ n) ⊎ (n < k)) → (j < r) ⊎ ((j ≡ r) ⊎ (r < j)) → OneOfThree (ComesBefore k j n r) (IsThis k j n r) (ComesBefore n r k j)
   by_place (inl less) other = inl (inl less)
   by_place (inr (inr greater)) other = inr (inr (inl greater))
@@ -39,7 +41,7 @@ needs_compare k j n r = by_place (numbers_compare k n) (numbers_compare j r) whe
 -- what comes before the next need comes before this one, or is this one
 pub next_cases : (k j n r : ℕ) → ComesBefore k j n (suc r) → ComesBefore k j n r ⊎ IsThis k j n r
 next_cases k j n r (inl earlier) = inl (inl earlier)
-next_cases k j n r (inr same) = by_need (numbers_compare j r) where
+next_cases k j n r (inr same) = by_need (less_same_more j r) where
   by_need : (j < r) ⊎ ((j ≡ r) ⊎ (r < j)) → ComesBefore k j n r ⊎ IsThis k j n r
   by_need (inl less) = inl (inr (same.0, less))
   by_need (inr (inl equal)) = inr (same.0, equal)
@@ -314,5 +316,5 @@ module _ (table : Table) (graph : List Obj) where
           inr (same, omega (arith, few', all)))
           (λ greater. absurd (omega arith))
           others)
-          (numbers_compare k n)
+          (less_same_more k n)
       within k j l b f (inr same) at_k at_j = absurd (omega (arith, same.1))

@@ -8,12 +8,13 @@ use Rattle.std.specs.BTreeSet.{BTreeSet, contains, Updates}
 use Rattle.std.proofs.lemmas.Bool.{false≢true}
 use Rattle.std.proofs.lemmas.Option.{same_Some, none-some, slice_get_within}
 use Rattle.om_model.proofs.Options.{same_or_not, slice_get-Contains}
+use Rattle.om_model.proofs.Lists.{slice_get-append_left, slice_get-last}
 use Rattle.om_types.specs.Table.{Table}
 use Rattle.om_check.specs.declared.visits.Visit.{Visit}
 use Rattle.om_check.specs.declared.visits.Visits.{Visits}
 use Rattle.om_check.specs.Visits.{listed, IsMet, IsFirstAt, IsAppended, AreNoted, AreLinked}
 use Rattle.om_scan.specs.Seconds.{pair_cmp}
-use Rattle.om_scan.proofs.PlaceLemmas.{slice_get-append_left, slice_get-append_below, slice_get-push_cases, slice_get-last, slice_set_here, slice_set_other}
+use Rattle.om_scan.proofs.PlaceLemmas.{slice_get-append_below, slice_get-push_cases, slice_set_here, slice_set_other}
 use Rattle.om_scan.proofs.SetLemmas.{later_before, later_kept}
 
 -- ---- lists

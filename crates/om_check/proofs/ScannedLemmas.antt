@@ -18,7 +18,8 @@ use Rattle.om_scan.proofs.ScanLemmas.{pair_at}
 use Rattle.om_check.specs.Verdict.{IsYes}
 use Rattle.om_scan.proofs.IncreaseLemmas.{numbered}
 use Rattle.std.proofs.lemmas.List.{length-append}
-use Rattle.om_scan.proofs.PlaceLemmas.{mapped_at, slice_get-append_left}
+use Rattle.om_model.proofs.Lists.{slice_get-append_left}
+use Rattle.om_scan.proofs.PlaceLemmas.{mapped_at}
 
 -- number k stands at place k
 pub numbered_there : (s : ℕ) (ts : List ℕ) (k n : ℕ) → n ≡ s + k → k < length ts → slice_get (numbered_from s ts) k ≡ Some (n, slice_index ts k)

@@ -9,6 +9,7 @@ use Rattle.om_model.proofs.Options.{same_or_not}
 use Rattle.om_model.specs.declared.value.Val.{Val}
 use Rattle.om_model.specs.declared.value.Val.TheVariants as vals
 use Rattle.om_model.specs.declared.value.Obj.{Obj}
+use Rattle.om_model.proofs.Lists.{Contains-place}
 use Rattle.om_types.specs.Fitting.{numbered_from}
 use Rattle.om_types.specs.Table.{Table, table_shapes}
 use Rattle.om_heap.specs.Heap.{field_at, word_of}
@@ -17,7 +18,7 @@ use Rattle.om_scan.specs.Paths.{HasPath}
 use Rattle.om_scan.specs.Seconds.{noted_in, AreSeconds, IsNoting}
 use Rattle.om_scan.specs.Taken.{size_of}
 use Rattle.om_scan.specs.Scanned.{object_needs, IsFoundIn, pairs_with, IsNotedOver}
-use Rattle.om_scan.proofs.PlaceLemmas.{place_of, slice_get-append_below, contains_left, contains_right, contains_push, contains_cases}
+use Rattle.om_scan.proofs.PlaceLemmas.{slice_get-append_below, contains_left, contains_right, contains_push, contains_cases}
 use Rattle.om_scan.proofs.ScanLemmas.{pair_there}
 use Rattle.om_scan.proofs.MarkLemmas.{noting_listed}
 use Rattle.om_check.specs.Settled.{AreOver, IsSettledAt, IsSettling, Extends, Finds, FindsNeeds, Settles, IsCounting}
@@ -186,7 +187,7 @@ module _ (table : Table) (graph : List Obj) (types : List ℕ) where
     own = record {
       fits = fits;
       found = λ i a needed.
-          let j = place_of (object_needs table graph o t) (i, a) needed in
+          let j = Contains-place (object_needs table graph o t) (i, a) needed in
           finds.found j.0 i a (slice_get_within (object_needs table graph o t) j.0 (i, a) j.1) j.1;
       here = here;
       first = first;

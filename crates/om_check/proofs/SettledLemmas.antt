@@ -8,6 +8,7 @@ use Rattle.om_model.specs.Graph.{IsGraph}
 use Rattle.om_model.specs.declared.value.Val.{Val}
 use Rattle.om_model.specs.declared.value.Val.TheVariants as vals
 use Rattle.om_model.specs.declared.value.Obj.{Obj}
+use Rattle.om_model.proofs.Lists.{Contains-place}
 use Rattle.om_types.specs.Fitting.{numbered_from}
 use Rattle.om_types.specs.Steps.{most_steps}
 use Rattle.om_types.specs.Table.{Table, table_shapes}
@@ -20,7 +21,7 @@ use Rattle.om_scan.specs.Paths.{HasPath}
 use Rattle.om_scan.specs.Seconds.{noted_in}
 use Rattle.om_scan.specs.Taken.{size_of}
 use Rattle.om_scan.specs.Scanned.{object_needs, IsFoundIn, pairs_with, cost_of}
-use Rattle.om_scan.proofs.PlaceLemmas.{place_of, mapped_at, contains_left, contains_cases, slice_get-append_cases}
+use Rattle.om_scan.proofs.PlaceLemmas.{mapped_at, contains_left, contains_cases, slice_get-append_cases}
 use Rattle.om_scan.proofs.FieldLemmas.{field_there}
 use Rattle.om_scan.proofs.NeedLemmas.{need_field}
 use Rattle.om_scan.proofs.ScanLemmas.{pair_at}
@@ -66,7 +67,7 @@ module _ (table : Table) (graph : List Obj) (types : List ℕ) (seconds : Second
 
   settled_at : (o t : ℕ) → Contains (noted_in seconds) (o, t) → IsSettledAt table graph types seconds o t
   settled_at o t among =
-      let k = place_of (noted_in seconds) (o, t) among in
+      let k = Contains-place (noted_in seconds) (o, t) among in
       settled.settled k.0 o t (slice_get_within (noted_in seconds) k.0 (o, t) k.1) k.1
 
   inside_at : (o t : ℕ) → Contains (pairs_with types seconds) (o, t) → (o < length graph) × (t < length table.nodes)
@@ -94,7 +95,7 @@ module _ (table : Table) (graph : List Obj) (types : List ℕ) (seconds : Second
     fits = fits_at;
     held = λ o t i a among needed.
         let inside = (inside_at o t among).0 in
-        let j = place_of (object_needs table graph o t) (i, a) needed in
+        let j = Contains-place (object_needs table graph o t) (i, a) needed in
         let short = need_field table graph o t j.0 i a inside j.1 in
         subst (λ value. IsSomeAnd value (λ v. IsHeld (table_shapes table) graph (pairs_with types seconds) v a)) (sym (field_there graph o i inside short))
         (held_from (field_at graph o i) a (⊎_elim

@@ -7,6 +7,7 @@ use Rattle.std.proofs.lemmas.List.Sums.{sum_by-cons}
 use Rattle.std.proofs.lemmas.Option.{same_Some, none-some, unwrap_or-slice_get, slice_get_within}
 use Rattle.om_model.proofs.Options.{map-Contains, Contains-map, Contains-first, Contains-later, Contains-cases, slice_get-Contains}
 use Rattle.om_model.specs.declared.value.Obj.{Obj}
+use Rattle.om_model.proofs.Lists.{Contains-place}
 use Rattle.om_types.specs.Fitting.{numbered_from}
 use Rattle.om_types.specs.Steps.{most_steps}
 use Rattle.om_types.specs.Table.{Table}
@@ -19,7 +20,7 @@ use Rattle.om_scan.specs.Scanned as scans
 use Rattle.om_scan.specs.declared.taken.Taken.{Taken}
 use Rattle.om_scan.specs.Taken.{types_in, all_fields, seen_of, size_of, rest_of}
 use Rattle.om_scan.specs.Scanned.{AreTaken, left_of}
-use Rattle.om_scan.proofs.PlaceLemmas.{place_of, read_at, mapped_at}
+use Rattle.om_scan.proofs.PlaceLemmas.{read_at, mapped_at}
 use Rattle.om_scan.proofs.ScanLemmas.{pair_at, types_entries}
 use Rattle.om_scan.proofs.SizeLemmas.{sizes_are_few}
 use Rattle.om_check.proofs.VisitLemmas.{visit_within, visits_apart}
@@ -30,7 +31,7 @@ apart_rest : {X : Type 0} (x : X) (xs : List X) → AreApart (x ∷ xs) → AreA
 apart_rest x xs apart j k y at_j at_k = let same = apart (suc j) (suc k) y at_j at_k in omega (arith, same)
 
 apart_first : {X : Type 0} (x : X) (xs : List X) → AreApart (x ∷ xs) → ¬ Contains xs x
-apart_first x xs apart has = let p = place_of xs x has in let same = apart 0 (suc p.0) x refl p.1 in omega (arith, same)
+apart_first x xs apart has = let p = Contains-place xs x has in let same = apart 0 (suc p.0) x refl p.1 in omega (arith, same)
 
 apart_more : {X : Type 0} (x : X) (xs : List X) → ¬ Contains xs x → AreApart xs → AreApart (x ∷ xs)
 apart_more x xs new apart zero zero y at_j at_k = refl
@@ -241,11 +242,11 @@ module _ (table : Table) (graph : List Obj) where
   entries all n r lawful x = record {
     objects = λ o i among.
         let v = map-Contains pair_of all (o, i) among in
-        let k = place_of all v.0 v.1 in
+        let k = Contains-place all v.0 v.1 in
         subst (λ (y : ℕ × ℕ). y.0 < length graph) v.2 (visit_within table graph all n r k.0 v.0 x k.1).0;
     types = λ o i among.
         let v = map-Contains pair_of all (o, i) among in
-        let k = place_of all v.0 v.1 in
+        let k = Contains-place all v.0 v.1 in
         let within = (visit_within table graph all n r k.0 v.0 x k.1).1 in
         subst (λ (y : ℕ × ℕ). y.1 < length table.classes) v.2 (omega (arith, within, lawful.classed));
     apart = pairs_apart all n r x;

@@ -1,11 +1,13 @@
 -- What all visits say of the value, where none of their needs is a misfit.
-use Rattle.std.proofs.Common.{ℕ, zero, suc, ◌<◌, ◌≤◌, ◌≡◌, ◌∙◌, ◌⊎◌, inl, inr, ⊎_elim, ◌++◌, List, [], ◌∷◌, length, Some, refl, sym, ap, subst, arith}
+use Rattle.std.proofs.Common.{ℕ, ◌<◌, ◌≤◌, ◌≡◌, ◌∙◌, ◌⊎◌, inl, inr, ⊎_elim, ◌++◌, List, [], ◌∷◌, length, Some, refl, sym, ap, subst, arith}
 use Rattle.std.specs.Prelude.{slice_get, Contains, IsSomeAnd, IsTrue}
 use Rattle.std.proofs.lemmas.Option.{same_Some, slice_get_within}
 use Rattle.om_model.proofs.Options.{slice_get-Contains, slice_get_there, Contains-map, map-Contains}
 use Rattle.om_model.specs.declared.value.Val.{Val}
 use Rattle.om_model.specs.declared.value.Val.TheVariants as vals
 use Rattle.om_model.specs.declared.value.Obj.{Obj}
+use Rattle.om_model.proofs.Lists.{Contains-place}
+use Rattle.om_model.proofs.Numbers.{less_same_more}
 use Rattle.om_types.specs.declared.fault.Fault.{Fault}
 use Rattle.om_types.specs.declared.fault.Fault.TheVariants.{Misfit, Clash}
 use Rattle.om_types.specs.Fault.{IsBefore}
@@ -23,20 +25,9 @@ use Rattle.om_check.specs.Explored.{needs_at, root_of, IsExplored}
 use Rattle.om_check.specs.Search.{pairs_of}
 use Rattle.om_check.specs.Verdict.{IsYes}
 use Rattle.om_scan.specs.Paths.{HasPath}
-use Rattle.om_scan.proofs.PlaceLemmas.{place_of}
 use Rattle.om_check.proofs.ExploredLemmas.{AreInOrder}
 use Rattle.om_check.proofs.VisitLemmas.{tells_of, visit_fits}
 use Rattle.om_check.proofs.SpentLemmas.{pairs_apart}
-
-less_same_more : (m n : ℕ) → (m < n) ⊎ ((m ≡ n) ⊎ (n < m))
-less_same_more zero zero = inr (inl refl)
-less_same_more zero (suc n) = inl (omega arith)
-less_same_more (suc m) zero = inr (inr (omega arith))
-less_same_more (suc m) (suc n) = more (less_same_more m n) where
-  more : (m < n) ⊎ ((m ≡ n) ⊎ (n < m)) → (suc m < suc n) ⊎ ((suc m ≡ suc n) ⊎ (suc n < suc m))
-  more (inl less) = inl (omega arith)
-  more (inr (inl same)) = inr (inl (ap suc same))
-  more (inr (inr greater)) = inr (inr (omega arith))
 
 abbrev pair_of : Visit → ℕ × ℕ
 pair_of v = (v.object, v.ty)
@@ -79,10 +70,10 @@ module _ (table : Table) (graph : List Obj) where
           down = λ path other seen not_after. tt;
           root_fits = x.explored.fit 0 at_0 x.explored.rooted;
           root_entered = (at_0, slice_get-Contains x.told 0 at_0 x.explored.rooted, refl, refl, never_before_itself []);
-          leads = λ f among. let p = place_of x.told f among in x.explored.leads p.0 f p.1;
+          leads = λ f among. let p = Contains-place x.told f among in x.explored.leads p.0 f p.1;
           tested = λ f l b w among need field seen.
-              let p = place_of x.told f among in
-              let q = place_of (needs_at table graph f) (l, b) need in
+              let p = Contains-place x.told f among in
+              let q = Contains-place (needs_at table graph f) (l, b) need in
               let inside = slice_get_within x.told p.0 f p.1 in
               let met = x.explored.done p.0 q.0 l b f (inl (omega (arith, inside, enough, x.are_told.many))) p.1 q.1 in
               let same : met.value ≡ w = same_Some met.value w (sym met.there ∙ field) in (
@@ -152,8 +143,8 @@ module _ (table : Table) (graph : List Obj) where
     least_clashing i k one other at_i at_k is = record {
       clashing = clash_forth i k one other at_i at_k is.clash;
       least = λ a b c sooner.
-          let p = place_of x.told a c.first in
-          let q = place_of x.told b c.second in
+          let p = Contains-place x.told a c.first in
+          let q = Contains-place x.told b c.second in
           let clash = clash_back p.0 q.0 a b p.1 q.1 c in
           ⊎_elim
           (λ before. is.second p.0 q.0 (place_before x.told q.0 k b other x.explored.increasing q.1 at_k before) clash)
@@ -196,7 +187,7 @@ module _ (table : Table) (graph : List Obj) where
     pair_is_of : (o t : ℕ) → Contains (pairs_of all) (o, t) → IsPairOf o t
     pair_is_of o t among =
         let v = map-Contains pair_of all (o, t) among in
-        let k = place_of all v.0 v.1 in
+        let k = Contains-place all v.0 v.1 in
         record {
           place = k.0;
           visit = v.0;
@@ -209,7 +200,7 @@ module _ (table : Table) (graph : List Obj) where
     listed_of (vals.Int z) t path entered = tt
     listed_of (vals.Atom tag) t path entered = tt
     listed_of (vals.Ref o) t path entered =
-        let k = place_of x.told entered.0 entered.1 in
+        let k = Contains-place x.told entered.0 entered.1 in
         let v = visit_of k.0 entered.0 k.1 in
         let pair = pair_is_there k.0 v.0 v.1 in (
           v.0.ty,
@@ -224,7 +215,7 @@ module _ (table : Table) (graph : List Obj) where
         let t = tells_of table graph all x.told k v x.are_told at_k in
         let need' = subst (λ a. Contains ((table_shapes table).needs graph (vals.Ref t.entry.object) a) (i, u)) (sym t.type)
         (subst (λ o. Contains ((table_shapes table).needs graph (vals.Ref o) v.ty) (i, u)) (sym t.object) need) in
-        let j = place_of (needs_at table graph t.entry) (i, u) need' in
+        let j = Contains-place (needs_at table graph t.entry) (i, u) need' in
         let inside = slice_get_within all k v at_k in
         let met = x.explored.done k j.0 i u t.entry (inl (omega (arith, inside, enough))) t.at j.1 in
         let field = subst (λ o. field_at graph o i ≡ Some met.value) t.object met.there in

@@ -8,6 +8,7 @@ use Rattle.om_model.specs.Graph.{IsValue}
 use Rattle.om_model.specs.declared.value.Val.{Val}
 use Rattle.om_model.specs.declared.value.Val.TheVariants as vals
 use Rattle.om_model.specs.declared.value.Obj.{Obj}
+use Rattle.om_model.proofs.Lists.{slice_get-append_left, Contains-place}
 use Rattle.om_types.specs.declared.fault.Fault.TheVariants.{Misfit}
 use Rattle.om_types.specs.Fault.{IsBefore, field_of, IsMisfit}
 use Rattle.om_types.specs.LeastFault.{IsLeastFault}
@@ -25,7 +26,7 @@ use Rattle.om_check.specs.Told.{AreOrdered, AreTold}
 use Rattle.om_check.specs.Explored.{needs_at, root_of, AreExplored, IsExplored}
 use Rattle.om_check.specs.Visits.{IsMet}
 use Rattle.om_check.specs.Search.{EntersValue, TestsNeed, IsMisfitAt, Grows, IsTesting, TestsVisit, visit_needs}
-use Rattle.om_scan.proofs.PlaceLemmas.{slice_get-append_left, slice_get-append_below, slice_get-push_cases, place_of}
+use Rattle.om_scan.proofs.PlaceLemmas.{slice_get-append_below, slice_get-push_cases}
 use Rattle.om_check.proofs.ExploredLemmas.{need_before, need_leads, entries_before, explored_same, explored_more, explored_next}
 
 -- ---- growth
@@ -309,10 +310,10 @@ module _ (table : Table) (graph : List Obj) where
             (paths_compare path other);
         root_fits = x.fit 0 first x.rooted;
         root_entered = (first, slice_get-Contains told 0 first x.rooted, refl, refl, never_before_itself []);
-        leads = λ f among. let p = place_of told f among in x.leads p.0 f p.1;
+        leads = λ f among. let p = Contains-place told f among in x.leads p.0 f p.1;
         tested = λ f l b w among need field before.
-            let p = place_of told f among in
-            let q = place_of (needs_at table graph f) (l, b) need in
+            let p = Contains-place told f among in
+            let q = Contains-place (needs_at table graph f) (l, b) need in
             let met = x.done p.0 q.0 l b f (need_before table graph told p.0 q.0 n r l i b a f e x.increasing p.1 at_n q.1 at_r before) p.1 q.1 in
             let same : met.value ≡ w = same_Some met.value w (sym met.there ∙ field) in (
               subst (λ v. (table_shapes table).fits graph v b) same met.fits,

@@ -3,40 +3,24 @@ use Rattle.std.proofs.Common.{ℕ, zero, suc, ◌<◌, ◌+◌, ◌≡◌, ◌�
 use Rattle.std.specs.Prelude.{Contains, slice_get, slice_index}
 use Rattle.std.specs.Global.{Vec}
 use Rattle.std.proofs.Math.ListN.{length-set}
-use Rattle.std.proofs.Math.Seq.{take-length}
 use Rattle.std.proofs.lemmas.List.{take_more}
 use Rattle.std.proofs.lemmas.List.Elements.{Contains-append_left, Contains-push, Contains-push_cases}
-use Rattle.std.proofs.lemmas.Option.{same_Some, slice_get-get_or}
+use Rattle.std.proofs.lemmas.Option.{same_Some}
 use Rattle.om_model.proofs.Options.{Contains-none, same_or_not}
-use Rattle.om_store.proofs.HeldLemmas.{there_kept}
+use Rattle.om_model.proofs.Lists.{slice_get-append_left, slice_get-set_other, slice_get-set_here, slice_get-read}
 use Rattle.om_classes.specs.Lists.{Has, Keeps, IsPut, IsTaken, HasRooms, IsOfClass, IsShorter, KeepsMembers}
 use Rattle.om_classes.specs.Sign.{IsSetOf}
 
 -- ---- an element that is replaced
 
-pub set_other : {X : Type 0} (xs : List X) (i j : ℕ) (y : X) → j ≢ i → slice_get (set xs i y) j ≡ slice_get xs j
-set_other [] i j y other = refl
-set_other (x ∷ xs) zero zero y other = absurd (other refl)
-set_other (x ∷ xs) zero (suc j) y other = refl
-set_other (x ∷ xs) (suc i) zero y other = refl
-set_other (x ∷ xs) (suc i) (suc j) y other = set_other xs i j y (λ same. other (ap suc same))
-
-pub set_here : {X : Type 0} (xs : List X) (i : ℕ) (y : X) → i < length xs → slice_get (set xs i y) i ≡ Some y
-set_here [] i y below = absurd (omega arith)
-set_here (x ∷ xs) zero y below = refl
-set_here (x ∷ xs) (suc i) y below = set_here xs i y (omega arith)
-
-pub read : {X : Type 0} (xs : List X) (i : ℕ) (x : X) → i < length xs → x ≡ get_or xs i x → slice_get xs i ≡ Some x
-read xs i x below is = slice_get-get_or xs i x below ∙ ap Some (sym is)
-
 module _ (lists : List (Vec ℕ)) (at : ℕ) (v w : Vec ℕ) (below : at < length lists) (is : v ≡ get_or lists at v) where
   at_read : slice_get lists at ≡ Some v
-  at_read = read lists at v below is
+  at_read = slice_get-read lists at v below is
 
   pub put_is : (x : ℕ) → w.items ≡ v.items ++ x ∷ [] → IsPut lists at x (set lists at w)
   put_is x more = record {
     keeps = record { many = length-set lists at w; kept = kept };
-    there = (w, set_here lists at w below, subst (λ l. Contains l x) (sym more) (Contains-push v.items x));
+    there = (w, slice_get-set_here lists at w below, subst (λ l. Contains l x) (sym more) (Contains-push v.items x));
     back = back;
   } where
     kept : (d y : ℕ) → Has lists d y → Has (set lists at w) d y
@@ -44,30 +28,30 @@ module _ (lists : List (Vec ℕ)) (at : ℕ) (v w : Vec ℕ) (below : at < lengt
         (λ here.
         let same : has.0 ≡ v = same_Some has.0 v (sym has.1 ∙ ap (slice_get lists) here ∙ at_read) in (
           w,
-          ap (slice_get (set lists at w)) here ∙ set_here lists at w below,
+          ap (slice_get (set lists at w)) here ∙ slice_get-set_here lists at w below,
           subst (λ l. Contains l y) (sym more) (Contains-append_left v.items (x ∷ []) y
               (subst (λ (u : Vec ℕ). Contains u.items y) same has.2)),
         ))
-        (λ other. (has.0, set_other lists at d w other ∙ has.1, has.2))
+        (λ other. (has.0, slice_get-set_other lists at d w other ∙ has.1, has.2))
         (same_or_not d at)
 
     back : (d y : ℕ) → Has (set lists at w) d y → Has lists d y ⊎ (d ≡ at)
     back d y has = ⊎_elim (λ here. inr here)
-        (λ other. inl (has.0, sym (set_other lists at d w other) ∙ has.1, has.2)) (same_or_not d at)
+        (λ other. inl (has.0, sym (slice_get-set_other lists at d w other) ∙ has.1, has.2)) (same_or_not d at)
 
   pub taken_is : (taken : List ℕ) → taken ≡ v.items → w.items ≡ [] → IsTaken lists at taken (set lists at w)
   taken_is taken all none = record {
     many = length-set lists at w;
     there = λ y has. subst (λ l. Contains l y) (sym all) (subst (λ (u : Vec ℕ). Contains u.items y)
         (same_Some has.0 v (sym has.1 ∙ at_read)) has.2);
-    kept = λ d y other has. (has.0, set_other lists at d w other ∙ has.1, has.2);
+    kept = λ d y other has. (has.0, slice_get-set_other lists at d w other ∙ has.1, has.2);
     back = back;
   } where
     back : (d y : ℕ) → Has (set lists at w) d y → (d ≢ at) × Has lists d y
     back d y has = ⊎_elim
         (λ here. absurd (Contains-none y (subst (λ l. Contains l y) none (subst (λ (u : Vec ℕ). Contains u.items y)
-        (same_Some has.0 w (sym has.1 ∙ ap (slice_get (set lists at w)) here ∙ set_here lists at w below)) has.2))))
-        (λ other. (other, (has.0, sym (set_other lists at d w other) ∙ has.1, has.2)))
+        (same_Some has.0 w (sym has.1 ∙ ap (slice_get (set lists at w)) here ∙ slice_get-set_here lists at w below)) has.2))))
+        (λ other. (other, (has.0, sym (slice_get-set_other lists at d w other) ∙ has.1, has.2)))
         (same_or_not d at)
 
   pub shorter_is : (class shorter : List ℕ) → IsOfClass v.items class at shorter → w.items ≡ shorter
@@ -75,18 +59,18 @@ module _ (lists : List (Vec ℕ)) (at : ℕ) (v w : Vec ℕ) (below : at < lengt
   shorter_is class shorter held all = record {
     many = length-set lists at w;
     of_class = λ y has. held.is y (subst (λ l. Contains l y) all (subst (λ (u : Vec ℕ). Contains u.items y)
-        (same_Some has.0 w (sym has.1 ∙ set_here lists at w below)) has.2));
+        (same_Some has.0 w (sym has.1 ∙ slice_get-set_here lists at w below)) has.2));
     kept = kept;
   } where
     kept : (y : ℕ) → y < length class → Has lists (slice_index class y) y → Has (set lists at w) (slice_index class y) y
     kept y under has = ⊎_elim
         (λ here. (
           w,
-          ap (slice_get (set lists at w)) here ∙ set_here lists at w below,
+          ap (slice_get (set lists at w)) here ∙ slice_get-set_here lists at w below,
           subst (λ l. Contains l y) (sym all) (held.has y (subst (λ (u : Vec ℕ). Contains u.items y)
               (same_Some has.0 v (sym has.1 ∙ ap (slice_get lists) here ∙ at_read)) has.2) under here),
         ))
-        (λ other. (has.0, set_other lists at (slice_index class y) w other ∙ has.1, has.2))
+        (λ other. (has.0, slice_get-set_other lists at (slice_index class y) w other ∙ has.1, has.2))
         (same_or_not (slice_index class y) at)
 
 pub members_shorter : (class : List ℕ) (wanted : ℕ) (old new : List (Vec ℕ)) → IsShorter class wanted old new
@@ -104,20 +88,12 @@ pushed_cases (z ∷ xs) y zero x is = inl is
 pushed_cases (z ∷ xs) y (suc i) x is = ⊎_elim (λ before. inl before) (λ last. inr (ap suc last.0, last.1))
     (pushed_cases xs y i x is)
 
-pub at_end : {X : Type 0} (xs : List X) (y : X) → slice_get (xs ++ y ∷ []) (length xs) ≡ Some y
-at_end [] y = refl
-at_end (x ∷ xs) y = at_end xs y
-
-pub before_end : {X : Type 0} (xs : List X) (y : X) (i : ℕ) (x : X) → slice_get xs i ≡ Some x
-    → slice_get (xs ++ y ∷ []) i ≡ Some x
-before_end xs y i x is = there_kept xs (xs ++ y ∷ []) i x (record { added = y ∷ []; kept = refl }) is
-
 pub room_more : (old now new : List (Vec ℕ)) (w : Vec ℕ) (count : ℕ) → HasRooms old count now → w.items ≡ []
     → new ≡ now ++ w ∷ [] → HasRooms old (count + 1) new
 room_more old now new w count held none is = record {
   many = ap length is ∙ length-append now (w ∷ []) ∙ ap (λ n. n + 1) held.many;
   there = λ d y has. let before = held.there d y has in
-      (before.0, ap (λ l. slice_get l d) is ∙ before_end now w d before.0 before.1, before.2);
+      (before.0, ap (λ l. slice_get l d) is ∙ slice_get-append_left now (w ∷ []) d before.0 before.1, before.2);
   back = λ d y has. ⊎_elim (λ before. held.back d y (has.0, before, has.2))
       (λ last. absurd (Contains-none y (subst (λ l. Contains l y) none
       (subst (λ (u : Vec ℕ). Contains u.items y) (sym last.1) has.2))))
@@ -133,9 +109,6 @@ pub next_cases : (xs : List ℕ) (i y : ℕ) → i < length xs → Contains (tak
     → Contains (take i xs) y ⊎ (get_or xs i 0 ≡ y)
 next_cases xs i y within among =
     Contains-push_cases (take i xs) (get_or xs i 0) y (subst (λ l. Contains l y) (take_more xs i 0 within) among)
-
-pub take_end : {X : Type 0} (xs : List X) (i : ℕ) → i ≡ length xs → take i xs ≡ xs
-take_end xs i end = ap (λ k. take k xs) end ∙ take-length xs
 
 pub Keeps-none : (lists : List (Vec ℕ)) → Keeps lists lists
 Keeps-none lists = record { many = refl; kept = λ d y has. has }

@@ -6,9 +6,10 @@ use Rattle.std.specs.List.{flat_map}
 use Rattle.std.proofs.Math.ListN.{length-set}
 use Rattle.std.proofs.lemmas.Grind.{flat_map-append}
 use Rattle.std.proofs.lemmas.List.{take_more, append-nil, append_assoc, get_or-set_same, get_or-set_other}
-use Rattle.std.proofs.lemmas.List.Elements.{Contains-append_left, Contains-append_cases, Contains-push, Contains-push_cases}
+use Rattle.std.proofs.lemmas.List.Elements.{Contains-append_left, Contains-append_cases, Contains-push_cases}
 use Rattle.std.proofs.lemmas.Option.{same_Some, slice_get-get_or, slice_get_within, get_or_from_slice_get}
 use Rattle.om_model.proofs.Options.{Contains-none, Contains-cases, same_or_not, slice_get_there}
+use Rattle.om_model.proofs.Lists.{slice_get-append_left, slice_get-set_other, slice_get-set_here, slice_get-last}
 use Rattle.om_types.specs.Reached.{listed_if}
 use Rattle.om_store.specs.Held.{AreDistinct, Adds, Grows}
 use Rattle.om_store.proofs.HeldLemmas.{there_kept, Grows-then}
@@ -19,7 +20,7 @@ use Rattle.om_classes.specs.Users.{parts_in}
 use Rattle.om_classes.specs.Sign.{IsSign}
 use Rattle.om_classes.specs.Parting.{IsReady, SignAt, SignedAt, AreNamed, NamedSoFar, AreMoved}
 use Rattle.om_classes.proofs.Loops.{UsesSoFar, UsersSoFar, MarksSoFar, UserMarksSoFar, SignedSoFar, MembersSoFar}
-use Rattle.om_classes.proofs.ListLemmas.{next_cases, pushed_cases, at_end, before_end, set_here, set_other, Keeps-then}
+use Rattle.om_classes.proofs.ListLemmas.{next_cases, pushed_cases, Keeps-then}
 use Rattle.om_classes.proofs.FormLemmas.{AllZip-more, AllZip-add, adds_grows}
 
 -- ---- users
@@ -185,12 +186,12 @@ module _ (found : List (List ℕ)) (parted kept place : ℕ) (numbers numbers' :
     grown = Grows-then old now new held.grown (record { added = w ∷ []; kept = more });
     signs = λ p d s apart at_p named. ⊎_elim
         (λ before. let had = held.signs p d s apart at_p before in
-        (had.0, (had.1.0, ap (λ l. slice_get l d) more ∙ before_end now w d had.1.0 had.1.1, had.1.2)))
+        (had.0, (had.1.0, ap (λ l. slice_get l d) more ∙ slice_get-append_left now (w ∷ []) d had.1.0 had.1.1, had.1.2)))
         (λ last. (
           subst (λ n. length old ≤ n) last.1 longer,
           (
             w,
-            ap (λ l. slice_get l d) more ∙ ap (slice_get (now ++ w ∷ [])) (sym last.1) ∙ at_end now w,
+            ap (λ l. slice_get l d) more ∙ ap (slice_get (now ++ w ∷ [])) (sym last.1) ∙ slice_get-last now w,
             reads ∙ same_Some sign s (sym at_place ∙ ap (slice_get found) (sym (last.0 ∙ held.many)) ∙ at_p),
           ),
         ))
@@ -213,7 +214,7 @@ named_all found parted kept numbers old now w held within kept_in at_kept = reco
   kept_is = held.kept_is;
   others = λ d s apart at_d. (
     at_d.0,
-    set_other now parted d w apart ∙ there_kept old now d at_d.0 held.grown at_d.1,
+    slice_get-set_other now parted d w apart ∙ there_kept old now d at_d.0 held.grown at_d.1,
     at_d.2,
   );
 } where
@@ -232,12 +233,12 @@ named_all found parted kept numbers old now w held within kept_in at_kept = reco
       (λ here.
       let is : d ≡ parted = held.kept_is d (ap (slice_get numbers) (sym here) ∙ named) in (
         w,
-        ap (slice_get (set now parted w)) is ∙ set_here now parted w (omega (arith, longer)),
+        ap (slice_get (set now parted w)) is ∙ slice_get-set_here now parted w (omega (arith, longer)),
         same_Some w.items s (sym at_kept ∙ ap (slice_get found) (sym here) ∙ at_p),
       ))
       (λ other.
       let had = held.signs p d s other at_p named in
-      (had.1.0, set_other now parted d w (λ same. above had.0 same) ∙ had.1.1, had.1.2))
+      (had.1.0, slice_get-set_other now parted d w (λ same. above had.0 same) ∙ had.1.1, had.1.2))
       (same_or_not p kept) where
         above : length old ≤ d → d ≡ parted → ⊥
         above high same = omega arith

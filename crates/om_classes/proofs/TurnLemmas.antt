@@ -6,6 +6,7 @@ use Rattle.std.specs.List.{AllZip, flat_map}
 use Rattle.std.proofs.lemmas.List.Elements.{Contains-append_left, Contains-append_right}
 use Rattle.std.proofs.lemmas.Option.{same_Some}
 use Rattle.om_model.proofs.Options.{Contains-first, Contains-later, Contains-none, Contains-cases, Contains-flat_map, slice_get-Contains, same_or_not, slice_get_there}
+use Rattle.om_model.proofs.Lists.{slice_get-read}
 use Rattle.om_types.specs.declared.head.HeadOf.{HeadOf}
 use Rattle.om_types.specs.Equal.{HeadsAgree}
 use Rattle.om_types.specs.Table.{head_at}
@@ -22,7 +23,6 @@ use Rattle.om_classes.specs.Sign.{offset, IsCode, IsSign}
 use Rattle.om_classes.specs.Users.{parts_in, AreUsers}
 use Rattle.om_classes.specs.Lists.{Has}
 use Rattle.om_classes.specs.Parting.{IsSignOf, SignAt, SignedAt, AreNamed, AreMoved, IsLook, MarksUsers, HasMembers}
-use Rattle.om_classes.proofs.ListLemmas.{read}
 use Rattle.om_classes.proofs.SignLemmas.{agree_from_sign, sign_from_agree}
 
 -- ---- lists in step
@@ -140,7 +140,7 @@ module _ (forms : List Form) (o w : List ℕ) (c : ℕ) (look : Look) (numbers :
       placed.place is_look.signed placed.looked_at placed.placed in
       (placed.place, s.0, s.1, placed.named, s.2))
       (λ never. ⊎_elim
-      (λ among. absurd (never.0 among.0 among.1 (read look.looked.items among.0 i among.1 (sym among.2))))
+      (λ among. absurd (never.0 among.0 among.1 (slice_get-read look.looked.items among.0 i among.1 (sym among.2))))
       (λ kept.
       let d = slice_get_there numbers look.kept (subst (λ n. look.kept < n) (sym named.many) is_look.within) in (
         look.kept,

@@ -1,7 +1,7 @@
 -- What a command tells clap, as it is made.
 use Rattle.std.proofs.Common.{◌≡◌, ◌∙◌, ◌||◌, ◌<◌, ◌+◌, ℕ, false, List, [], ◌∷◌, ◌++◌, map, length, take, get_or, add-one, refl, sym, ap, ap₂, Result, Ok, Err, IfOk}
 use Rattle.std.specs.Prelude.{fold}
-use Rattle.std.proofs.Math.Seq.{take-length, take-suc}
+use Rattle.std.proofs.Math.Seq.{take-suc}
 use Rattle.std.specs.declared.alloc.AllocError.{AllocError}
 use Rattle.clap.specs.Words.{AddsArg, AddsSubcommand, App, Rule, app_of, rule_of, with_rule, with_subcommand}
 use Rattle.clap.specs.declared.builder.arg.Arg.{Arg}
@@ -45,6 +45,3 @@ folded_more app (g ∷ gs) f = folded_more (with_subcommand app (shape_told g)) 
 pub program_more : (fs : List Form) (i : ℕ) (f : Form) → i < length fs → with_subcommand (program_with (take i fs)) (shape_told (get_or fs i f)) ≡ program_with (take (i + 1) fs)
 program_more fs i f small =
     folded_more program (take i fs) (get_or fs i f) ∙ ap program_with (sym (ap (λ k. take k fs) (add-one i) ∙ take-suc fs i f small))
-
-pub take_end : {X : Type 0} (xs : List X) (i : ℕ) → i ≡ length xs → take i xs ≡ xs
-take_end xs i end = ap (λ k. take k xs) end ∙ take-length xs

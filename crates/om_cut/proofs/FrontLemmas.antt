@@ -19,7 +19,7 @@ use Rattle.om_format.proofs.Pending.{pending-le}
 use Rattle.om_format.proofs.SpellLemmas.{IsRaw-spelled, raw_measure-spelled}
 use Rattle.om_format.proofs.SpellTokens.{FitsUpTo, passes-spelled}
 use Rattle.om_format.proofs.SpellHeaders.{HeaderPasses-facts}
-use Rattle.om_format.proofs.SpellValues.{some_bytes, raw_measures-spelled}
+use Rattle.om_format.proofs.SpellValues.{raw_measures-spelled, length-concat_push, bytes_of_tokens}
 use Rattle.om_cut.specs.Laws.{UnderwayIsFront}
 
 -- after n bytes of data and tokens of these measures values are to come, and the header has room
@@ -35,16 +35,6 @@ open_here : (ms : List (Option Measure)) (ts : List Token) → OpenBefore ms ts 
 open_here ms [] o p = rw (append-nil ms) at p
 open_here ms (t ∷ ts) o p = o.0
 
--- tokens take as many bytes at least
-bytes_of_tokens : (ts : List Token) (pieces : List (List ℕ)) → AllZip Spells ts pieces → length ts ≤ length (concat pieces)
-bytes_of_tokens [] pieces s = omega arith
-bytes_of_tokens (t ∷ ts) [] s = absurd s
-bytes_of_tokens (t ∷ ts) (piece ∷ pieces) s =
-    let one = some_bytes t piece s.0 in
-    let more = bytes_of_tokens ts pieces s.1 in
-    let long = length-append piece (concat pieces) in
-    omega (arith, one, more, long)
-
 -- where all go on the first of them fit
 fits_here : (head : Head) (n rest : ℕ) (ms : List (Option Measure)) (ts : List Token) → GoesOn head (n + rest) (ms ++ map measure_of ts) → OpenBefore ms ts → length ts ≤ rest → FitsUpTo head n ms
 fits_here head n rest ms ts g o l =
@@ -59,15 +49,6 @@ fits_here head n rest ms ts g o l =
       w64 = let w = g.w64 in let sum = sum_by-append (of_object words64) ms (map measure_of ts) in omega (arith, w, sum);
       end = λ none. absurd (omega (arith, none, some));
     }
-
--- the bytes of one more piece
-length-concat_push : (pieces : List (List ℕ)) (piece : List ℕ) → length (concat (pieces ++ piece ∷ [])) ≡ length (concat pieces) + length piece
-length-concat_push [] piece = let long = length-append piece [] in omega (arith, long)
-length-concat_push (p ∷ pieces) piece =
-    let a = length-append p (concat (pieces ++ piece ∷ [])) in
-    let b = length-append p (concat pieces) in
-    let c = length-concat_push pieces piece in
-    omega (arith, a, b, c)
 
 -- spelled tokens pass, with others before them, where values are to come after them all
 pub tokens_go_on :

@@ -11,7 +11,8 @@ use Rattle.om_scope.proofs.FirstLemmas.{same_turn}
 use Rattle.om_grammar.specs.Grammar.{Kinds}
 use Rattle.om_grammar.specs.Refusals.{Reading, text_read, syntax_at, too_deep_at, IsReading}
 use Rattle.om_grammar.specs.Laws.{HasOneReading}
-use Rattle.om_parse.specs.Parsed.{kinds_of, byte_of}
+use Rattle.om_grammar.specs.Lexemes.{kinds_of}
+use Rattle.om_parse.specs.Parsed.{byte_of}
 use Rattle.om_decl.specs.Answer.{Answer, accepted, no_lexemes, no_text, too_deep, broken}
 use Rattle.om_decl.specs.Answer.{IsJudged, IsRead, IsLexed, IsAnswer, HasOneAnswer}
 

@@ -7,7 +7,7 @@ use Rattle.om_lex.specs.LexText.{Lexes}
 use Rattle.om_types.specs.Scope.{Rule, turn, IsFirst, KeepsAll}
 use Rattle.om_grammar.specs.Grammar.{Kinds}
 use Rattle.om_grammar.specs.Refusals.{IsText, text_read}
-use Rattle.om_parse.specs.Parsed.{kinds_of}
+use Rattle.om_grammar.specs.Lexemes.{kinds_of}
 use Rattle.om_scope.specs.First.{KeepsBefore}
 use Rattle.om_head_rules.specs.declared.broken.HeadBreak.{HeadBreak}
 use Rattle.om_head_rules.specs.declared.broken.HeadBreak.TheVariants as heads

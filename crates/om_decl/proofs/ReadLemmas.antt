@@ -11,7 +11,8 @@ use Rattle.om_grammar.specs.Grammar.{Kinds, FileTree, file_kinds, Texpr, texpr}
 use Rattle.om_grammar.specs.Refusals.{IsText, text_read, syntax_at, too_deep_at}
 use Rattle.om_parse.specs.declared.refused.Fault.{Fault}
 use Rattle.om_parse.specs.declared.refused.Fault.TheVariants as parser
-use Rattle.om_parse.specs.Parsed.{kinds_of, byte_of, IsFault}
+use Rattle.om_grammar.specs.Lexemes.{kinds_of}
+use Rattle.om_parse.specs.Parsed.{byte_of, IsFault}
 use Rattle.om_parse.specs.Written.{declarations_of, type_of_texpr}
 use Rattle.om_sites.specs.Counted.{marks, in_type}
 use Rattle.om_sites.specs.CountedFile.{counted_file}

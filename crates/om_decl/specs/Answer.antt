@@ -9,7 +9,8 @@ use Rattle.om_types.specs.Scope.{Rule, IsFirst, KeepsAll, BreaksInFile, BreaksIn
 use Rattle.om_grammar.specs.Grammar.{Kinds, Texpr, texpr, FileTree, file_kinds}
 use Rattle.om_grammar.specs.Depths.{texpr_ends, file_ends}
 use Rattle.om_grammar.specs.Refusals.{Reading, text_read, syntax_at, too_deep_at, IsReading}
-use Rattle.om_parse.specs.Parsed.{kinds_of, byte_of}
+use Rattle.om_grammar.specs.Lexemes.{kinds_of}
+use Rattle.om_parse.specs.Parsed.{byte_of}
 use Rattle.om_sites.specs.InFile.{file_places}
 use Rattle.om_sites.specs.InText.{in_texpr}
 

@@ -11,7 +11,8 @@ use Rattle.om_grammar.specs.Depths.{file_ends, texpr_ends}
 use Rattle.om_grammar.specs.Refusals.{IsText}
 use Rattle.om_parse.specs.declared.refused.Fault.{Fault}
 use Rattle.om_parse.specs.declared.refused.Fault.TheVariants as parser
-use Rattle.om_parse.specs.Parsed.{kinds_of, byte_of}
+use Rattle.om_grammar.specs.Lexemes.{kinds_of}
+use Rattle.om_parse.specs.Parsed.{byte_of}
 use Rattle.om_sites.specs.InFile.{file_places}
 use Rattle.om_sites.specs.InText.{in_texpr}
 use Rattle.om_head_rules.specs.declared.broken.HeadBreak.{HeadBreak}

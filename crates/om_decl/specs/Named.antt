@@ -6,7 +6,7 @@ use Rattle.om_types.specs.declared.decl.Decl.{Decl}
 use Rattle.om_grammar.specs.Grammar.{FileTree, file_kinds, Texpr, texpr}
 use Rattle.om_grammar.specs.Depths.{file_ends, texpr_ends}
 use Rattle.om_grammar.specs.Refusals.{IsText}
-use Rattle.om_parse.specs.Parsed.{kinds_of}
+use Rattle.om_grammar.specs.Lexemes.{kinds_of}
 use Rattle.om_parse.specs.Written.{declarations_of, type_of_texpr}
 use Rattle.om_sites.specs.Counted.{marks}
 use Rattle.om_sites.specs.InFile.{file_places}

@@ -18,7 +18,7 @@ use Rattle.om_sites.specs.InText.{in_texpr}
 use Rattle.om_grammar.specs.Grammar.{Kinds, file_kinds, texpr}
 use Rattle.om_grammar.specs.Depths.{file_ends, texpr_ends}
 use Rattle.om_grammar.specs.Refusals.{IsText, text_read, syntax_at, too_deep_at}
-use Rattle.om_parse.specs.Parsed.{kinds_of}
+use Rattle.om_grammar.specs.Lexemes.{kinds_of}
 use Rattle.om_decl.specs.Told.{FilesAreWellFormed, TypesAreSound}
 use Rattle.om_decl.specs.Answer.{accepted, IsAnswer}
 use Rattle.om_decl.specs.Read.{IsDeclared, IsTypeOf}

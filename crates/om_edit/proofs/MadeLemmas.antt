@@ -14,7 +14,7 @@ use Rattle.om_typing.proofs.OnceLemmas.{least_once}
 use Rattle.om_grammar.specs.Refusals.{IsSyntax}
 use Rattle.om_grammar.proofs.LawLemmas.{one_tree, text_or_syntax, no_syntax}
 use Rattle.om_literal_grammar.specs.Literal.{Literal, literal_kinds}
-use Rattle.om_literal_grammar.specs.Nodes.{kinds_of}
+use Rattle.om_grammar.specs.Lexemes.{kinds_of}
 use Rattle.om_literal_grammar.proofs.LiteralTable.{literal_table}
 use Rattle.om_literal.specs.LiteralAnswers.{byte_of, in_bytes}
 use Rattle.om_literal.specs.Reading.{Reading, Refusal, reading, literal_read}

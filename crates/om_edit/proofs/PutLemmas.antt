@@ -1,12 +1,13 @@
 -- A value that is put at a place, and the one before that is put back.
-use Rattle.std.proofs.Common.{ℕ, zero, suc, ◌<◌, ◌≡◌, ◌∙◌, List, [], ◌∷◌, ◌++◌, length, set, take, drop, take-append-drop, Some, refl, ap, sym, subst, length-set}
+use Rattle.std.proofs.Common.{ℕ, ◌<◌, ◌≡◌, ◌∙◌, List, ◌∷◌, ◌++◌, length, set, take, drop, take-append-drop, Some, refl, ap, sym, subst, length-set}
 use Rattle.std.specs.Prelude.{slice_get, option_and_then, pos}
 use Rattle.std.proofs.lemmas.List.{get_or-set_same, set-set, set-get_or}
-use Rattle.std.proofs.lemmas.Option.{option_and_then_some, slice_get_within, get_or_from_slice_get, none-some}
+use Rattle.std.proofs.lemmas.Option.{option_and_then_some, slice_get_within, get_or_from_slice_get}
 use Rattle.om_model.specs.declared.value.Val.{Val}
 use Rattle.om_model.specs.declared.value.Obj.{Obj}
 use Rattle.om_model.specs.declared.value.Obj.TheVariants as objects
 use Rattle.om_model.specs.Graph.{IsValue}
+use Rattle.om_model.proofs.Lists.{slice_get-append_left}
 use Rattle.om_types.specs.Typing.{values_of, field_at}
 use Rattle.om_heap.specs.Heap.{object_at, fields_of, with_field, set_field}
 use Rattle.om_edit.specs.declared.spots.Spot.{Spot}
@@ -83,17 +84,11 @@ root_valid (spots.Field o i) v graph root new old = subst (λ n. IsValue n root)
 
 -- ---- with objects behind
 
-get_behind : {X : Type 0} (xs ys : List X) (i : ℕ) (x : X) → slice_get xs i ≡ Some x → slice_get (xs ++ ys) i ≡ Some x
-get_behind [] ys zero x is = absurd (none-some x is)
-get_behind [] ys (suc i) x is = absurd (none-some x is)
-get_behind (y ∷ xs) ys zero x is = is
-get_behind (y ∷ xs) ys (suc i) x is = get_behind xs ys i x is
-
 pub stands_behind : (graph more : List Obj) (root : Val) (spot : Spot) (w : Val) → StandsAt graph root spot w → StandsAt (graph ++ more) root spot w
 stands_behind graph more root spots.Root w at = at
 stands_behind graph more root (spots.Field o i) w at =
     let held = held_in graph o i w at in
-    ap (option_and_then (λ object. slice_get (values_of object) i)) (get_behind graph more o held.0 held.1) ∙ held.2
+    ap (option_and_then (λ object. slice_get (values_of object) i)) (slice_get-append_left graph more o held.0 held.1) ∙ held.2
 
 pub stands_whole : (n : ℕ) (graph : List Obj) (root : Val) (spot : Spot) (w : Val) → StandsAt (take n graph) root spot w → StandsAt graph root spot w
 stands_whole n graph root spot w at =

@@ -14,7 +14,7 @@ use Rattle.om_types.specs.Typing.{HasType}
 use Rattle.om_grammar.specs.Refusals.{IsSyntax}
 use Rattle.om_heap.specs.Heap.{set_field}
 use Rattle.om_literal_grammar.specs.Literal.{Literal, literal_kinds}
-use Rattle.om_literal_grammar.specs.Nodes.{kinds_of}
+use Rattle.om_grammar.specs.Lexemes.{kinds_of}
 use Rattle.om_literal.specs.LiteralAnswers.{byte_of, in_bytes}
 use Rattle.om_literal.specs.Reading.{Refusal, IsRead, IsRefused}
 use Rattle.om_path.specs.declared.edits.Edit.{Edit}

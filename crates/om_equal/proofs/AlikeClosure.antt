@@ -10,19 +10,11 @@ use Rattle.om_types.specs.declared.head.HeadOf.{HeadOf}
 use Rattle.om_types.specs.Ty.{Ty, variable, named, tuple, bracket, part, tag, tag_of, including}
 use Rattle.om_types.specs.Equal.{HeadsAgree, Holds, EqualBy}
 use Rattle.om_types.specs.Reached.{parts_of}
-use Rattle.om_model.proofs.Options.{Contains-first, Contains-later, Contains-none, Contains-cases, Contains-map, Contains-flat_map}
+use Rattle.om_model.proofs.Options.{Contains-first, Contains-later, Contains-none, Contains-cases, Contains-map, Contains-flat_map, map-Contains}
 use Rattle.om_equal.proofs.AgreeLemmas.{HeadsAgree-more}
 use Rattle.om_equal.proofs.AlikeLemmas.{Whole, Alike}
 
 -- ---- what is in lists made of others
-
-pub mapped_is : {X Y : Type 0} (f : X → Y) (xs : List X) (y : Y) → Contains (map f xs) y → (x : X)
-    × Contains xs x × (f x ≡ y)
-mapped_is f [] y among = absurd (Contains-none y among)
-mapped_is f (x ∷ xs) y among = ⊎_elim
-    (λ here. (x, Contains-first x xs, here))
-    (λ later. let is = mapped_is f xs y later in (is.0, Contains-later x xs is.0 is.1, is.2))
-    (Contains-cases (f x) (map f xs) y among)
 
 pub flat_mapped_is :
     {X Y : Type 0} (f : X → List Y) (xs : List X) (y : Y) → Contains (flat_map f xs) y → (x : X)
@@ -52,7 +44,7 @@ both_is : (f : Ty → Ty → Ty) (ts us : List Ty) (v : Ty) → Contains (both f
 unfolding both
 both_is f ts us v among =
     let one = flat_mapped_is (λ a. map (λ b. f a b) us) ts v among in
-    let other = mapped_is (λ b. f one.0 b) us v one.2 in
+    let other = map-Contains (λ b. f one.0 b) us v one.2 in
     (one.0, other.0, one.1, other.1, other.2)
 
 module _ (same_or_not : (t u : Ty) → (t ≡ u) ⊎ (t ≡ u → ⊥)) (pairs : List (Ty × Ty)) where
@@ -173,7 +165,7 @@ module _ (same_or_not : (t u : Ty) → (t ≡ u) ⊎ (t ≡ u → ⊥)) (pairs :
             (wholes_is b found.1) found.3,
       )
   wholes_is (tag u x) t among =
-      let found = mapped_is (λ w. tag w x) (wholes u) t among in
+      let found = map-Contains (λ w. tag w x) (wholes u) t among in
       subst (λ w. Whole pairs w (tag u x)) found.2 (wholes_is u found.0 found.1, refl)
   wholes_is (tag_of u x b) t among =
       let found = both_is (λ w y. tag_of w x y) (wholes u) (firsts pairs b ++ wholes b) t among in
@@ -223,7 +215,7 @@ module _ (same_or_not : (t u : Ty) → (t ≡ u) ⊎ (t ≡ u → ⊥)) (pairs :
     unfolding all pairs_to
     all_is t u held =
         let found = flat_mapped_is pairs_to types (t, u) held in
-        let source = mapped_is (λ w. (w, found.0)) (sources found.0) (t, u) found.2 in
+        let source = map-Contains (λ w. (w, found.0)) (sources found.0) (t, u) found.2 in
         let second : found.0 ≡ u = ap (λ (p : Ty × Ty). p.1) source.2 in
         let first : source.0 ≡ t = ap (λ (p : Ty × Ty). p.0) source.2 in (
           subst (λ w. Contains types w) second found.1,

@@ -9,8 +9,8 @@ use Rattle.om_types.specs.declared.head.TagOf.{TagOf}
 use Rattle.om_types.specs.Equal.{Pairwise, ArgumentsAgree, TagsAgree, SameTags, HeadsAgree, Holds}
 use Rattle.om_types.specs.Equal.{IsClosed, EqualBy}
 use Rattle.om_types.specs.Reached.{parts_of, listed_if}
-use Rattle.om_model.proofs.Options.{Contains-first, Contains-later, Contains-none, Contains-cases, Contains-map, Contains-flat_map}
-use Rattle.om_equal.proofs.AlikeClosure.{mapped_is, flat_mapped_is}
+use Rattle.om_model.proofs.Options.{Contains-first, Contains-later, Contains-none, Contains-cases, Contains-map, Contains-flat_map, map-Contains}
+use Rattle.om_equal.proofs.AlikeClosure.{flat_mapped_is}
 
 -- ---- heads turned round, and joined
 
@@ -159,7 +159,7 @@ module _ {T : Type 0} (head : T → HeadOf T) where
 
         closed : IsClosed head (map twice types)
         closed a b held =
-            let found = mapped_is twice types (a, b) held in
+            let found = map-Contains twice types (a, b) held in
             let first : found.0 ≡ a = ap (λ (p : T × T). p.0) found.2 in
             let second : found.0 ≡ b = ap (λ (p : T × T). p.1) found.2 in
             subst (λ u. HeadsAgree (Holds (map twice types)) (head u) (head b)) first
@@ -181,7 +181,7 @@ module _ {T : Type 0} (head : T → HeadOf T) where
       } where
         closed : IsClosed head (map turned equal.pairs)
         closed a b held =
-            let found = mapped_is turned equal.pairs (a, b) held in
+            let found = map-Contains turned equal.pairs (a, b) held in
             let first : found.0.1 ≡ a = ap (λ (p : T × T). p.0) found.2 in
             let second : found.0.0 ≡ b = ap (λ (p : T × T). p.1) found.2 in
             subst (λ x. HeadsAgree (Holds (map turned equal.pairs)) (head x) (head b)) first

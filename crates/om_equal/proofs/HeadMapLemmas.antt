@@ -2,14 +2,14 @@
 use Rattle.std.proofs.Common.{◌≡◌, ◌∙◌, List, [], ◌∷◌, ◌++◌, Option, Some, None, refl, ap, subst}
 use Rattle.std.proofs.Common.{sym}
 use Rattle.std.specs.Prelude.{map, option_map}
-use Rattle.om_model.proofs.Options.{Contains-map}
+use Rattle.om_model.proofs.Options.{Contains-map, map-Contains}
 use Rattle.om_types.specs.declared.head.TagOf.{TagOf}
 use Rattle.om_types.specs.declared.head.HeadOf.{HeadOf}
 use Rattle.om_types.specs.declared.head.HeadOf.TheVariants as heads
 use Rattle.om_types.specs.Equal.{Pairwise, ArgumentsAgree, TagsAgree, SameTags, HeadsAgree}
 use Rattle.om_types.specs.Reached.{listed_if, parts_of}
+use Rattle.om_types.proofs.ShapeLemmas.{listed-map}
 use Rattle.om_types.specs.Table.{tag_with_part, head_with_parts}
-use Rattle.om_equal.proofs.AlikeClosure.{mapped_is}
 
 module _ {T U : Type 0} (f : T → U) (P : U → U → Type 0) where
   abbrev pub Through : T → T → Type 0
@@ -57,7 +57,7 @@ module _ {T U : Type 0} (f : T → U) (P : U → U → Type 0) where
       → SameTags P (map with_f tags) (map with_f others)
   tags-map tags others same = record {
     there = λ tag among.
-        let source = mapped_is with_f tags tag among in
+        let source = map-Contains with_f tags tag among in
         let found = same.there source.0 source.1 in (
           with_f found.0,
           Contains-map with_f others found.0 found.1,
@@ -65,7 +65,7 @@ module _ {T U : Type 0} (f : T → U) (P : U → U → Type 0) where
               (λ x. TagsAgree P x (with_f found.0)) source.2 (tag-map source.0 found.0 found.2),
         );
     back = λ other among.
-        let source = mapped_is with_f others other among in
+        let source = map-Contains with_f others other among in
         let found = same.back source.0 source.1 in (
           with_f found.0,
           Contains-map with_f tags found.0 found.1,
@@ -79,7 +79,7 @@ module _ {T U : Type 0} (f : T → U) (P : U → U → Type 0) where
   tags-unmap tags others same = record {
     there = λ tag among.
         let found = same.there (with_f tag) (Contains-map with_f tags tag among) in
-        let source = mapped_is with_f others found.0 found.1 in (
+        let source = map-Contains with_f others found.0 found.1 in (
           source.0,
           source.1,
           tag-unmap tag source.0 (subst (λ x. TagsAgree P (with_f tag) x)
@@ -87,7 +87,7 @@ module _ {T U : Type 0} (f : T → U) (P : U → U → Type 0) where
         );
     back = λ other among.
         let found = same.back (with_f other) (Contains-map with_f others other among) in
-        let source = mapped_is with_f tags found.0 found.1 in (
+        let source = map-Contains with_f tags found.0 found.1 in (
           source.0,
           source.1,
           tag-unmap source.0 other (subst (λ x. TagsAgree P x (with_f other))
@@ -129,17 +129,13 @@ module _ {T U : Type 0} (f : T → U) where
   append-map [] ys = refl
   append-map (x ∷ xs) ys = ap (λ all. f x ∷ all) (append-map xs ys)
 
-  listed-map : (t : Option T) → listed_if (option_map f t) ≡ map f (listed_if t)
-  listed-map None = refl
-  listed-map (Some t) = refl
-
   arguments-map : (tags : List (TagOf T))
       → parts_of (heads.Variants (map (tag_with_part f) tags)) ≡ map f
       (parts_of (heads.Variants tags))
   arguments-map [] = refl
   arguments-map (tag ∷ tags) =
       ap (λ all. listed_if (option_map f tag.argument) ++ all) (arguments-map tags)
-      ∙ ap (λ first. first ++ map f (parts_of (heads.Variants tags))) (listed-map tag.argument)
+      ∙ ap (λ first. first ++ map f (parts_of (heads.Variants tags))) (listed-map f tag.argument)
       ∙ sym (append-map (listed_if tag.argument) (parts_of (heads.Variants tags)))
 
   -- the parts of the head with other parts

@@ -34,8 +34,7 @@ use Rattle.om_types.specs.Shape.{record_shape, body_shape, datatype_shape, tag_s
 use Rattle.om_types.specs.Shape.{shape}
 use Rattle.om_types.specs.Fitting.{is_number, tag_with}
 use Rattle.om_types.specs.Equal.{Pairwise, ArgumentsAgree, SameTags, HeadsAgree, Holds, IsClosed}
-use Rattle.om_model.proofs.Options.{Contains-first, Contains-later, Contains-none, Contains-cases, Contains-map}
-use Rattle.om_equal.proofs.AlikeClosure.{mapped_is}
+use Rattle.om_model.proofs.Options.{Contains-first, Contains-later, Contains-none, Contains-cases, Contains-map, map-Contains}
 use Rattle.om_equal.proofs.AlikeLemmas.{Alike, instances_alike, arguments_alike}
 use Rattle.om_equal.proofs.NeedLemmas.{alike_heads, held_alike}
 use Rattle.om_equal.proofs.RankedLemmas.{are_ranked}
@@ -113,7 +112,7 @@ module _ (Likes : Ty → Ty → Type 0) (tags others : List (TagOf Ty))
   there : (a : PolyTag Ty) → Contains firsts a → (b : PolyTag Ty) × Contains seconds b
       × (b.hash ≡ a.hash) × ArgumentsAgree Likes a.arg b.arg
   there a among =
-      let source = mapped_is tag_shape tags a among in
+      let source = map-Contains tag_shape tags a among in
       let found = same.there source.0 source.1 in (
         tag_shape found.0,
         Contains-map tag_shape others found.0 found.1,
@@ -124,7 +123,7 @@ module _ (Likes : Ty → Ty → Type 0) (tags others : List (TagOf Ty))
   back : (b : PolyTag Ty) → Contains seconds b → (a : PolyTag Ty) × Contains firsts a
       × (a.hash ≡ b.hash)
   back b among =
-      let source = mapped_is tag_shape others b among in
+      let source = map-Contains tag_shape others b among in
       let found = same.back source.0 source.1 in (
         tag_shape found.0,
         Contains-map tag_shape tags found.0 found.1,

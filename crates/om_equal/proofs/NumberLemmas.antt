@@ -12,10 +12,10 @@ use Rattle.om_types.specs.Head.{head}
 use Rattle.om_types.specs.Equal.{HeadsAgree, Holds, Equal, EqualBy}
 use Rattle.om_types.specs.Reached.{parts_of}
 use Rattle.om_types.specs.Table.{head_with_parts, head_or_absent, head_at, AreHeadsOf}
-use Rattle.om_model.proofs.Options.{Contains-first, Contains-later, Contains-none, Contains-cases, Contains-map, Contains-flat_map}
+use Rattle.om_model.proofs.Options.{Contains-first, Contains-later, Contains-none, Contains-cases, Contains-map, Contains-flat_map, map-Contains}
 use Rattle.om_types.proofs.ListLemmas.{Contains-filter_mapped, filter_mapped_is}
 use Rattle.om_equal.proofs.AgreeLemmas.{HeadsAgree-more}
-use Rattle.om_equal.proofs.AlikeClosure.{mapped_is, flat_mapped_is}
+use Rattle.om_equal.proofs.AlikeClosure.{flat_mapped_is}
 use Rattle.om_equal.proofs.HeadMapLemmas.{Through, HeadsAgree-map, HeadsAgree-unmap, parts_of-map}
 use Rattle.om_equal.proofs.TableLemmas.{slice_get-mapped, mapped_some}
 use Rattle.om_equal.proofs.TyEquality.{types_same_or_not}
@@ -45,7 +45,7 @@ module _ (decls : List Decl) (types : List Ty) (all : List (HeadOf ℕ))
       let same = sym (parts_of-map (slice_get types) (head_at all i))
       ∙ ap (λ (h : HeadOf (Option Ty)). parts_of h) (head_is i u is)
       ∙ parts_of-map Some (head decls u) in
-      let found = mapped_is Some (parts_of (head decls u)) (slice_get types a)
+      let found = map-Contains Some (parts_of (head decls u)) (slice_get types a)
       (subst (λ ps. Contains ps (slice_get types a)) same numbers) in
       (found.0, found.1, sym found.2)
 
@@ -227,7 +227,7 @@ module _ (decls : List Decl) (types : List Ty) (all : List (HeadOf ℕ))
       let pair = flat_mapped_is numbered_pair pairs (i, j) held in
       let row = flat_mapped_is (λ k. map (λ l. (k, l)) (numbers_of pair.0.1)) (numbers_of pair.0.0)
       (i, j) pair.2 in
-      let item = mapped_is (λ l. (row.0, l)) (numbers_of pair.0.1) (i, j) row.2 in
+      let item = map-Contains (λ l. (row.0, l)) (numbers_of pair.0.1) (i, j) row.2 in
       let first : row.0 ≡ i = ap (λ (p : ℕ × ℕ). p.0) item.2 in
       let second : item.0 ≡ j = ap (λ (p : ℕ × ℕ). p.1) item.2 in (
         pair.0.0,

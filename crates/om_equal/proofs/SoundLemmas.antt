@@ -42,9 +42,10 @@ use Rattle.om_types.specs.Shape.{tag_shape}
 use Rattle.om_types.specs.Shape.{head_shape, shape, is_flat}
 use Rattle.om_types.specs.Reached.{listed_if, named_in, parts_of, reached_from, IsReached}
 use Rattle.om_types.specs.Table.{tag_with_part, head_with_parts}
-use Rattle.om_model.proofs.Options.{Contains-first, Contains-none, Contains-cases, Contains-flat_map}
+use Rattle.om_model.proofs.Options.{Contains-first, Contains-none, Contains-cases, Contains-flat_map, map-Contains}
+use Rattle.om_model.proofs.Lists.{Contains-place}
 use Rattle.om_types.proofs.ListLemmas.{filter_mapped_is}
-use Rattle.om_equal.proofs.AlikeClosure.{mapped_is, flat_mapped_is}
+use Rattle.om_equal.proofs.AlikeClosure.{flat_mapped_is}
 use Rattle.om_equal.proofs.HeadInstance.{includes_of, head-instance, tags_in-map, variants-map}
 use Rattle.om_equal.proofs.HeadInstance.{IsNoVariable}
 use Rattle.om_equal.proofs.HeadInstance.{no_variable, of_argument, unfolded_is}
@@ -208,9 +209,9 @@ module _ (decls : List Decl) (well : AreWellFormed decls) where
         (head decls t) → IsHashed decls t → IsHashed decls (instance value t)
     own_hashes t same hashed one other among among' equal =
         let tags = ap tags_in same ∙ tags_in-map (instance value) (head decls t) in
-        let first = mapped_is (tag_with_part (instance value)) (tags_in (head decls t)) one
+        let first = map-Contains (tag_with_part (instance value)) (tags_in (head decls t)) one
         (subst (λ all. Contains all one) tags among) in
-        let second = mapped_is (tag_with_part (instance value)) (tags_in (head decls t)) other
+        let second = map-Contains (tag_with_part (instance value)) (tags_in (head decls t)) other
         (subst (λ all. Contains all other) tags among') in
         let name_one : first.0.name ≡ one.name = ap (λ (x : TagOf Ty). x.name) first.2 in
         let name_other : second.0.name ≡ other.name = ap (λ (x : TagOf Ty). x.name) second.2 in
@@ -444,7 +445,7 @@ module _ (decls : List Decl) (well : AreWellFormed decls) where
     types_named : (types : List Ty) → ((t : Ty) → Contains types t → Sound t) → (a : Ty)
         → Contains (map (instance value) types) a → Sound a
     types_named types all a among =
-        let source = mapped_is (instance value) types a among in
+        let source = map-Contains (instance value) types a among in
         subst Sound source.2 (sound-instance value sound source.0 (all source.0 source.1))
 
     record_named : (fields : List Field) (flat : Bool)
@@ -503,7 +504,7 @@ module _ (decls : List Decl) (well : AreWellFormed decls) where
   tag_arguments tags a among =
       let poly = flat_mapped_is (λ (p : PolyTag Ty). listed_if p.arg) (map tag_shape tags) a
       among in
-      let source = mapped_is tag_shape tags poly.0 poly.1 in
+      let source = map-Contains tag_shape tags poly.0 poly.1 in
       Contains-flat_map (λ (item : TagOf Ty). listed_if item.argument) tags source.0 a source.1
       (subst (λ (p : PolyTag Ty). Contains (listed_if p.arg) a) (sym source.2) poly.2)
 
@@ -610,8 +611,8 @@ module _ (decls : List Decl) (well : AreWellFormed decls) where
   tags_hashed : (tags : List (TagOf Ty)) → HaveOwnHashes tags → AreDistinct tags
       → AreHashed (map tag_shape tags)
   tags_hashed tags hashed distinct one other among among' same =
-      let first = mapped_is tag_shape tags one among in
-      let second = mapped_is tag_shape tags other among' in
+      let first = map-Contains tag_shape tags one among in
+      let second = map-Contains tag_shape tags other among' in
       let hash = ap (λ (p : PolyTag Ty). p.hash) first.2 ∙ same
       ∙ sym (ap (λ (p : PolyTag Ty). p.hash) second.2) in
       let item = distinct first.0 second.0 first.1 second.1
@@ -650,17 +651,10 @@ module _ (decls : List Decl) (well : AreWellFormed decls) where
         reached_sound from.1 u (sound_below n from.0 from.1 (omega (arith, below, from.2)) from.3)
         from.4
 
-    listed_at : (us : List Ty) (u : Ty) → Contains us u → (k : ℕ) × (slice_get us k ≡ Some u)
-    listed_at [] u among = absurd (Contains-none u among)
-    listed_at (v ∷ us) u among = ⊎_elim
-        (λ here. (0, ap Some here))
-        (λ later. let found = listed_at us u later in (suc found.0, found.1))
-        (Contains-cases v us u among)
-
     -- each reached type is sound
     pub all_reached_sound : (u : Ty) → Contains types u → Sound u
     all_reached_sound u among =
-        let found = listed_at types u among in sound_below (suc found.0) found.0 u (omega arith)
+        let found = Contains-place types u among in sound_below (suc found.0) found.0 u (omega arith)
         found.1
 
     -- and its tags are known by their hashes

@@ -25,7 +25,7 @@ use Rattle.om_types.specs.LeastFault.{IsLeastFault}
 use Rattle.om_types.specs.Reached.{IsReached}
 use Rattle.om_types.specs.Table.{with_parts, Table, node_or_none, table_shapes, IsTableOf}
 use Rattle.om_types.specs.Lawful.{AreLawful, Everything}
-use Rattle.om_model.proofs.Options.{Contains-none, slice_get-Contains}
+use Rattle.om_model.proofs.Options.{Contains-none, slice_get-Contains, none_is_not_some}
 use Rattle.om_equal.proofs.LawfulLemmas.{reached_lawful}
 use Rattle.om_equal.proofs.NeedAgreement.{NeedsAgree, FieldsAgree, both_some, both_some_back}
 use Rattle.om_equal.proofs.NeedAgreement.{need_matched}
@@ -92,12 +92,6 @@ module _ {T U V : Type 0} (f : T → V) (g : U → V) where
 
 -- ---- fields by their numbers
 
-none_is : {X : Type 0} (found : Option X) → found ≡ None → IsSome found → ⊥
-none_is None is some = absurd_some some where
-  absurd_some : false ≡ true → ⊥
-  absurd_some some = cc
-none_is (Some x) is some = none-some x (sym is)
-
 needs_some : {T : Type 0} (needs : Option (List (ℕ × T))) (need : ℕ × T)
     → Contains (or_none needs) need → IsSome needs
 needs_some None need has = absurd (Contains-none need has)
@@ -112,10 +106,10 @@ object_of_variable (Some object) = refl
 
 variable_fits : (graph : List Obj) (v : Val) → IsSome (fields_of {T = ℕ} graph v shapes.Variable)
     → ⊥
-variable_fits graph (vals.Int z) fits = none_is {X = List (ℕ × ℕ)} None refl fits
-variable_fits graph (vals.Atom tag) fits = none_is {X = List (ℕ × ℕ)} None refl fits
+variable_fits graph (vals.Int z) fits = none_is_not_some {X = List (ℕ × ℕ)} None refl fits
+variable_fits graph (vals.Atom tag) fits = none_is_not_some {X = List (ℕ × ℕ)} None refl fits
 variable_fits graph (vals.Ref o) fits =
-    none_is (option_and_then (object_fields {T = ℕ} shapes.Variable) (slice_get graph o))
+    none_is_not_some (option_and_then (object_fields {T = ℕ} shapes.Variable) (slice_get graph o))
     (object_of_variable (slice_get graph o)) fits
 
 module _ {T U : Type 0} (one : Shapes T) (other : Shapes U) (Of : T → U → Type 0) (graph : List Obj)

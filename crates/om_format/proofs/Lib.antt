@@ -10,6 +10,7 @@ pub mod Pending
 pub mod RawLemmas
 pub mod ReadingLemmas
 pub mod References
+pub mod RootLemmas
 pub mod SpellCustoms
 pub mod SpellFacts
 pub mod SpellFields

@@ -22,7 +22,7 @@ use Rattle.om_format.proofs.SpellTokens.{EndsAt, FitsUpTo, FitsAfter, SpelledThe
 -- ---- pieces and their tokens
 
 -- the bytes of one more piece
-length-concat_push : (pieces : List (List ℕ)) (piece : List ℕ) → length (concat (pieces ++ piece ∷ [])) ≡ length (concat pieces) + length piece
+pub length-concat_push : (pieces : List (List ℕ)) (piece : List ℕ) → length (concat (pieces ++ piece ∷ [])) ≡ length (concat pieces) + length piece
 length-concat_push [] piece = omega (arith, length-append piece [])
 length-concat_push (p ∷ pieces) piece =
     omega (arith, length-append p (concat (pieces ++ piece ∷ [])), length-append p (concat pieces), length-concat_push pieces piece)
@@ -33,7 +33,7 @@ some_bytes t [] s = absurd s
 some_bytes t (code ∷ rest) s = omega arith
 
 -- tokens take as many bytes at least
-bytes_of_tokens : (ts : List Token) (pieces : List (List ℕ)) → AllZip Spells ts pieces → length ts ≤ length (concat pieces)
+pub bytes_of_tokens : (ts : List Token) (pieces : List (List ℕ)) → AllZip Spells ts pieces → length ts ≤ length (concat pieces)
 bytes_of_tokens [] pieces s = omega arith
 bytes_of_tokens (t ∷ ts) [] s = absurd s
 bytes_of_tokens (t ∷ ts) (piece ∷ pieces) s =
@@ -176,6 +176,13 @@ pub record SpelledTokens (header : List ℕ) (before : List (List ℕ)) (ms : Li
 pub IsToken-spelled : (t : Token) (piece : List ℕ) → Spells t piece → IsToken t
 IsToken-spelled t [] s = absurd s
 IsToken-spelled t (code ∷ rest) s = s.0
+
+pub IsToken-all_spelled :
+    (ts : List Token) (pieces : List (List ℕ)) → AllZip Spells ts pieces → All IsToken ts
+IsToken-all_spelled [] pieces s = All-nil IsToken
+IsToken-all_spelled (t ∷ ts) [] s = absurd s
+IsToken-all_spelled (t ∷ ts) (p ∷ pieces) s =
+    All-cons IsToken t ts (IsToken-spelled t p s.0) (IsToken-all_spelled ts pieces s.1)
 
 -- the first of bytes, and the others
 pub AreBytes-front : (xs ys : List ℕ) → AreBytes (xs ++ ys) → AreBytes xs

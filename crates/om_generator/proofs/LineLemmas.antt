@@ -1,5 +1,5 @@
 -- The line of a value is that of a tree of it.
-use Rattle.std.proofs.Common.{◌≡◌, ◌∙◌, ℕ, Bool, List, [], ◌∷◌, ◌++◌, length, inl, inr, ap, subst}
+use Rattle.std.proofs.Common.{◌≡◌, ◌∙◌, ℕ, Bool, List, [], ◌∷◌, ◌++◌, length, inl, inr, ap}
 use Rattle.om_model.specs.declared.value.Val.{Val}
 use Rattle.om_model.specs.declared.value.Obj.{Obj}
 use Rattle.om_model.specs.Graph.{IsValue}
@@ -9,15 +9,13 @@ use Rattle.om_canonical.proofs.Walk.{has_one_tree}
 use Rattle.om_heap.specs.Heap.{IsHeap}
 use Rattle.om_types.specs.TypeText.{type_text}
 use Rattle.om_same_type.specs.SameType.{DeclaredTypesAreKept, DeclaredLinesAreKept}
-use Rattle.om_outcome.specs.Outcome.{Said, the_verdict, line}
+use Rattle.om_outcome.specs.Outcome.{the_verdict, line}
 use Rattle.om_declared.specs.declared.types.Requested.{Requested}
-use Rattle.om_declared.specs.Language.{TypeOver, IsTypeLine, declared_types}
+use Rattle.om_declared.specs.Language.{TypeOver, IsTypeLine}
 use Rattle.om_declared.specs.Types.{type_over, IsReady}
 use Rattle.om_declared.proofs.GivenLemmas.{ready_each, ready_some_not}
-use Rattle.om_generate.specs.Generated.{generated}
 use Rattle.om_generate.specs.Line.{generated_text}
-use Rattle.om_generation.specs.Generation.{IsMadeLine}
-use Rattle.om_generator.specs.Lines.{making_of, IsGraphLine}
+use Rattle.om_generator.specs.Lines.{IsGraphLine}
 
 module _ (types : DeclaredTypesAreKept) (lines : DeclaredLinesAreKept) (r : Requested)
     (ready : IsReady r) where
@@ -55,16 +53,3 @@ module _ (types : DeclaredTypesAreKept) (lines : DeclaredLinesAreKept) (r : Requ
             verdict_kept g (objects_of one.tree 0) v (root one.tree 0) verdict well one.is.same is;
         text_is = put ∙ ap (λ (s : List ℕ). line s) (each one.tree one.is);
       }
-
--- the graph is the one that is made
-pub made_line_of :
-    (number count : ℕ) (r : Requested) (g : List Obj) (v : Val) (said : Said)
-    → (g, v) ≡ generated number count → IsGraphLine (type_over r) g v said
-    → IsMadeLine declared_types (making_of number count r) said
-made_line_of number count r g v said same l = record {
-  tree = l.tree;
-  is_tree = subst (λ (made : List Obj × Val). IsTreeOf made.0 made.1 l.tree) same l.is_tree;
-  verdict = l.verdict;
-  is_verdict = l.is_verdict;
-  text_is = l.text_is;
-}

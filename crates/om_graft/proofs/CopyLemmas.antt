@@ -11,15 +11,15 @@ use Rattle.om_model.specs.declared.value.Val.TheVariants as vals
 use Rattle.om_model.specs.declared.value.Obj.{Obj}
 use Rattle.om_model.specs.declared.value.Obj.TheVariants as objects
 use Rattle.om_model.specs.Graph.{IsValue, IsObject, IsGraph}
-use Rattle.om_format.specs.Tree.{Tree, root, objects_of, IsTree, ReferBack}
-use Rattle.om_format.specs.Iso.{AreAlike, AreAlikeObjects, IsPairing, Iso, IsTreeOf}
+use Rattle.om_format.specs.Tree.{root, objects_of}
+use Rattle.om_format.specs.Iso.{AreAlike, AreAlikeObjects, Iso}
+use Rattle.om_format.proofs.RootLemmas.{root_is_value}
 use Rattle.om_canonical.proofs.ListLemmas.{below, Contains-below, below-Contains, slice_get_right}
 use Rattle.om_canonical.proofs.IsoLemmas.{alike_at, same_symmetric, same_transitive}
-use Rattle.om_canonical.proofs.SameTree.{one_tree_only}
-use Rattle.om_canonical.proofs.TreeGraphs.{is_graph, is_root}
+use Rattle.om_canonical.proofs.TreeGraphs.{is_graph}
 use Rattle.om_canonical.proofs.Walk.{has_one_tree}
 use Rattle.om_graft.specs.Copies.{IsCopy, StandFrom, IsWithin, AreWithin, HasCopy}
-use Rattle.om_graft.specs.Laws.{CopiesAreTheSame, OneCopyFollows, CopiesAreClosed, HasOneCopy}
+use Rattle.om_graft.specs.Laws.{CopiesAreTheSame, OneCopyFollows, CopiesAreClosed}
 use Rattle.om_graft.proofs.ShiftLemmas.{later_value, later_object, root_later, objects_later}
 
 slice_get-map : (f : Obj → Obj) (xs : List Obj) (i : ℕ) (o : Obj) → slice_get xs i ≡ Some o → slice_get (map f xs) i ≡ Some (f o)
@@ -112,7 +112,7 @@ module _ (graph : List Obj) (v : Val) (c : ℕ) (copied : List Obj) (value : Val
       (subst (λ w. Iso other w own (root copy.tree 0)) (sym value_is)
       (moved_same c own other (is_graph copy.tree copy.is.is_tree copy.is.refers_back)
       (subst (λ all. StandFrom other c all) copied_is stand) (root copy.tree 0)
-      (is_root copy.tree copy.is.is_tree copy.is.refers_back)))
+      (root_is_value copy.tree copy.is.is_tree copy.is.refers_back)))
       (same_symmetric graph own v (root copy.tree 0) copy.is.same)
 
 pub copies_are_the_same_lem : CopiesAreTheSame
@@ -172,7 +172,7 @@ copies_are_closed graph v c copied value copy =
     let valid = is_graph copy.tree copy.is.is_tree copy.is.refers_back in
     subst (λ n. IsWithin c (c + n) value × All (AreWithin c (c + n)) copied) (sym count) (
       subst (IsWithin c (c + length all)) (sym top)
-          (value_within c (length all) (root copy.tree 0) (is_root copy.tree copy.is.is_tree copy.is.refers_back)),
+          (value_within c (length all) (root copy.tree 0) (root_is_value copy.tree copy.is.is_tree copy.is.refers_back)),
       subst (λ os. All (AreWithin c (c + length all)) os) (sym is)
           (All-from_recursion (AreWithin c (c + length all)) (map (later_object c) all)
           (objects_within c (length all) all (λ o has. All-contains (IsObject (length all)) all o valid has))),

@@ -10,5 +10,6 @@ pub mod FileLead
 pub mod FileStand
 pub mod FileTable
 pub mod LawLemmas
+pub mod LexemeLemmas
 pub mod Examples
 pub mod ReachedLemmas

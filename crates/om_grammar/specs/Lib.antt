@@ -1,5 +1,6 @@
 pub mod Grammar
 pub mod Depths
+pub mod Lexemes
 pub mod Refusals
 pub mod Machine
 pub mod Holes

@@ -7,7 +7,7 @@ use Rattle.std.proofs.lemmas.Bool.{false≢true, and_parts, cases_order}
 use Rattle.std.proofs.lemmas.List.Elements.{All-contains, All-weaker}
 use Rattle.std.proofs.lemmas.Option.{same_Some, none-some, get_or_from_slice_get, slice_get_within, slice_get-get_or}
 use Rattle.om_polyvar.specs.TagHash.{tag_hash}
-use Rattle.om_model.proofs.Options.{Contains-first, Contains-later, Contains-none, Contains-cases}
+use Rattle.om_model.proofs.Options.{Contains-first, Contains-later}
 use Rattle.om_types.specs.declared.decl.Predeclared.{Predeclared}
 use Rattle.om_types.specs.declared.decl.Decl.{Decl}
 use Rattle.om_types.specs.declared.head.TagOf.{TagOf}
@@ -19,6 +19,7 @@ use Rattle.om_types.specs.Declarations.{predeclared, declaration_of, instance_of
 use Rattle.om_types.specs.Head.{has_tag, with_tags, tags_in, bare_tag, carrying_tag, head_meant, with_part, plain_head, head_by, head_within, enough, head}
 use Rattle.om_types.specs.Table.{tag_with_part}
 use Rattle.std.specs.Borrow.{Bor}
+use Rattle.om_model.proofs.Lists.{slice_get-last, AllByRecursion-append, AllByRecursion-filter, AllByRecursion-Contains}
 use Rattle.om_store.specs.declared.node.TypeNode.{TypeNode}
 use Rattle.om_store.specs.declared.node.TypeNode.TheVariants as lent
 use Rattle.om_store.specs.Held.{Grows}
@@ -29,22 +30,6 @@ use Rattle.om_brackets.specs.Items.{Brings}
 use Rattle.om_head_rules.specs.Apart.{is_closed, TellsClosed, EachTag, alone, IsListed, AreListed, HasBody, NoneClash, AreApart, StandApart}
 
 -- ---- lists
-
-all_append : {X : Type 0} (P : X → Type 0) (xs ys : List X) → AllByRecursion P xs → AllByRecursion P ys → AllByRecursion P (xs ++ ys)
-all_append P [] ys h k = k
-all_append P (x ∷ xs) ys h k = (h.0, all_append P xs ys h.1 k)
-
-all_filter : {X : Type 0} (P : X → Type 0) (p : X → Bool) (xs : List X) → AllByRecursion P xs → AllByRecursion P (filter p xs)
-all_filter P p [] h = tt
-all_filter P p (x ∷ xs) h = by_test (p x) (all_filter P p xs h.1)
-  where
-    by_test : (b : Bool) → AllByRecursion P (filter p xs) → AllByRecursion P (cond b (x ∷ filter p xs) (filter p xs))
-    by_test true rest = (h.0, rest)
-    by_test false rest = rest
-
-all_contains : {X : Type 0} (P : X → Type 0) (xs : List X) (x : X) → AllByRecursion P xs → Contains xs x → P x
-all_contains P [] x h among = absurd (Contains-none x among)
-all_contains P (y ∷ ys) x h among = ⊎_elim (λ here. subst P here h.0) (λ later. all_contains P ys x h.1 later) (Contains-cases y ys x among)
 
 find_there : {X : Type 0} (p : X → Bool) (xs : List X) (x : X) → find p xs ≡ Some x → Contains xs x
 find_there p [] x e = absurd (none-some x e)
@@ -112,7 +97,7 @@ module _ (P : TagOf Ty → Type 0) (closed : (x : TagOf Ty) → P x → IfSome x
   each_part (named n) each = tt
   each_part tuple each = tt
   each_part bracket each = tt
-  each_part (part t a) each = all_append (EachTag P) (parts t) (a ∷ []) (each_part t each.0) (each.1, tt)
+  each_part (part t a) each = AllByRecursion-append (EachTag P) (parts t) (a ∷ []) (each_part t each.0) (each.1, tt)
   each_part (tag t x) each = tt
   each_part (tag_of t x a) each = tt
   each_part (including t a) each = tt
@@ -132,8 +117,8 @@ module _ (P : TagOf Ty → Type 0) (closed : (x : TagOf Ty) → P x → IfSome x
 
   with_tags_bring : (h : HeadOf Ty) (more : List (TagOf Ty)) → Bring h → AllByRecursion P more → Bring (with_tags h more)
   with_tags_bring (heads.Variants tags) more is all =
-      all_append P tags (filter (λ (x : TagOf Ty). not (has_tag tags x.name)) more) is
-      (all_filter P (λ (x : TagOf Ty). not (has_tag tags x.name)) more all)
+      AllByRecursion-append P tags (filter (λ (x : TagOf Ty). not (has_tag tags x.name)) more) is
+      (AllByRecursion-filter P (λ (x : TagOf Ty). not (has_tag tags x.name)) more all)
   with_tags_bring (heads.Variable x) more is all = tt
   with_tags_bring (heads.Predeclared b ts) more is all = tt
   with_tags_bring (heads.Datatype n ts) more is all = tt
@@ -296,14 +281,10 @@ module _ (decls : List Decl) (types : List Ty) (items : List Item) where
 
       bring : (k : ℕ) → k < length types → (x : TagOf Ty) → Contains (tags_in (head decls (type_at types k))) x → IsListed types items x
       bring k below x among =
-          all_contains (IsListed types items) (tags_in (head decls (type_at types k))) x
+          AllByRecursion-Contains (IsListed types items) (tags_in (head decls (type_at types k))) x
           (head_bring (IsListed types items) (λ x p. p.closed) decls body (type_at types k) (each k below)) among
 
 -- ---- one type after another
-
-get_last : {X : Type 0} (xs : List X) (x : X) → slice_get (xs ++ x ∷ []) (length xs) ≡ Some x
-get_last [] x = refl
-get_last (y ∷ ys) x = get_last ys x
 
 push_grows : {X : Type 0} (old new : List X) (x : X) → new ≡ old ++ x ∷ [] → Grows old new
 push_grows old new x is = record { added = x ∷ []; kept = is }
@@ -360,7 +341,7 @@ last_listed : (types : List Ty) (old new : List Item) (x : TagOf Ty) (number : T
 last_listed types old new x number is same closed = record {
   index = length old;
   number = number;
-  there = ap (λ xs. slice_get xs (length old)) is ∙ get_last old (alone number);
+  there = ap (λ xs. slice_get xs (length old)) is ∙ slice_get-last old (alone number);
   is = same;
   closed = closed;
 }

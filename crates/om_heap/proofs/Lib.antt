@@ -1,9 +1,10 @@
+pub mod FieldLemmas
 pub mod HeapLemmas
 pub mod WriteLemmas
 pub mod PlaceLemmas
 pub mod ReadLemmas
 mod WordLemmas
-mod StringLemmas
+pub mod StringLemmas
 mod CodeLemmas
 mod StoredLemmas
 mod NewLemmas

@@ -11,6 +11,7 @@ use Rattle.om_format.specs.Iso.{AreAlike, AreAlikeObjects}
 use Rattle.om_heap.specs.Heap.{fields_of, bytes_of, doubles_of, kind_of, custom_object, IsOfKind}
 use Rattle.om_model.specs.declared.code.Custom.{Custom}
 use Rattle.om_model.specs.declared.code.Custom.TheVariants as customs
+use Rattle.om_model.proofs.Lists.{AllZip-length}
 use Rattle.om_heap.specs.declared.kind.Kind.{Kind}
 use Rattle.om_heap.specs.declared.kind.Kind.TheVariants as kinds
 use Rattle.om_iso.specs.Paired.{IsNew, IsIndex}
@@ -85,16 +86,10 @@ fields_all old new vs ws i past past' met =
 
 -- ---- objects
 
-length_zip : {A B : Type 0} (R : A → B → Type 0) (xs : List A) (ys : List B) → AllZip R xs ys → length xs ≡ length ys
-length_zip R [] [] all = refl
-length_zip R [] (y ∷ ys) all = absurd all
-length_zip R (x ∷ xs) [] all = absurd all
-length_zip R (x ∷ xs) (y ∷ ys) all = ap suc (length_zip R xs ys all.1)
-
 -- objects that are alike are of one kind
 alike_kinds : (pairs : List (ℕ × ℕ)) (a b : Obj) → AreAlikeObjects pairs a b → kind_of a ≡ kind_of b
 alike_kinds pairs (objects.Block tag values) (objects.Block tag' values') alike =
-    ap (λ t. kinds.Block t (length values)) alike.0 ∙ ap (λ n. kinds.Block tag' n) (length_zip (AreAlike pairs) values values' alike.1)
+    ap (λ t. kinds.Block t (length values)) alike.0 ∙ ap (λ n. kinds.Block tag' n) (AllZip-length (AreAlike pairs) values values' alike.1)
 alike_kinds pairs (objects.Block tag values) b alike = absurd alike
 alike_kinds pairs (objects.Bytes bytes) b alike = ap kind_of alike
 alike_kinds pairs (objects.Double bits) b alike = ap kind_of alike

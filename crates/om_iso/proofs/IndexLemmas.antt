@@ -7,9 +7,10 @@ use Rattle.std.proofs.lemmas.List.Sums.{sum_by-set}
 use Rattle.std.proofs.lemmas.List.Elements.{Contains-push, Contains-push_cases}
 use Rattle.std.proofs.lemmas.Option.{same_Some, none-some, slice_get-get_or, slice_get-map}
 use Rattle.om_model.proofs.Options.{slice_get-Contains, same_or_not}
+use Rattle.om_model.proofs.Lists.{slice_get-append_left}
 use Rattle.om_iso.specs.Paired.{left_of, right_of, IsNew, IsIndex}
 use Rattle.om_iso.specs.Meeting.{AreOneToOne, AreMet, CannotMeet}
-use Rattle.om_canonical.proofs.ListLemmas.{slice_get_left, slice_get_push, slice_get_push_cases}
+use Rattle.om_canonical.proofs.ListLemmas.{slice_get_push, slice_get_push_cases}
 
 -- ---- what an index says
 
@@ -43,7 +44,7 @@ named_after table keys k i m index less (inl same) is =
     rw (place, same) (slice_get_push keys k)
 named_after table keys k i m index less (inr other) is =
     let before : get_or table m 0 ≡ suc i = sym (get_or-set_other table k m (length keys + 1) 0 other) ∙ is in
-    slice_get_left keys (k ∷ []) i m (index.named i m before)
+    slice_get-append_left keys (k ∷ []) i m (index.named i m before)
 
 found_after : (table keys : List ℕ) (k i m : ℕ) → IsIndex table keys → k < length table → IsNew keys k → (slice_get keys i ≡ Some m) ⊎ ((i ≡ length keys) × (m ≡ k)) → get_or (set table k (length keys + 1)) m 0 ≡ suc i
 found_after table keys k i m index less new (inl before) =

@@ -7,13 +7,13 @@ use Rattle.om_model.proofs.Options.{slice_get-Contains, Contains-none}
 use Rattle.om_model.specs.declared.value.Val.{Val}
 use Rattle.om_model.specs.declared.value.Obj.{Obj}
 use Rattle.om_model.specs.declared.value.Obj.TheVariants as objects
+use Rattle.om_model.proofs.Lists.{slice_get-append_left}
 use Rattle.om_format.specs.Iso.{AreAlike, AreAlikeObjects, IsPairing, Iso}
 use Rattle.om_heap.specs.Heap.{object_at}
 use Rattle.om_iso.specs.Meeting.{AreOneToOne, StandInFront, AreMet, CannotMeet}
 use Rattle.om_iso.specs.SoFar.{IsSoFar}
 use Rattle.om_iso.proofs.IndexLemmas.{pair_contained}
 use Rattle.om_iso.proofs.MeetingLemmas.{among_front}
-use Rattle.om_canonical.proofs.ListLemmas.{slice_get_left}
 use Rattle.om_canonical.proofs.IsoLemmas.{AreAlike-more, AreAlikeObjects-more, objects_of_pair, alike_at}
 
 -- the objects of a pair of a pairing are alike
@@ -36,12 +36,12 @@ done_more : (g h : List Obj) (v w : Val) (old new : List (ℕ × ℕ)) (n k l : 
 done_more g h v w old new n k l far at_n front alike i p q (inl less) below is =
     let inside : n < length old = slice_get_within old n (k, l) at_n in
     let was = slice_get-get_or old i (p, q) (omega arith) in
-    let moved : slice_get new i ≡ Some (get_or old i (p, q)) = subst (λ all. slice_get all i ≡ Some (get_or old i (p, q))) (sym front.1) (slice_get_left old front.0 i (get_or old i (p, q)) was) in
+    let moved : slice_get new i ≡ Some (get_or old i (p, q)) = subst (λ all. slice_get all i ≡ Some (get_or old i (p, q))) (sym front.1) (slice_get-append_left old front.0 i (get_or old i (p, q)) was) in
     let at_i : slice_get old i ≡ Some (p, q) = was ∙ sym moved ∙ is in
     AreAlikeObjects-more old new (object_at g p) (object_at h q) (among_front old new front) (far.done i p q less at_i)
 done_more g h v w old new n k l far at_n front alike i p q (inr past) below is =
     let here : i ≡ n = omega arith in
-    let moved : slice_get new n ≡ Some (k, l) = subst (λ all. slice_get all n ≡ Some (k, l)) (sym front.1) (slice_get_left old front.0 n (k, l) at_n) in
+    let moved : slice_get new n ≡ Some (k, l) = subst (λ all. slice_get all n ≡ Some (k, l)) (sym front.1) (slice_get-append_left old front.0 n (k, l) at_n) in
     let same : ◌≡◌ {A = ℕ × ℕ} (k, l) (p, q) = same_Some (k, l) (p, q) (sym moved ∙ ap (slice_get new) (sym here) ∙ is) in
     subst (λ (r : ℕ × ℕ). AreAlikeObjects new (object_at g r.0) (object_at h r.1)) same alike
 

@@ -2,7 +2,7 @@
 use Rattle.std.proofs.Common.{ℕ, ◌<◌, ◌≡◌, ◌∙◌, List, [], ◌∷◌, ◌++◌, length, map, Option, Some, None, refl, sym, ap, All, unwrap_or}
 use Rattle.std.specs.Prelude.{slice_get, option_map, IfSome}
 use Rattle.std.specs.List.{flat_map}
-use Rattle.std.proofs.lemmas.List.{map-id, map-append}
+use Rattle.std.proofs.lemmas.List.{map-id}
 use Rattle.std.proofs.lemmas.List.Elements.{All-nil, All-cons, All-head, All-tail}
 use Rattle.std.proofs.lemmas.Option.{unwrap_or-slice_get}
 use Rattle.om_types.specs.declared.shape.Constr.{Constr}
@@ -12,6 +12,7 @@ use Rattle.om_types.specs.declared.shape.ShapeOf.TheVariants as shapes
 use Rattle.om_types.specs.Ty.{Ty, tuple}
 use Rattle.om_types.specs.Nodes.{type_at}
 use Rattle.om_types.specs.Reached.{listed_if, named_in}
+use Rattle.om_types.proofs.ShapeLemmas.{named_in-map}
 use Rattle.om_types.specs.Table.{constr_with, tag_with_parts, with_parts}
 use Rattle.om_layout.specs.Layout.{IsShapeAt}
 use Rattle.om_layout.proofs.LayoutLemmas.{list_twice, below_found}
@@ -57,34 +58,6 @@ module _ {T : Type 0} where
   shape_itself (shapes.Product mutable ts) = ap (λ all. shapes.Product mutable all) (map-id ts)
   shape_itself (shapes.Poly tags) = ap (λ all. shapes.Poly all) (tags_themselves tags)
   shape_itself s = refl
-
--- ---- the types that a shape names
-
-module _ {T U : Type 0} (f : T → U) where
-  named_in-blocks : (blocks : List (Constr T))
-      → flat_map (λ (block : Constr U). block.fields) (map (constr_with f) blocks)
-      ≡ map f (flat_map (λ (block : Constr T). block.fields) blocks)
-  named_in-blocks [] = refl
-  named_in-blocks (block ∷ blocks) =
-      ap (λ ts. map f block.fields ++ ts) (named_in-blocks blocks)
-      ∙ sym (map-append f block.fields (flat_map (λ (b : Constr T). b.fields) blocks))
-
-  listed-map : (o : Option T) → listed_if (option_map f o) ≡ map f (listed_if o)
-  listed-map None = refl
-  listed-map (Some t) = refl
-
-  named_in-tags : (tags : List (PolyTag T))
-      → flat_map (λ (tag : PolyTag U). listed_if tag.arg) (map (tag_with_parts f) tags)
-      ≡ map f (flat_map (λ (tag : PolyTag T). listed_if tag.arg) tags)
-  named_in-tags [] = refl
-  named_in-tags (tag ∷ tags) =
-      (λ k. listed-map tag.arg k ++ named_in-tags tags k)
-      ∙ sym (map-append f (listed_if tag.arg) (flat_map (λ (t : PolyTag T). listed_if t.arg) tags))
-
-  named_in-map : (s : ShapeOf T) → named_in (with_parts f s) ≡ map f (named_in s)
-  named_in-map (shapes.Sum n blocks) = named_in-blocks blocks
-  named_in-map (shapes.Poly tags) = named_in-tags tags
-  named_in-map s = refl
 
 abbrev some : Ty → Option Ty
 some t = Some t

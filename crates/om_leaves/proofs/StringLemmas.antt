@@ -1,20 +1,21 @@
 -- The bytes of a string, from the words that have them.
 use Rattle.std.proofs.Common.{ℕ, zero, suc, ◌+◌, ◌-◌, ◌*◌, ◌/◌, ◌%◌, ◌<◌, ◌≤◌, ◌≡◌, ◌∙◌, inl, inr, List, [], ◌∷◌, ◌++◌, length, map, take, drop, get_or, replicate, refl, sym, ap, subst, append_assoc, arith}
-use Rattle.std.proofs.Common.{length-append, length-drop, length-take-le, take_all}
+use Rattle.std.proofs.Common.{length-drop, length-take-le, take_all}
 use Rattle.std.specs.Int.{w64, to_le_bytes}
 use Rattle.std.specs.List.{flat_map, range_with_len}
 use Rattle.std.proofs.Math.Seq.{take-add, take-append-add}
 use Rattle.std.proofs.lemmas.Bool.{cases_lt}
 use Rattle.std.proofs.lemmas.Grind.{flat_map-append}
 use Rattle.std.proofs.lemmas.Nat.{le_bytes_8}
-use Rattle.std.proofs.lemmas.List.{append-nil, take-append-le, length-replicate, get_or_past}
-use Rattle.std.proofs.lemmas.List.Elements.{All-append, All-replicate, All-cons, All-nil, All-take, All-drop}
-use Rattle.std.proofs.lemmas.List.FromFn.{length-map-range_with_len, map-range_with_len_more}
+use Rattle.std.proofs.lemmas.List.{append-nil, take-append-le, get_or_past}
+use Rattle.std.proofs.lemmas.List.Elements.{All-take, All-drop}
+use Rattle.std.proofs.lemmas.List.FromFn.{map-range_with_len_more}
 use Rattle.om_model.specs.declared.value.Obj.{Obj}
 use Rattle.om_model.specs.declared.value.Obj.TheVariants as objects
 use Rattle.om_model.specs.Bytes.{AreBytes}
 use Rattle.om_model.specs.Graph.{IsObject}
 use Rattle.om_heap.specs.Words.{body_of, padded, word_of_bytes, word_at, string_words}
+use Rattle.om_heap.proofs.StringLemmas.{length-padded, padded_bytes, length-string_words}
 
 abbrev bytes_in : ℕ → List ℕ
 bytes_in word = to_le_bytes w64 word
@@ -64,18 +65,6 @@ words_back bytes (suc m) valid few =
     ∙ word_back part (length-take-le 8 (drop (8 * m) bytes) (omega (arith, length-drop (8 * m) bytes))) (All-take (λ b. b < 256) 8 _ (All-drop (λ b. b < 256) (8 * m) bytes valid)))
     ∙ sym (take-add (8 * m) 8 bytes)
     ∙ ap (λ k. take k bytes) all
-
-padded_bytes : (bytes : List ℕ) → AreBytes bytes → AreBytes (padded bytes)
-padded_bytes bytes valid =
-    All-append (λ b. b < 256) bytes _ valid (All-append (λ b. b < 256) (replicate (7 - length bytes % 8) 0) _ (All-replicate (λ b. b < 256) (7 - length bytes % 8) 0 (omega arith)) (All-cons (λ b. b < 256) (7 - length bytes % 8) [] (omega arith) (All-nil (λ b. b < 256))))
-
-length-padded : (bytes : List ℕ) → length (padded bytes) ≡ 8 * (length bytes / 8 + 1)
-length-padded bytes =
-    omega (arith, length-append bytes (replicate (7 - length bytes % 8) 0 ++ (7 - length bytes % 8) ∷ []), length-append (replicate (7 - length bytes % 8) 0) ((7 - length bytes % 8) ∷ []), length-replicate {A = ℕ} (7 - length bytes % 8) 0)
-
-length-string_words : (bytes : List ℕ) → length (string_words bytes) ≡ length bytes / 8 + 1
-unfolding string_words
-length-string_words bytes = length-map-range_with_len (word_at (padded bytes)) 0 (length bytes / 8 + 1)
 
 string_back : (bytes : List ℕ) → AreBytes bytes → take (length bytes) (flat_map bytes_in (string_words bytes)) ≡ bytes
 unfolding string_words

@@ -10,7 +10,7 @@ use Rattle.om_types.specs.declared.shape.ShapeOf.{ShapeOf}
 use Rattle.om_grammar.specs.Refusals.{IsSyntax}
 use Rattle.om_grammar.proofs.LawLemmas.{one_tree, text_or_syntax, no_syntax}
 use Rattle.om_literal_grammar.specs.Literal.{Literal, labelled, again, label_kinds, literal_kinds}
-use Rattle.om_literal_grammar.specs.Nodes.{kinds_of}
+use Rattle.om_grammar.specs.Lexemes.{kinds_of}
 use Rattle.om_literal_grammar.proofs.LiteralTable.{literal_table}
 use Rattle.om_literal.specs.declared.fault.LiteralFault.{LiteralFault}
 use Rattle.om_literal.specs.declared.fault.LiteralFault.TheVariants as faults

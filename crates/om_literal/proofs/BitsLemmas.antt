@@ -11,7 +11,8 @@ use Rattle.om_lex.specs.declared.lexeme.Symbol.TheVariants as symbols
 use Rattle.om_grammar.specs.Grammar.{Kinds, Name, mark}
 use Rattle.om_literal_grammar.specs.declared.node.Node.{Node}
 use Rattle.om_literal_grammar.specs.Literal.{Head, Literal, labelled, again, integer, character, string, double, truth, unit, constant, applied, fields, tuple, empty_array, array, Parts, no_parts, more_parts, Rows, no_rows, more_rows, label_kinds, owner_kinds, literal_kinds}
-use Rattle.om_literal_grammar.specs.Nodes.{kinds_of, literal_nodes}
+use Rattle.om_grammar.specs.Lexemes.{kinds_of}
+use Rattle.om_literal_grammar.specs.Nodes.{literal_nodes}
 use Rattle.om_literal.specs.Starts.{bits_of, and_bits, bits_of_parts, bits_of_rows}
 use Rattle.om_literal.specs.Pending.{listed_parts, listed_rows}
 use Rattle.om_literal.specs.NodesOf.{nodes_of_parts}

@@ -11,7 +11,7 @@ use Rattle.om_lex.specs.Lexemes.{lower_name}
 use Rattle.om_grammar.specs.Grammar.{Kinds, Name, mark}
 use Rattle.om_literal_grammar.specs.declared.node.Node.{Node}
 use Rattle.om_literal_grammar.specs.Literal.{Head, Literal, labelled, fields, Rows, no_rows, more_rows, label_kinds, owner_kinds, row_start, literal_kinds, plain_kinds, rows_kinds}
-use Rattle.om_literal_grammar.specs.Nodes.{kinds_of}
+use Rattle.om_grammar.specs.Lexemes.{kinds_of}
 use Rattle.om_literal.specs.Starts.{names_of_rows}
 use Rattle.om_literal.specs.Pending.{listed_rows}
 use Rattle.om_literal.specs.NodesOf.{part_nodes, nodes_of_parts}

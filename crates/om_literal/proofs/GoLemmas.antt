@@ -8,7 +8,8 @@ use Rattle.om_heap.specs.Heap.{set_field}
 use Rattle.om_literal_grammar.specs.declared.node.Form.TheVariants as forms
 use Rattle.om_literal_grammar.specs.declared.node.Node.{Node}
 use Rattle.om_literal_grammar.specs.Literal.{Literal, labelled, again, Plain, integer, character, string, double, truth, unit, constant, applied, fields, tuple, empty_array, array, label_kinds, literal_kinds}
-use Rattle.om_literal_grammar.specs.Nodes.{kinds_of, literal_nodes}
+use Rattle.om_grammar.specs.Lexemes.{kinds_of}
+use Rattle.om_literal_grammar.specs.Nodes.{literal_nodes}
 use Rattle.om_literal.specs.declared.fault.LiteralFault.{LiteralFault}
 use Rattle.om_literal.specs.declared.fault.LiteralFault.TheVariants as faults
 use Rattle.om_literal.specs.declared.stack.Opened.{Opened}

@@ -7,11 +7,11 @@ use Rattle.om_model.specs.declared.value.Val.{Val}
 use Rattle.om_model.specs.declared.value.Obj.{Obj}
 use Rattle.om_model.specs.declared.value.Obj.TheVariants as objects
 use Rattle.om_heap.specs.Heap.{object_at, fields_of, with_field, set_field}
+use Rattle.om_heap.proofs.FieldLemmas.{length-set_field}
 use Rattle.om_grammar.specs.Grammar.{Kinds}
 use Rattle.om_literal_grammar.specs.Literal.{Literal}
 use Rattle.om_literal.specs.declared.stack.Opened.{Opened}
 use Rattle.om_literal.specs.Underway.{PartList, IsAdvanced, IsOpen, AreOpen}
-use Rattle.om_literal.proofs.PendingLemmas.{length-set_field}
 
 -- ---- an object's fields are as many as before
 

@@ -8,8 +8,10 @@ use Rattle.om_model.specs.declared.value.Val.TheVariants as vals
 use Rattle.om_model.specs.declared.value.Obj.{Obj}
 use Rattle.om_model.specs.declared.value.Obj.TheVariants as objects
 use Rattle.om_heap.specs.Heap.{object_at, fields_of, set_field}
+use Rattle.om_heap.proofs.FieldLemmas.{length-set_field, set_field-append}
 use Rattle.om_literal_grammar.specs.Literal.{Literal, labelled, Plain}
-use Rattle.om_literal_grammar.specs.Nodes.{kinds_of, literal_nodes}
+use Rattle.om_grammar.specs.Lexemes.{kinds_of}
+use Rattle.om_literal_grammar.specs.Nodes.{literal_nodes}
 use Rattle.om_literal.specs.declared.stack.Opened.{Opened}
 use Rattle.om_literal.specs.declared.text.Text.{Text}
 use Rattle.om_literal.specs.Reading.{Reading, Refusal, is_next, with_label, literal_read}
@@ -21,7 +23,7 @@ use Rattle.om_literal.specs.Pending.{Open, open_at, row_read, finished, put}
 use Rattle.om_literal.specs.NodesOf.{part_nodes, nodes_of_parts, nodes_to_come}
 use Rattle.om_literal.specs.Standing.{Stands, inner_parts}
 use Rattle.om_literal.specs.Underway.{PartList, IsAdvanced, if_open, IsWhole, IsInner, opens_with, IsOpen, AreOpen, IsUnderway}
-use Rattle.om_literal.proofs.PendingLemmas.{length-set_field, set_field-append, stepped, stepped_in, refused, popped}
+use Rattle.om_literal.proofs.PendingLemmas.{stepped, stepped_in, refused, popped}
 use Rattle.om_literal.proofs.StandingLemmas.{own_and_parts, literal_spelled}
 use Rattle.om_literal.proofs.OpenLemmas.{longer, kept_below, all_kept, more_parts_kept}
 

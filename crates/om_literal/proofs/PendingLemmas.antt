@@ -1,7 +1,7 @@
 -- One step of the reader: what comes of open blocks is what comes of them after the next part has begun.
-use Rattle.std.proofs.Common.{arith, set, get_or, refl, sym, ap, ◌∙◌}
+use Rattle.std.proofs.Common.{arith, refl, sym, ap, ◌∙◌}
 use Rattle.std.specs.Prelude.{ℕ, suc, ◌+◌, ◌<◌, ◌≡◌, true, if◌then◌else◌, Option, Result, Ok, Err, List, [], ◌∷◌, ◌++◌, length, pos, replicate}
-use Rattle.std.proofs.lemmas.List.{append_assoc, append-nil, length-append, length-replicate, length-set, set-append_left, get_or_append_left, set_at, get_or_at}
+use Rattle.std.proofs.lemmas.List.{append_assoc, append-nil, length-append, length-replicate, set_at}
 use Rattle.om_model.specs.declared.value.Val.{Val}
 use Rattle.om_model.specs.declared.value.Obj.{Obj}
 use Rattle.om_model.specs.declared.value.Val.TheVariants as vals
@@ -10,7 +10,8 @@ use Rattle.om_types.specs.declared.names.Names.{Names}
 use Rattle.om_types.specs.declared.shape.ShapeOf.{ShapeOf}
 use Rattle.om_lex.specs.declared.lexeme.Symbol.{Symbol}
 use Rattle.om_lex.specs.declared.lexeme.Symbol.TheVariants as symbols
-use Rattle.om_heap.specs.Heap.{with_field, set_field}
+use Rattle.om_heap.specs.Heap.{set_field}
+use Rattle.om_heap.proofs.FieldLemmas.{length-set_field, set_field-append, set_field_at}
 use Rattle.om_literal_grammar.specs.Literal.{Literal, Plain, integer, character, string, double, truth, unit, constant, applied, fields, tuple, empty_array, array, Parts, no_parts, more_parts, Rows, no_rows, more_rows, row_start, label_kinds, parts_kinds, rows_kinds, labelled}
 use Rattle.om_literal.specs.Reading.{Reading, Refusal, reading, added, and_next, literal_read, inside, parts_read, rows_read, is_next, with_label, begun, block_read, label_at}
 use Rattle.om_literal.specs.Pending.{listed_parts, listed_rows, parts_of, fill, Open, then_row, open_at, row_read, finished, put}
@@ -145,19 +146,6 @@ module _ {T : Type 0} (shape : T → ShapeOf T) (names : T → Names) where
   inside_row k (array ps v) c labels types = and_last (listed_parts symbols.Semicolon _ ps) _ v c labels types _ (parts_row symbols.Semicolon _ ps c labels types)
 
 -- ---- fields
-
-pub length-set_field : (all : List Obj) (b i : ℕ) (v : Val) → length (set_field all b i v) ≡ length all
-length-set_field all b i v = length-set all b (with_field (get_or all b (objects.I32 (pos 0))) i v)
-
-pub set_field-append : (xs ys : List Obj) (b i : ℕ) (v : Val) → b < length xs → set_field (xs ++ ys) b i v ≡ set_field xs b i v ++ ys
-set_field-append xs ys b i v h =
-    ap (λ o. set (xs ++ ys) b (with_field o i v)) (get_or_append_left xs ys (objects.I32 (pos 0)) b h)
-    ∙ set-append_left xs ys b (with_field (get_or xs b (objects.I32 (pos 0))) i v) h
-
-pub set_field_at : (xs : List Obj) (tag : ℕ) (values : List Val) (b i : ℕ) (v : Val) → length xs ≡ b → set_field (xs ++ objects.Block tag values ∷ []) b i v ≡ xs ++ objects.Block tag (set values i v) ∷ []
-set_field_at xs tag values b i v e =
-    ap (λ o. set (xs ++ objects.Block tag values ∷ []) b (with_field o i v)) (get_or_at xs (objects.Block tag values) [] (objects.I32 (pos 0)) b e)
-    ∙ set_at xs (objects.Block tag values) [] (objects.Block tag (set values i v)) b e
 
 pub fill-append : (xs ys : List Obj) (b i : ℕ) (values : List Val) → b < length xs → fill (xs ++ ys) b i values ≡ fill xs b i values ++ ys
 fill-append xs ys b i [] h = refl

@@ -9,7 +9,8 @@ use Rattle.om_lex.specs.declared.lexeme.Symbol.{Symbol}
 use Rattle.om_lex.specs.declared.lexeme.Symbol.TheVariants as symbols
 use Rattle.om_grammar.specs.Grammar.{Kinds, mark}
 use Rattle.om_literal_grammar.specs.Literal.{Head, upper_head, tag_head, cons_head, empty_head, ref_head, Literal, labelled, again, Plain, integer, character, string, double, truth, unit, constant, applied, fields, tuple, empty_array, array, Parts, no_parts, more_parts, Rows, no_rows, more_rows, label_kinds, head_kinds, owner_kinds, row_start, literal_kinds, plain_kinds, parts_kinds, rows_kinds}
-use Rattle.om_literal_grammar.specs.Nodes.{kinds_of, literal_nodes}
+use Rattle.om_grammar.specs.Lexemes.{kinds_of}
+use Rattle.om_literal_grammar.specs.Nodes.{literal_nodes}
 use Rattle.om_literal.specs.Leaves.{lead_of}
 use Rattle.om_literal.specs.Pending.{listed_parts, listed_rows, parts_of}
 use Rattle.om_literal.specs.NodesOf.{nodes_of_parts}

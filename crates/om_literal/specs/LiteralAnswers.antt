@@ -12,7 +12,7 @@ use Rattle.om_types.specs.Table.{node_or_none}
 use Rattle.om_type_table.specs.declared.table.TypeTable.{TypeTable}
 use Rattle.om_grammar.specs.Refusals.{IsSyntax}
 use Rattle.om_literal_grammar.specs.Literal.{Literal, literal_kinds}
-use Rattle.om_literal_grammar.specs.Nodes.{kinds_of}
+use Rattle.om_grammar.specs.Lexemes.{kinds_of}
 use Rattle.om_literal.specs.Reading.{Refusal, misfit_at, int_range_at, label_at, IsRead, IsRefused}
 
 -- where a lexeme begins, or the end

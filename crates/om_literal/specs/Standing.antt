@@ -9,7 +9,8 @@ use Rattle.om_grammar.specs.Grammar.{Kinds}
 use Rattle.om_literal_grammar.specs.declared.node.Form.TheVariants as forms
 use Rattle.om_literal_grammar.specs.declared.node.Node.{Node}
 use Rattle.om_literal_grammar.specs.Literal.{Head, Literal, labelled, again, Plain, integer, character, string, double, truth, unit, constant, applied, fields, tuple, empty_array, array, label_kinds, truth_name, literal_kinds}
-use Rattle.om_literal_grammar.specs.Nodes.{kinds_of, node, literal_nodes}
+use Rattle.om_grammar.specs.Lexemes.{kinds_of}
+use Rattle.om_literal_grammar.specs.Nodes.{node, literal_nodes}
 use Rattle.om_literal.specs.Leaves.{lead_of}
 use Rattle.om_literal.specs.Pending.{parts_of}
 use Rattle.om_literal.specs.NodesOf.{form_of}

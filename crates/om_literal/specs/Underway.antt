@@ -10,7 +10,8 @@ use Rattle.om_heap.specs.Heap.{object_at, fields_of}
 use Rattle.om_type_table.specs.declared.table.TypeTable.{TypeTable}
 use Rattle.om_grammar.specs.Grammar.{Kinds}
 use Rattle.om_literal_grammar.specs.Literal.{Literal, labelled, Plain, literal_kinds}
-use Rattle.om_literal_grammar.specs.Nodes.{kinds_of, literal_nodes}
+use Rattle.om_grammar.specs.Lexemes.{kinds_of}
+use Rattle.om_literal_grammar.specs.Nodes.{literal_nodes}
 use Rattle.om_literal.specs.declared.fault.LiteralFault.{LiteralFault}
 use Rattle.om_literal.specs.declared.fault.LiteralFault.TheVariants as faults
 use Rattle.om_literal.specs.declared.stack.Opened.{Opened}

@@ -3,7 +3,7 @@
 ghost use Rattle.std.specs.Prelude.{ℕ, ◌≡◌, ◌+◌, ◌<◌, ◌≤◌, [], Some, Option, length, take, drop, slice_get, option_map, IfOk};
 ghost use Rattle.om_grammar.specs.Grammar.{Name};
 ghost use Rattle.om_literal_grammar.specs.Literal.{Literal, labelled, Parts, Rows, array, fields};
-ghost use Rattle.om_literal_grammar.specs.Nodes.{kinds_of};
+ghost use Rattle.om_grammar.specs.Lexemes.{kinds_of};
 ghost use Rattle.om_literal.specs.Bits.{double_in, bits_of_node, bits_of_nodes};
 ghost use Rattle.om_literal.specs.Standing.{Stands};
 ghost use Rattle.om_literal.specs.Starts.{bits_of, and_bits, bits_of_parts, bits_of_rows};

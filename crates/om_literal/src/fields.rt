@@ -3,7 +3,7 @@
 ghost use Rattle.std.specs.Prelude.{ℕ, ◌≡◌, ◌<◌, ◌++◌, ◌∷◌, [], Option, length, map, IfOk};
 ghost use Rattle.om_grammar.specs.Grammar.{Name};
 ghost use Rattle.om_literal_grammar.specs.Literal.{Head, Literal, labelled, Rows, fields};
-ghost use Rattle.om_literal_grammar.specs.Nodes.{kinds_of};
+ghost use Rattle.om_grammar.specs.Lexemes.{kinds_of};
 ghost use Rattle.om_literal.specs.Ends.{AreEnds};
 ghost use Rattle.om_literal.specs.FieldNames as specs;
 ghost use Rattle.om_literal.specs.Standing.{Stands};

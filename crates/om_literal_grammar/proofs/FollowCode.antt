@@ -16,7 +16,8 @@ use Rattle.om_literal_grammar.specs.declared.open.Open.{Open}
 use Rattle.om_literal_grammar.specs.declared.open.Stage.{Stage}
 use Rattle.om_literal_grammar.specs.declared.open.Stage.TheVariants as stages
 use Rattle.om_literal_grammar.specs.Literal.{Head, ref_head, Literal, labelled, again, truth, constant, Parts, no_parts, more_parts, Rows, no_rows, more_rows, label_kinds, true_name, false_name, ref_name, head_kinds, owner_kinds, row_start, literal_kinds, parts_kinds, rows_kinds}
-use Rattle.om_literal_grammar.specs.Machine.{Frame, in_arguments, in_parens, in_array, in_fields, Phase, due, hash_read, number_read, plain_due, bracket_read, head_read, field_due, name_read, whole, State, at, number_of, read, begin_plain, close_unit, close_empty, begin, close_arguments, close_tuple, close_parens, close_array, close_fields, close, step, frame_kinds, frames_front, front}
+use Rattle.om_grammar.specs.Lexemes.{number_of}
+use Rattle.om_literal_grammar.specs.Machine.{Frame, in_arguments, in_parens, in_array, in_fields, Phase, due, hash_read, number_read, plain_due, bracket_read, head_read, field_due, name_read, whole, State, at, read, begin_plain, close_unit, close_empty, begin, close_arguments, close_tuple, close_parens, close_array, close_fields, close, step, frame_kinds, frames_front, front}
 use Rattle.om_literal_grammar.specs.Nodes.{node, count, rows_count, literal_nodes, parts_nodes, rows_nodes}
 use Rattle.om_literal_grammar.specs.Code.{Code, code, next_number, with_part, with_form, opened, begun_as, begin_plain_code, close_unit_code, close_empty_code, begin_code, close_code, close_arguments_code, close_parens_code, close_array_code, close_fields_code, shut_tuple_code, step_code}
 

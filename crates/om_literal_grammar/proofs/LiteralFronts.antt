@@ -1,16 +1,16 @@
 -- What a state has read grows by the lexeme that the table takes.
 use Rattle.std.proofs.Common.{ℕ, ◌≡◌, ◌∙◌, Bool, true, false, List, [], ◌∷◌, ◌++◌, Option, Some, None, refl, sym, ap, append_assoc, append-nil}
-use Rattle.std.specs.Prelude.{ℤ, pos, IfSome, option_map, if◌then◌else◌}
+use Rattle.std.specs.Prelude.{IfSome, option_map, if◌then◌else◌}
 use Rattle.std.specs.Str.{bytes_eq}
 use Rattle.std.proofs.lemmas.Slice.Eq.{bytes_eq-Decides}
 use Rattle.om_lex.specs.declared.lexeme.LexemeKind.{LexemeKind}
 use Rattle.om_lex.specs.declared.lexeme.LexemeKind.TheVariants as kinds
-use Rattle.om_lex.specs.declared.lexeme.Suffix.{Suffix}
-use Rattle.om_lex.specs.declared.lexeme.Suffix.TheVariants as suffixes
 use Rattle.om_lex.specs.declared.lexeme.Symbol.TheVariants as symbols
 use Rattle.om_grammar.specs.Grammar.{Name, Kinds, mark, lower}
-use Rattle.om_literal_grammar.specs.Literal.{Head, ref_head, Literal, labelled, again, truth, constant, Parts, no_parts, more_parts, Rows, label_kinds, number, reference, true_name, false_name, ref_name, head_kinds, owner_kinds, row_start, literal_kinds, parts_kinds, rows_kinds}
-use Rattle.om_literal_grammar.specs.Machine.{Frame, in_arguments, in_parens, in_array, in_fields, due, hash_read, number_read, plain_due, bracket_read, head_read, field_due, name_read, whole, State, at, plain_number, number_of, read, begin_plain, close_unit, close_empty, begin, close_arguments, close_tuple, close_parens, close_array, close_fields, close, after_number, after_bracket, after_head, take_name, take_equals, step, frame_kinds, frames_front, front}
+use Rattle.om_literal_grammar.specs.Literal.{Head, ref_head, Literal, labelled, again, truth, constant, Parts, no_parts, more_parts, Rows, label_kinds, reference, true_name, false_name, ref_name, head_kinds, owner_kinds, row_start, literal_kinds, parts_kinds, rows_kinds}
+use Rattle.om_grammar.specs.Lexemes.{number_of}
+use Rattle.om_grammar.proofs.LexemeLemmas.{number_is}
+use Rattle.om_literal_grammar.specs.Machine.{Frame, in_arguments, in_parens, in_array, in_fields, due, hash_read, number_read, plain_due, bracket_read, head_read, field_due, name_read, whole, State, at, read, begin_plain, close_unit, close_empty, begin, close_arguments, close_tuple, close_parens, close_array, close_fields, close, after_number, after_bracket, after_head, take_name, take_equals, step, frame_kinds, frames_front, front}
 
 abbrev FitsAfter : Kinds → LexemeKind → Option State → Type 0
 FitsAfter before kind o = IfSome o (λ next. front next ≡ before ++ kind ∷ [])
@@ -46,15 +46,6 @@ one_longer : (L B X E : Kinds) → L ++ (B ++ (X ++ E)) ≡ (L ++ (B ++ X)) ++ E
 one_longer L B X E = simp append_assoc
 
 -- ---- what a number is
-
-plain_is : (minus : Bool) (value : ℤ) (suffix : Suffix) (n : ℕ) → plain_number minus value suffix ≡ Some n →
-    kinds.Integer (record { minus = minus; value = value; suffix = suffix }) ≡ number n
-plain_is false (pos m) suffixes.Absent n h = let e : m ≡ n = cc in ap number e
-plain_is minus value suffix n h = absurd (cc)
-
-number_is : (kind : LexemeKind) (n : ℕ) → number_of kind ≡ Some n → kind ≡ number n
-number_is (kinds.Integer i) n h = plain_is i.minus i.value i.suffix n h
-number_is kind n h = absurd (cc)
 
 -- ---- what begins
 

@@ -4,10 +4,12 @@ use Rattle.std.specs.Prelude.{IfSome}
 use Rattle.om_lex.specs.declared.lexeme.LexemeKind.{LexemeKind}
 use Rattle.om_lex.specs.declared.lexeme.Symbol.TheVariants as symbols
 use Rattle.om_grammar.specs.Grammar.{Kinds, mark, lower}
-use Rattle.om_grammar.specs.Refusals.{opened, open_after}
+use Rattle.om_grammar.specs.Refusals.{open_after}
 use Rattle.om_grammar.specs.Machine.{Leads, stop, go}
 use Rattle.om_grammar.proofs.TableLemmas.{Adds, Completes, Reads}
-use Rattle.om_literal_grammar.specs.Literal.{Literal, labelled, again, unit, constant, applied, fields, tuple, array, no_parts, more_parts, label_kinds, number, row_start, head_kinds, owner_kinds, literal_kinds, parts_kinds, rows_kinds, empty_head}
+use Rattle.om_grammar.specs.Lexemes.{number}
+use Rattle.om_grammar.proofs.LexemeLemmas.{open_more}
+use Rattle.om_literal_grammar.specs.Literal.{Literal, labelled, again, unit, constant, applied, fields, tuple, array, no_parts, more_parts, label_kinds, row_start, head_kinds, owner_kinds, literal_kinds, parts_kinds, rows_kinds, empty_head}
 use Rattle.om_literal_grammar.specs.Machine.{Frame, in_arguments, in_parens, in_array, in_fields, Phase, due, hash_read, number_read, plain_due, bracket_read, head_read, field_due, name_read, whole, State, at, start, step, accepted, frame_kinds, frames_front, phase_kinds, front, zeros, ends}
 use Rattle.om_literal_grammar.proofs.LiteralFronts.{step_fronts, shut}
 use Rattle.om_literal_grammar.proofs.LiteralGoes.{Goes, stay, go_on, read_in, literal_goes}
@@ -19,10 +21,6 @@ none s = 0
 -- the brackets that are open
 abbrev pub brackets : State → ℕ
 brackets s = open_after 0 (front s)
-
-open_more : (n : ℕ) (xs : Kinds) (kind : LexemeKind) → open_after n (xs ++ kind ∷ []) ≡ opened kind (open_after n xs)
-open_more n [] kind = refl
-open_more n (x ∷ xs) kind = open_more (opened x n) xs kind
 
 adds_if : (s : State) (kind : LexemeKind) (o : Option State) → IfSome o (λ next. front next ≡ front s ++ kind ∷ []) →
     IfSome o (λ next. Adds front brackets (front s) (brackets s) kind next)

@@ -16,7 +16,7 @@ use Rattle.om_literal_grammar.specs.declared.open.Stage.TheVariants as stages
 use Rattle.om_literal_grammar.specs.declared.placed.PlacedFault.{PlacedFault}
 use Rattle.om_literal_grammar.specs.declared.placed.PlacedFault.TheVariants as faults
 use Rattle.om_literal_grammar.specs.Machine.{start, step}
-use Rattle.om_literal_grammar.specs.Nodes.{kinds_of}
+use Rattle.om_grammar.specs.Lexemes.{kinds_of}
 use Rattle.om_literal_grammar.specs.Code.{step_code, end_code, Steps}
 use Rattle.om_literal_grammar.specs.Placed.{lexemes_at, StopsAt, IsLexed, Stopped, IsPlacedFault, IsPlaced}
 use Rattle.om_literal_grammar.proofs.ReadLemmas.{Reached, begins, goes_at, stops_at, is_tree_where, ends_early_where}

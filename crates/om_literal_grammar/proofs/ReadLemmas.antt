@@ -1,5 +1,5 @@
 -- What the code has reached at a lexeme, and what follows at the end.
-use Rattle.std.proofs.Common.{ℕ, zero, suc, ◌^◌, ◌≡◌, ◌∙◌, ◌<◌, List, [], ◌∷◌, ◌++◌, length, take, get_or, Option, Some, None, refl, sym, ap, subst, ⊎_elim, arith, append_assoc, append-nil}
+use Rattle.std.proofs.Common.{ℕ, suc, ◌^◌, ◌≡◌, ◌∙◌, ◌<◌, List, [], ◌∷◌, ◌++◌, length, take, get_or, Option, Some, None, refl, sym, ap, subst, ⊎_elim, arith, append_assoc, append-nil}
 use Rattle.std.specs.Prelude.{Bool, true, false, if◌then◌else◌, Result, Ok, Err, IfOk, IfErr, IfSome, option_map, option_and_then}
 use Rattle.om_lex.specs.declared.lexeme.Lexeme.{Lexeme}
 use Rattle.om_grammar.specs.Grammar.{Kinds}
@@ -15,21 +15,13 @@ use Rattle.om_literal_grammar.specs.declared.open.Stage.{Stage}
 use Rattle.om_literal_grammar.specs.declared.open.Stage.TheVariants as stages
 use Rattle.om_literal_grammar.specs.Literal.{Literal, literal_kinds}
 use Rattle.om_literal_grammar.specs.Machine.{due, hash_read, number_read, plain_due, bracket_read, head_read, field_due, name_read, whole, State, at, start, step, accepted, front}
-use Rattle.om_literal_grammar.specs.Nodes.{kinds_of, literal_nodes, IsTreeOf, IsTreeFault, GivesTree, GivesSyntax}
+use Rattle.om_grammar.specs.Lexemes.{kinds_of}
+use Rattle.om_grammar.proofs.LexemeLemmas.{kinds_length, kinds_next}
+use Rattle.om_literal_grammar.specs.Nodes.{literal_nodes, IsTreeOf, IsTreeFault, GivesTree, GivesSyntax}
 use Rattle.om_literal_grammar.specs.Code.{Code, code, step_code, end_code, Steps}
 use Rattle.om_literal_grammar.proofs.LiteralFronts.{step_fronts}
 use Rattle.om_literal_grammar.proofs.LiteralTable.{literal_table}
 use Rattle.om_literal_grammar.proofs.FollowCode.{code_of, coded, step_follows}
-
-kinds_length : (lexemes : List Lexeme) → length (kinds_of lexemes) ≡ length lexemes
-kinds_length [] = refl
-kinds_length (l ∷ rest) = ap suc (kinds_length rest)
-
-kinds_next : (lexemes : List Lexeme) (place : ℕ) (l : Lexeme) → place < length lexemes → l ≡ get_or lexemes place l →
-    take (suc place) (kinds_of lexemes) ≡ take place (kinds_of lexemes) ++ l.kind ∷ []
-kinds_next [] place l h e = absurd (omega arith)
-kinds_next (m ∷ rest) zero l h e = ap (λ (x : Lexeme). x.kind ∷ []) (sym e)
-kinds_next (m ∷ rest) (suc place) l h e = ap (λ ks. m.kind ∷ ks) (kinds_next rest place l (omega arith) e)
 
 run_front : (xs : Kinds) (s t : State) → run step s xs ≡ Some t → front t ≡ front s ++ xs
 run_front [] s t h = let e : s ≡ t = cc in ap front (sym e) ∙ sym (append-nil (front s))

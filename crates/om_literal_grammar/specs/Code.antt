@@ -14,7 +14,7 @@ use Rattle.om_literal_grammar.specs.declared.open.Open.{Open}
 use Rattle.om_literal_grammar.specs.declared.open.Stage.{Stage}
 use Rattle.om_literal_grammar.specs.declared.open.Stage.TheVariants as stages
 use Rattle.om_literal_grammar.specs.Literal.{true_name, false_name, ref_name}
-use Rattle.om_literal_grammar.specs.Machine.{number_of}
+use Rattle.om_grammar.specs.Lexemes.{number_of}
 
 pub data Code : Type 0 where
   code : (nodes : List Node) (opens : List Open) (stage : Stage) → Code

@@ -1,12 +1,11 @@
 -- The grammar of literals, that is of values as texts. A tree has a case for each production.
-use Rattle.std.specs.Prelude.{ℕ, pos, Bool, true, false, Option, Some, None, List, [], ◌∷◌, ◌++◌, codes}
-use Rattle.om_lex.specs.declared.lexeme.LexemeKind.{LexemeKind}
+use Rattle.std.specs.Prelude.{ℕ, Bool, true, false, Option, Some, None, List, [], ◌∷◌, ◌++◌, codes}
 use Rattle.om_lex.specs.declared.lexeme.LexemeKind.TheVariants as kinds
 use Rattle.om_lex.specs.declared.lexeme.Integer.{Integer}
-use Rattle.om_lex.specs.declared.lexeme.Suffix.TheVariants as suffixes
 use Rattle.om_lex.specs.declared.lexeme.Symbol.{Symbol}
 use Rattle.om_lex.specs.declared.lexeme.Symbol.TheVariants as symbols
 use Rattle.om_grammar.specs.Grammar.{Name, Kinds, mark, lower}
+use Rattle.om_grammar.specs.Lexemes.{number}
 
 -- what stands before arguments and fields, or alone
 pub data Head : Type 0 where
@@ -50,10 +49,6 @@ mutual
     more_rows : Rows → Name → Literal → Rows
 
 -- ---- what they spell
-
--- a number without sign and suffix
-abbrev pub number : ℕ → LexemeKind
-number n = kinds.Integer (record { minus = false; value = pos n; suffix = suffixes.Absent })
 
 -- `#k`
 abbrev pub reference : ℕ → Kinds

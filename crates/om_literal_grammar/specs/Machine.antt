@@ -1,13 +1,12 @@
 -- The table that reads a literal's lexemes one by one: what is open, the innermost first, and what
 -- was read in it last.
-use Rattle.std.specs.Prelude.{ℕ, ℤ, pos, Bool, true, false, if◌then◌else◌, Option, Some, None, option_map, List, [], ◌∷◌, ◌++◌, map}
+use Rattle.std.specs.Prelude.{ℕ, true, false, if◌then◌else◌, Option, Some, None, option_map, List, [], ◌∷◌, ◌++◌, map}
 use Rattle.std.specs.Str.{bytes_eq}
 use Rattle.om_lex.specs.declared.lexeme.LexemeKind.{LexemeKind}
 use Rattle.om_lex.specs.declared.lexeme.LexemeKind.TheVariants as kinds
-use Rattle.om_lex.specs.declared.lexeme.Suffix.{Suffix}
-use Rattle.om_lex.specs.declared.lexeme.Suffix.TheVariants as suffixes
 use Rattle.om_lex.specs.declared.lexeme.Symbol.TheVariants as symbols
 use Rattle.om_grammar.specs.Grammar.{Name, Kinds, mark}
+use Rattle.om_grammar.specs.Lexemes.{number_of}
 use Rattle.om_literal_grammar.specs.Literal.{Head, upper_head, tag_head, cons_head, empty_head, ref_head, Literal, labelled, again, Plain, integer, character, string, double, truth, unit, constant, applied, fields, tuple, empty_array, array, Parts, no_parts, more_parts, Rows, no_rows, more_rows, reference, label_kinds, true_name, false_name, ref_name, head_kinds, owner_kinds, row_start, literal_kinds, parts_kinds, rows_kinds}
 
 -- what stands round a literal, with its label and the parts before
@@ -37,14 +36,6 @@ abbrev pub start : State
 start = at [] due
 
 -- ---- the table
-
-abbrev pub plain_number : Bool → ℤ → Suffix → Option ℕ
-plain_number false (pos n) suffixes.Absent = Some n
-plain_number minus value suffix = None
-
-abbrev pub number_of : LexemeKind → Option ℕ
-number_of (kinds.Integer i) = plain_number i.minus i.value i.suffix
-number_of kind = None
 
 abbrev pub read : List Frame → Option ℕ → Plain → Option State
 read fs l p = Some (at fs (whole (labelled l p)))

@@ -1,10 +1,11 @@
 -- A literal as a row of nodes, each before its parts, in the order of their first lexemes.
-use Rattle.std.specs.Prelude.{ℕ, suc, ◌+◌, ◌≡◌, ◌<◌, Option, Some, Result, Ok, Err, List, [], ◌∷◌, ◌++◌, length, map, ⊤}
+use Rattle.std.specs.Prelude.{ℕ, suc, ◌+◌, ◌≡◌, ◌<◌, Option, Some, Result, Ok, Err, List, [], ◌∷◌, ◌++◌, length, ⊤}
 use Rattle.std.specs.List.{AllByRecursion}
 use Rattle.om_lex.specs.declared.lexeme.Lexeme.{Lexeme}
 use Rattle.om_lex.specs.declared.lexeme.Symbol.{Symbol}
 use Rattle.om_lex.specs.declared.lexeme.Symbol.TheVariants as symbols
-use Rattle.om_grammar.specs.Grammar.{Kinds, mark}
+use Rattle.om_grammar.specs.Grammar.{mark}
+use Rattle.om_grammar.specs.Lexemes.{kinds_of}
 use Rattle.om_grammar.specs.Refusals.{IsSyntax}
 use Rattle.om_literal_grammar.specs.declared.node.Form.{Form}
 use Rattle.om_literal_grammar.specs.declared.node.Form.TheVariants as forms
@@ -12,9 +13,6 @@ use Rattle.om_literal_grammar.specs.declared.node.Node.{Node}
 use Rattle.om_literal_grammar.specs.declared.node.TreeFault.{TreeFault}
 use Rattle.om_literal_grammar.specs.declared.node.TreeFault.TheVariants as faults
 use Rattle.om_literal_grammar.specs.Literal.{Literal, labelled, again, Plain, integer, character, string, double, truth, unit, constant, applied, fields, tuple, empty_array, array, Parts, no_parts, more_parts, Rows, no_rows, more_rows, label_kinds, head_kinds, owner_kinds, row_start, literal_kinds, parts_kinds, rows_kinds}
-
-abbrev pub kinds_of : List Lexeme → Kinds
-kinds_of lexemes = map (λ (l : Lexeme). l.kind) lexemes
 
 abbrev pub node : Form → Option ℕ → ℕ → ℕ → Node
 node form label first parts = record { form = form; label = label; first = first; parts = parts }

@@ -9,7 +9,8 @@ use Rattle.om_literal_grammar.specs.declared.placed.Placed.{Placed}
 use Rattle.om_literal_grammar.specs.declared.placed.PlacedFault.{PlacedFault}
 use Rattle.om_literal_grammar.specs.declared.placed.PlacedFault.TheVariants as faults
 use Rattle.om_literal_grammar.specs.Literal.{literal_kinds}
-use Rattle.om_literal_grammar.specs.Nodes.{kinds_of, IsTreeOf}
+use Rattle.om_grammar.specs.Lexemes.{kinds_of}
+use Rattle.om_literal_grammar.specs.Nodes.{IsTreeOf}
 
 abbrev pub lexemes_at : List ℕ → List ℕ → List Lexeme
 lexemes_at text places = map (lexeme_from text) places

@@ -7,7 +7,8 @@ use Rattle.om_lex.specs.declared.lexeme.Symbol.{Symbol}
 use Rattle.om_lex.specs.declared.lexeme.Symbol.TheVariants as symbols
 use Rattle.om_grammar.specs.Grammar.{Kinds}
 use Rattle.om_grammar.specs.Machine.{run}
-use Rattle.om_literal_grammar.specs.Literal.{upper_head, tag_head, cons_head, ref_head, Literal, labelled, again, Plain, integer, double, unit, applied, fields, tuple, empty_array, no_parts, more_parts, no_rows, more_rows, number, literal_kinds}
+use Rattle.om_grammar.specs.Lexemes.{number}
+use Rattle.om_literal_grammar.specs.Literal.{upper_head, tag_head, cons_head, ref_head, Literal, labelled, again, Plain, integer, double, unit, applied, fields, tuple, empty_array, no_parts, more_parts, no_rows, more_rows, literal_kinds}
 use Rattle.om_literal_grammar.specs.declared.node.Form.TheVariants as forms
 use Rattle.om_literal_grammar.specs.declared.node.Node.{Node}
 use Rattle.om_literal_grammar.specs.Nodes.{node, literal_nodes}

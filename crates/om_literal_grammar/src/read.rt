@@ -3,7 +3,8 @@
 ghost use Rattle.std.specs.Prelude.{◌≡◌, ℕ, IfOk, IfErr};
 ghost use Rattle.om_grammar.specs.Refusals.{IsSyntax};
 ghost use Rattle.om_literal_grammar.specs.Literal.{Literal, literal_kinds};
-ghost use Rattle.om_literal_grammar.specs.Nodes.{kinds_of, literal_nodes, IsTreeOf, IsTreeFault, GivesTree, GivesSyntax};
+ghost use Rattle.om_grammar.specs.Lexemes.{kinds_of};
+ghost use Rattle.om_literal_grammar.specs.Nodes.{literal_nodes, IsTreeOf, IsTreeFault, GivesTree, GivesSyntax};
 
 use crate::node::TreeFault;
 use crate::nodes::Nodes;

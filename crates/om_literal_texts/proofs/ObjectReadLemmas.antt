@@ -15,7 +15,7 @@ use Rattle.om_lex.specs.declared.lexeme.Symbol.TheVariants as symbols
 use Rattle.om_types.specs.declared.names.Names.{Names}
 use Rattle.om_types.specs.declared.shape.ShapeOf.{ShapeOf}
 use Rattle.om_types.specs.declared.shape.ShapeOf.TheVariants as shapes
-use Rattle.om_types.specs.Fitting.{none_if, object_fields, has_doubles}
+use Rattle.om_types.specs.Fitting.{object_fields, has_doubles}
 use Rattle.om_format.specs.Token.{IsLeaf}
 use Rattle.om_grammar.specs.Grammar.{Name, mark}
 use Rattle.om_literal_grammar.specs.Literal.{Literal, labelled, integer, string, double, array, fields, Parts, no_parts, more_parts, Rows, no_rows, more_rows, literal_kinds, parts_kinds, rows_kinds, row_start}
@@ -23,6 +23,7 @@ use Rattle.om_literal_grammar.specs.Nodes.{count, rows_count}
 use Rattle.om_leaves.specs.Frames.{object_text, fields_frame, named_frame, row_text}
 use Rattle.om_leaves.specs.Leaves.{float_text}
 use Rattle.om_show.specs.Named.{HasObjectNames, HasDoublesNames}
+use Rattle.om_show.proofs.NamedLemmas.{none_if_true}
 use Rattle.om_literal.specs.Starts.{start_at, doubles_start, whole, same_names, names_of_rows, bits_of, and_bits, bits_of_parts, bits_of_rows}
 use Rattle.om_lexed.specs.Lexed.{Ends}
 use Rattle.om_lexed.specs.Numbers.{is_minus}
@@ -79,10 +80,6 @@ rowing_bits [] [] rs x v all many e = e ∙ ap (λ t. Some t) (sym (append-nil a
 rowing_bits [] (b ∷ bs) rs x v all many e = absurd (omega arith)
 rowing_bits (y ∷ ys) [] rs x v all many e = absurd (omega arith)
 rowing_bits (y ∷ ys) (b ∷ bs) rs x v all many e = rowing_bits ys bs (more_rows rs x v) y (bare b) (all ++ b ∷ []) (omega arith) (ap (λ o. and_bits o (Some b)) e) ∙ ap (λ t. Some t) (append_assoc all (b ∷ []) bs)
-
-none_if_true : (T : Type 0) (test : Bool) → IsSome (none_if {T = T} test) → IsTrue test
-none_if_true T true some = refl
-none_if_true T false some = some
 
 module _ {T : Type 0} (t : T) (names : Names) where
   array_plain : (b : ℕ) (bs : List ℕ) → All (λ bits. bits < 2 ^ 64) (b ∷ bs) → IsPlain t shapes.FloatArray names (object_text {T = T} shapes.FloatArray names (objects.Doubles (b ∷ bs))) (whole (objects.Doubles (b ∷ bs)))

@@ -1,11 +1,18 @@
--- The numbers that bytes spell: of bytes one after another, of a front and of a rest, and how large they are.
-use Rattle.std.proofs.Common.{◌≡◌, ℕ, zero, suc, ◌+◌, ◌-◌, ◌*◌, ◌%◌, ◌^◌, ◌<◌, ◌≤◌, List, [], ◌∷◌, ◌++◌, length, get_or, take, drop, Fits, w8, refl, pos, negsuc, arith}
+-- Two numbers, and the numbers that bytes spell: of bytes one after another, of a front and of a rest, and how large they are.
+use Rattle.std.proofs.Common.{◌≡◌, ℕ, zero, suc, ◌+◌, ◌-◌, ◌*◌, ◌%◌, ◌^◌, ◌<◌, ◌≤◌, List, [], ◌∷◌, ◌++◌, length, get_or, take, drop, Fits, w8, refl, pos, negsuc, arith, ◌⊎◌, ⊎_elim, inl, inr}
 use Rattle.std.proofs.Math.Nat.{pow-suc, mul-le-mul_right, pow-le-pow_right}
 use Rattle.std.proofs.lemmas.Nat.{pow-add, one_shl}
+use Rattle.std.proofs.lemmas.Bool.{cases_order}
 use Rattle.std.proofs.lemmas.Bool.Decides.{nat_tests}
 use Rattle.std.proofs.lemmas.List.{length-append, length-take, length-drop, take_more, drop_more}
 use Rattle.std.proofs.lemmas.List.Elements.{All-head, All-tail, All-take, All-drop, All-from_get_or}
 use Rattle.om_model.specs.Bytes.{AreBytes, number, little_number, twos_complement}
+
+pub less_same_more : (m n : ℕ) → (m < n) ⊎ ((m ≡ n) ⊎ (n < m))
+less_same_more m n = ⊎_elim
+    (λ same. inr (inl same))
+    (λ other. ⊎_elim (λ less. inl less) (λ more. inr (inr more)) other)
+    (cases_order m n)
 
 pub number-append : (xs ys : List ℕ) → number (xs ++ ys) ≡ number xs * 256 ^ length ys + number ys
 number-append [] ys = omega arith

@@ -1,10 +1,10 @@
 -- Options, what a list contains, and tests.
 use Rattle.std.proofs.Common.{ℕ, zero, suc, ◌≡◌, ◌<◌, ◌⊎◌, ⊎_elim, inl, inr, List, [], ◌∷◌, length, Bool, true, false, Option, Some, None, refl, sym, subst, arith}
-use Rattle.std.specs.Prelude.{slice_get, map, flat_map, Contains, IsSomeAnd, IsTrue, ◌==◌}
+use Rattle.std.specs.Prelude.{slice_get, map, flat_map, Contains, IsSome, IsSomeAnd, IsTrue, ◌==◌}
 use Rattle.std.proofs.lemmas.Bool.{false≢true}
 use Rattle.std.proofs.lemmas.Bool.Decides.{Decides-eqb}
 use Rattle.std.proofs.lemmas.List.Elements.{Contains-append_left, Contains-append_right, Contains-append_cases}
-use Rattle.std.proofs.lemmas.Option.{slice_get_within, get_or_from_slice_get}
+use Rattle.std.proofs.lemmas.Option.{none-some, slice_get_within, get_or_from_slice_get}
 
 pub none_or_some : {X : Type 0} (o : Option X) → (o ≡ None) ⊎ ((x : X) × (o ≡ Some x))
 none_or_some None = inl refl
@@ -17,6 +17,16 @@ IsSomeAnd-some (Some x) P holds = (x, refl, holds)
 pub IsSomeAnd-at :
     {A : Type 0} (o : Option A) (x : A) (P : A → Type 0) → o ≡ Some x → P x → IsSomeAnd o P
 IsSomeAnd-at o x P is holds = subst (λ p. IsSomeAnd p P) (sym is) holds
+
+pub IsSomeAnd-weaker :
+    {A : Type 0} (P Q : A → Type 0) (o : Option A) → ((x : A) → P x → Q x) → IsSomeAnd o P
+    → IsSomeAnd o Q
+IsSomeAnd-weaker P Q None weaker holds = absurd holds
+IsSomeAnd-weaker P Q (Some x) weaker holds = weaker x holds
+
+pub none_is_not_some : {X : Type 0} (o : Option X) → o ≡ None → IsSome o → ⊥
+none_is_not_some None is some = false≢true some
+none_is_not_some (Some x) is some = none-some x (sym is)
 
 pub Contains-first : {X : Type 0} (x : X) (xs : List X) → Contains (x ∷ xs) x
 Contains-first x xs = (0, omega arith, refl)

@@ -8,7 +8,7 @@ use Rattle.om_grammar.specs.Grammar.{Name, Texpr, App, Params, FieldTree, Record
 use Rattle.om_grammar.specs.Holes.{due, read, name_due, tag_read, outside, first_part, whole, alone, begin, step, ended as table_ended}
 use Rattle.om_grammar.specs.File.{Before, nothing, so_far, head_of, rest_of, with_one, GroupHole, BodyHole, ConstrHole, RecordHole, body_record, inline_record, TypeOutside, body_type, field_type, PartOutside, listed_part, Outside, file_due, decl_due, param_due, param_read, params_read, name_read, body_due, constr_due, upper_read, of_read, field_due, mutable_read, field_named, record_read, FileState, group_with, decl_with, variant_with, constr_with, field_with, after_decl, after_constr, after_record, after_field, outer_type_step, outer_part_step, outer_step, declarations}
 use Rattle.om_types.specs.Nodes.{type_of}
-use Rattle.om_parse.proofs.TypesOfNodes.{ordered_none}
+use Rattle.om_types.proofs.NodeLemmas.{AreOrdered-none}
 use Rattle.om_types.specs.declared.ty.Node.{Node}
 use Rattle.om_types.specs.declared.decl.Arguments.TheVariants as arguments
 use Rattle.om_types.specs.declared.decl.Body.TheVariants as bodies
@@ -120,7 +120,7 @@ listed_follows c x b a (kinds.Symbol symbols.Star) = (
     phase_is = refl;
     around_is = refl;
     shown = refl;
-    ordered = ordered_none;
+    ordered = AreOrdered-none;
   },
 )
 listed_follows c x b a kind = constr_follows c (constr_with x (listed (head_of b a) (rest_of b a)))
@@ -223,12 +223,12 @@ take_equals_follows g ps x kind = refl
 begins : (w : TypeOutside) (kind : LexemeKind) → FollowsFile (begin (first_part (whole w)) kind)
     (in_type_code (around_of (at_type w)) kind (begin_code [] [] kind))
 begins w kind = in_type_follows (at_type w) _ kind (begin_code [] [] kind)
-    (begin_follows declarations (at_type w) (first_part (whole w)) [] [] kind ordered_none refl)
+    (begin_follows declarations (at_type w) (first_part (whole w)) [] [] kind AreOrdered-none refl)
 
 begins_alone : (q : PartOutside) (kind : LexemeKind) → FollowsFile (begin (alone q) kind)
     (in_type_code (around_of (at_part q)) kind (begin_code [] [] kind))
 begins_alone q kind = in_type_follows (at_part q) _ kind (begin_code [] [] kind)
-    (begin_follows declarations (at_part q) (alone q) [] [] kind ordered_none refl)
+    (begin_follows declarations (at_part q) (alone q) [] [] kind AreOrdered-none refl)
 
 begin_body_follows : (b : BodyHole) (kind : LexemeKind) → FollowsFile (outer_step (body_due b) kind)
     (file_step_code [] [] (phase_of (body_due b)) kind)
@@ -287,7 +287,7 @@ take_colon_follows r b mutable x (kinds.Symbol symbols.Colon) = (
     around_is =
         refl;
     shown = refl;
-    ordered = ordered_none;
+    ordered = AreOrdered-none;
   },
 )
 take_colon_follows r b mutable x kind = refl

@@ -1,8 +1,6 @@
-pub mod TypesOfNodes
 pub mod NodeLemmas
 pub mod TypeLemmas
 pub mod WholeLemmas
-pub mod LexemeLemmas
 pub mod TypeReading
 pub mod WrittenLemmas
 pub mod FileLemmas

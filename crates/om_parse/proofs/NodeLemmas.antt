@@ -4,7 +4,7 @@ use Rattle.om_grammar.specs.Grammar.{Name, Texprs}
 use Rattle.om_grammar.specs.Grammar as trees
 use Rattle.om_types.specs.Ty.{Ty, named, part}
 use Rattle.om_types.specs.Nodes.{type_at, types_of, type_of, type_of_node, AreOrdered}
-use Rattle.om_parse.proofs.TypesOfNodes.{type_at-more, type_at-last, ordered_more}
+use Rattle.om_types.proofs.NodeLemmas.{type_at-more, type_at-last, AreOrdered-push}
 use Rattle.om_types.specs.declared.ty.Node.{Node}
 use Rattle.om_types.specs.declared.ty.Node.TheVariants as nodes
 use Rattle.om_parse.specs.Written.{type_of_texpr, applied_to}
@@ -55,7 +55,7 @@ part_last {ns} {n} {m} {t} {u} a b = at_last_as ns (nodes.Part n m) (part t u)
 
 pub part_ordered : {ns : List Node} {n m : ℕ} {t u : Ty} → IsAt ns n t → IsAt ns m u →
     AreOrdered ns → AreOrdered (ns ++ nodes.Part n m ∷ [])
-part_ordered {ns} {n} {m} a b o = ordered_more ns (nodes.Part n m) o (a.below, b.below)
+part_ordered {ns} {n} {m} a b o = AreOrdered-push ns (nodes.Part n m) o (a.below, b.below)
 
 -- ---- several parts
 

@@ -1,5 +1,6 @@
 -- The code's step on numbers of nodes is the table's step on trees.
 use Rattle.std.proofs.Common.{ℕ, suc, ◌≡◌, ◌∙◌, min, max, Bool, true, false, List, [], ◌∷◌, ◌++◌, length, Option, Some, None, refl, sym, ap, subst, arith}
+use Rattle.om_parse.specs.declared.open.Item.{Item as ItemRead}
 use Rattle.om_lex.specs.declared.lexeme.LexemeKind.{LexemeKind}
 use Rattle.om_lex.specs.declared.lexeme.LexemeKind.TheVariants as kinds
 use Rattle.om_lex.specs.declared.lexeme.Keyword.TheVariants as keywords
@@ -10,7 +11,7 @@ use Rattle.om_grammar.specs.Holes.{Outer, TypeHole, PartHole, ItemHole, State, w
 use Rattle.om_types.specs.Ty.{Ty}
 use Rattle.om_types.specs.Ty as tys
 use Rattle.om_types.specs.Nodes.{type_at, types_of, type_of, AreOrdered}
-use Rattle.om_parse.proofs.TypesOfNodes.{ordered_more}
+use Rattle.om_types.proofs.NodeLemmas.{AreOrdered-push}
 use Rattle.om_types.specs.declared.ty.Node.{Node}
 use Rattle.om_types.specs.declared.ty.Node.TheVariants as nodes
 use Rattle.om_parse.specs.Written.{type_of_texpr, tuple_of, type_of_app, type_of_items, with_item}
@@ -19,7 +20,6 @@ use Rattle.om_parse.specs.declared.open.Frame.{Frame}
 use Rattle.om_parse.specs.declared.open.Frame.TheVariants as frames
 use Rattle.om_parse.specs.declared.open.Phase.{Phase}
 use Rattle.om_parse.specs.declared.open.Phase.TheVariants as phases
-use Rattle.om_parse.specs.declared.open.Item.{Item as ItemRead}
 use Rattle.om_parse.specs.declared.open.Item.TheVariants as read_items
 use Rattle.om_parse.specs.TypeCode.{StepCode, goes, ended, stops, deeper, part, begin_item_code, begin_code, item_node, item_depth_code, after_items_code, after_item_code, after_group_code, after_argument_code, close_type_code, after_single_code, after_tuple_code, outermost_code, close_part_code, after_part_code, parts_nodes, parts_node, take_name_code, after_tag_code, step_code, part_depth_code, depth_code}
 use Rattle.om_parse.specs.TypeShown.{IsAt, Has, HasAll, HasLast, types_of_texprs, Bottom, at_type, at_part, is_alone, type_frames, part_frames, item_frames, type_shown}
@@ -186,10 +186,10 @@ module _ {W P O Text : Type 0} (o : Outer W P O Text) (b : Bottom W P) where
   pub begin_follows : (p : PartHole W P) (ns : List Node) (fs : List Frame) (kind : LexemeKind) →
       AreOrdered ns → part_frames b p ns fs → Follows (begin p kind) kind (begin_code ns fs kind)
   begin_follows p ns fs (kinds.Variable x) i r = reads_new p (simple (variable x)) ns fs
-      (nodes.Variable x) 1 (at_last ns (nodes.Variable x)) refl (ordered_more ns (nodes.Variable x)
+      (nodes.Variable x) 1 (at_last ns (nodes.Variable x)) refl (AreOrdered-push ns (nodes.Variable x)
       i tt) r
   begin_follows p ns fs (kinds.Lower x) i r = reads_new p (simple (named x)) ns fs (nodes.Named x) 1
-      (at_last ns (nodes.Named x)) refl (ordered_more ns (nodes.Named x) i tt) r
+      (at_last ns (nodes.Named x)) refl (AreOrdered-push ns (nodes.Named x) i tt) r
   begin_follows p ns fs (kinds.Symbol symbols.OpenParen) i r =
       record { state = due (first_part (group p)); goes_to = refl; shown = r; ordered = i }
   begin_follows p ns fs (kinds.Symbol symbols.OpenBracket) i r =
@@ -199,7 +199,7 @@ module _ {W P O Text : Type 0} (o : Outer W P O Text) (b : Bottom W P) where
         shown =
             (at_last ns nodes.Bracket, part_frames_more b p ns (nodes.Bracket ∷ []) fs r);
         ordered =
-            ordered_more ns nodes.Bracket i tt;
+            AreOrdered-push ns nodes.Bracket i tt;
       }
   begin_follows p ns fs kind i r = begin_item_follows p ns fs kind i r
 
@@ -265,11 +265,11 @@ module _ {W P O Text : Type 0} (o : Outer W P O Text) (b : Bottom W P) where
 
   item_ordered : (i : Item) (q : ItemRead) (ns : List Node) (n : ℕ) (t : Ty) → IsAt ns n t →
       ItemHas ns i q → AreOrdered ns → AreOrdered (ns ++ item_node n q ∷ [])
-  item_ordered (tag x) (read_items.Tag y) ns n t a h o = ordered_more ns (nodes.Tag n y) o a.below
+  item_ordered (tag x) (read_items.Tag y) ns n t a h o = AreOrdered-push ns (nodes.Tag n y) o a.below
   item_ordered (tag_of x u) (read_items.TagOf y q) ns n t a h o =
-      ordered_more ns (nodes.TagOf n y q.node) o (a.below, h.1.at.below)
+      AreOrdered-push ns (nodes.TagOf n y q.node) o (a.below, h.1.at.below)
   item_ordered (included u) (read_items.Included q) ns n t a h o =
-      ordered_more ns (nodes.Including n q.node) o (a.below, h.at.below)
+      AreOrdered-push ns (nodes.Including n q.node) o (a.below, h.at.below)
   item_ordered i q ns n t a h o = absurd h
 
   first_follows : (p : PartHole W P) (bar : Bool) (i : Item) (ns : List Node) (fs : List Frame)
@@ -414,7 +414,7 @@ module _ {W P O Text : Type 0} (o : Outer W P O Text) (b : Bottom W P) where
           type_frames_more b h (ns ++ nodes.Tuple ∷ []) (nodes.Part (length ns) q.node ∷ []) fs
               (type_frames_more b h ns (nodes.Tuple ∷ []) fs r),
         );
-        ordered = part_ordered tuple_at there (ordered_more ns nodes.Tuple i tt);
+        ordered = part_ordered tuple_at there (AreOrdered-push ns nodes.Tuple i tt);
       }
   single_follows h a ns fs q kind s i r = close_type_follows h (single a) ns fs q kind
       (record { has = record { at = s.has.at; capped = s.has.capped }; last = s.last }) i r
@@ -512,7 +512,7 @@ module _ {W P O Text : Type 0} (o : Outer W P O Text) (b : Bottom W P) where
       reads_new p (applied a x) (ns ++ nodes.Named x ∷ []) fs (nodes.Part (length ns) q.node)
       (deeper q.depth) (part_last name_at there) (deeper_capped q.depth (app_depth a)
       s.has.capped)
-      (part_ordered name_at there (ordered_more ns (nodes.Named x) i tt))
+      (part_ordered name_at there (AreOrdered-push ns (nodes.Named x) i tt))
       (part_frames_more b p ns (nodes.Named x ∷ []) fs r)
   after_part_follows p a ns fs q kind s i r = close_part_follows p a ns fs q kind s i r
 
@@ -527,7 +527,7 @@ module _ {W P O Text : Type 0} (o : Outer W P O Text) (b : Bottom W P) where
       let added : Added named_ns all (parts_with (tys.named x) us) (length ns) =
       adds_parts all us named_ns (length ns) (tys.named x)
       (all_at_more ns all us (nodes.Named x ∷ []) s.at) (at_last ns (nodes.Named x))
-      (is_last ns (nodes.Named x)) (ordered_more ns (nodes.Named x) i tt) in
+      (is_last ns (nodes.Named x)) (AreOrdered-push ns (nodes.Named x) i tt) in
       let round : part_frames b p (named_ns ++ added.extra) fs = part_frames_more b p named_ns
       added.extra fs (part_frames_more b p ns (nodes.Named x ∷ []) fs r) in
       record {

@@ -10,7 +10,7 @@ use Rattle.om_grammar.proofs.HolesLead.{type_read}
 use Rattle.om_grammar.proofs.AloneTable.{type_table}
 use Rattle.om_grammar.proofs.ReachedLemmas.{Reached, Moved, reached_first, refused_syntax, refused_end, read_whole, refused_deep, reached_next}
 use Rattle.om_types.specs.Nodes.{type_of, AreOrdered}
-use Rattle.om_parse.proofs.TypesOfNodes.{ordered_none}
+use Rattle.om_types.proofs.NodeLemmas.{AreOrdered-none}
 use Rattle.om_types.specs.declared.ty.Node.{Node}
 use Rattle.om_parse.specs.Written.{type_of_texpr}
 use Rattle.om_parse.specs.Parsed.{IsTypeOf}
@@ -38,7 +38,7 @@ TypeReached lexemes ns fs phase count place = Reached type_table lexemes (IsShow
 
 pub type_reached_first : (lexemes : Kinds) → TypeReached lexemes [] [] phases.Due 0 0
 type_reached_first lexemes = reached_first type_table lexemes (IsShown [] [] phases.Due)
-    (record { shown = refl; ordered = ordered_none })
+    (record { shown = refl; ordered = AreOrdered-none })
 
 -- the code goes on
 goes_on : (s : TypeState) (kind : LexemeKind) (field : Step) (next : Phase) (ns : List Node)

@@ -1,5 +1,5 @@
 -- What is answered about lexemes.
-use Rattle.std.specs.Prelude.{ℕ, ◌≡◌, List, map, ⊤, unwrap_or, option_map, slice_get}
+use Rattle.std.specs.Prelude.{ℕ, ◌≡◌, List, ⊤, unwrap_or, option_map, slice_get}
 use Rattle.om_lex.specs.declared.lexeme.Lexeme.{Lexeme}
 use Rattle.om_grammar.specs.Grammar.{Kinds, Texpr, texpr, FileTree, file_kinds}
 use Rattle.om_grammar.specs.Depths.{texpr_ends, file_ends}
@@ -9,9 +9,6 @@ use Rattle.om_parse.specs.Written.{type_of_texpr, declarations_of}
 use Rattle.om_types.specs.declared.decl.Decl.{Decl}
 use Rattle.om_parse.specs.declared.refused.Fault.{Fault}
 use Rattle.om_parse.specs.declared.refused.Fault.TheVariants as faults
-
-abbrev pub kinds_of : List Lexeme → Kinds
-kinds_of lexemes = map (λ (l : Lexeme). l.kind) lexemes
 
 -- the fault that the grammar's reading tells
 abbrev pub IsFault : {Text : Type 0} → (Text → Kinds) → (Text → List ℕ) → Kinds → Fault → Type 0

@@ -3,7 +3,8 @@
 ghost use Rattle.std.specs.Prelude.{IfOk, IfErr};
 ghost use Rattle.om_grammar.specs.Grammar.{file_kinds};
 ghost use Rattle.om_grammar.specs.Depths.{file_ends};
-ghost use Rattle.om_parse.specs.Parsed.{kinds_of, IsFault, AreDeclarationsOf};
+ghost use Rattle.om_grammar.specs.Lexemes.{kinds_of};
+ghost use Rattle.om_parse.specs.Parsed.{IsFault, AreDeclarationsOf};
 
 use crate::file_end::file_whole;
 use crate::in_file::{file_depth, file_step};

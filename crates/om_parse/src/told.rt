@@ -1,7 +1,7 @@
 //! What is told of a type that is being read.
 
 ghost use Rattle.std.specs.Prelude.{◌≡◌, ◌≤◌, ◌<◌, ◌++◌, ◌∷◌, [], suc, length, take};
-ghost use Rattle.om_parse.specs.Parsed.{kinds_of};
+ghost use Rattle.om_grammar.specs.Lexemes.{kinds_of};
 ghost use Rattle.om_grammar.specs.Refusals.{opened};
 ghost use Rattle.om_parse.specs.TypeCode.{part_depth_code, depth_code, whole_code, Finds};
 

@@ -3,7 +3,8 @@
 ghost use Rattle.std.specs.Prelude.{IfOk, IfErr};
 ghost use Rattle.om_grammar.specs.Grammar.{texpr};
 ghost use Rattle.om_grammar.specs.Depths.{texpr_ends};
-ghost use Rattle.om_parse.specs.Parsed.{kinds_of, IsFault, IsTypeOf};
+ghost use Rattle.om_grammar.specs.Lexemes.{kinds_of};
+ghost use Rattle.om_parse.specs.Parsed.{IsFault, IsTypeOf};
 
 use crate::open::{Phase, Step};
 use crate::refused::Fault;

@@ -8,7 +8,6 @@ use Rattle.om_canonical.proofs.ListLemmas.{slice_get_push_cases}
 use Rattle.om_model.specs.declared.value.Obj.{Obj}
 use Rattle.om_model.specs.declared.value.Obj.TheVariants as objs
 use Rattle.om_model.specs.declared.code.CodeKind.{CodeKind}
-use Rattle.om_model.specs.declared.code.CodeKind.TheVariants as kinds
 use Rattle.om_types.specs.Table.{Table}
 use Rattle.om_types.specs.Fitting.{is_mutable}
 use Rattle.om_format.specs.Words.{objects}
@@ -19,9 +18,9 @@ use Rattle.om_format.specs.Tree.{made_by, value_of}
 use Rattle.om_format.proofs.RawLemmas.{raw_length-append, raw_length-ok}
 use Rattle.om_format.proofs.SpellLemmas.{IsRaw-spelled}
 use Rattle.om_format.proofs.Counts.{objects-tokens-append, objects-tokens-cons}
+use Rattle.om_format.proofs.SpellValues.{IsToken-spelled}
 use Rattle.om_pass_law.specs.Asked.{of_type, shape_at, block_needs}
 use Rattle.om_pass_law.specs.Noted.{IsAt, IsFlat, Stands, flat_values, IsFlatNoted}
-use Rattle.om_pass_law.proofs.EndLemmas.{spelled_token}
 use Rattle.om_pass_law.proofs.NotedLemmas.{stands_after}
 use Rattle.om_pass.specs.declared.again.Seen.{Seen}
 use Rattle.om_pass.specs.Again.{IsSeen, SpellAll, Looks, IsPlace, AreMarks, IsBlockAt, IsBlockIn, IsBlockSeen, AreFields}
@@ -93,7 +92,7 @@ looked (code ∷ after) kind len seen some is within whole each =
           let spelled : Spells t (code ∷ take len after) = subst (Spells t) piece s.3 in
           let rest : s.1 ≡ drop (1 + len) (code ∷ after) = sym (subst (λ n. drop n (code ∷ after) ≡ s.1) next (ap (drop (suc len)) s.2 ∙ drop_at s.0 s.1 (suc len) long)) in
           record {
-            is_token = spelled_token t s.0 s.3;
+            is_token = IsToken-spelled t s.0 s.3;
             is_seen = each t (subst (λ r. SpellsFrom r (take len after) t) is spelled.1);
             spells = subst (SpellAll ts) rest s.4;
           };

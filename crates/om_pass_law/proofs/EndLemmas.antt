@@ -1,12 +1,9 @@
 -- The open places are the values to come.
 use Rattle.std.proofs.Common.{ℕ, ◌+◌, ◌<◌, ◌≡◌, refl, List, [], ◌∷◌, ◌++◌, map, ap, arith}
-use Rattle.std.specs.Prelude.{All}
-use Rattle.std.specs.List.{AllZip}
 use Rattle.std.proofs.lemmas.List.{map-append}
-use Rattle.std.proofs.lemmas.List.Elements.{All-nil, All-cons}
 use Rattle.om_types.specs.Table.{Table}
 use Rattle.om_format.specs.Words.{of_object, fields, pending}
-use Rattle.om_format.specs.Token.{Token, integer, atom, shared, block, leaf, IsToken, Spells, measure_of}
+use Rattle.om_format.specs.Token.{Token, integer, atom, shared, block, leaf, measure_of}
 use Rattle.om_format.specs.Tree.{tokens}
 use Rattle.om_format.specs.Preorder.{OpenBefore}
 use Rattle.om_format.proofs.Pending.{pending_push, OpenBefore-append}
@@ -14,16 +11,6 @@ use Rattle.om_format.proofs.Counts.{leaf_fields}
 use Rattle.om_pass_law.specs.Asked.{Need, of_type, hash_of, shape_at, Asks}
 use Rattle.om_pass_law.specs.OnePass.{Passed, start, further}
 use Rattle.om_pass_law.proofs.BlockLemmas.{fields_in, needs_many}
-
-pub spelled_token : (token : Token) (bytes : List ℕ) → Spells token bytes → IsToken token
-spelled_token token [] h = absurd h
-spelled_token token (code ∷ rest) h = h.0
-
-pub spelled_tokens : (ts : List Token) (pieces : List (List ℕ)) → AllZip Spells ts pieces → All IsToken ts
-spelled_tokens [] [] h = All-nil IsToken
-spelled_tokens [] (p ∷ ps) h = absurd h
-spelled_tokens (t ∷ ts) [] h = absurd h
-spelled_tokens (t ∷ ts) (p ∷ ps) h = All-cons IsToken t ts (spelled_token t p h.0) (spelled_tokens ts ps h.1)
 
 -- ---- the open places are the values to come
 

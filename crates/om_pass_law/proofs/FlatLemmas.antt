@@ -4,11 +4,12 @@ use Rattle.std.specs.Prelude.{slice_get}
 use Rattle.std.proofs.lemmas.List.{append_assoc, append-nil}
 use Rattle.om_model.specs.declared.value.Obj.{Obj}
 use Rattle.om_model.specs.declared.value.Obj.TheVariants as objects
+use Rattle.om_model.proofs.Lists.{slice_get-append_left}
 use Rattle.om_types.specs.Table.{Table}
 use Rattle.om_format.specs.Words.{of_object, fields}
 use Rattle.om_format.specs.Token.{Token, integer, atom, shared, block, leaf, measure_of}
 use Rattle.om_format.specs.Tree.{Tree, Forest, node, none, more, trees_in, IsTree, AreTrees, tokens, forest_tokens, made, made_by, all_made, object_of, objects_of, all_objects, roots, value_of}
-use Rattle.om_canonical.proofs.ListLemmas.{slice_get_left, slice_get_right}
+use Rattle.om_canonical.proofs.ListLemmas.{slice_get_right}
 use Rattle.om_format.proofs.Counts.{length-objects_of, length-object_of}
 use Rattle.om_pass_law.specs.Asked.{Need, shape_at, block_needs}
 use Rattle.om_pass_law.specs.Noted.{AreAt, IsFlat, AreFlat, Stands}
@@ -61,7 +62,7 @@ there_later xs ys c d o tag flat is there =
     (omega (arith, is, less), ap (slice_get (xs ++ ys)) place ∙ slice_get_right xs ys (o - d) ∙ there.1)
 
 there_first : (xs ys : List Obj) (c o tag : ℕ) (flat : List Token) → IsThere xs c o tag flat → IsThere (xs ++ ys) c o tag flat
-there_first xs ys c o tag flat there = (there.0, slice_get_left xs ys (o - c) (objects.Block tag (map (λ t. value_of t (o + 1)) flat)) there.1)
+there_first xs ys c o tag flat there = (there.0, slice_get-append_left xs ys (o - c) (objects.Block tag (map (λ t. value_of t (o + 1)) flat)) there.1)
 
 own_there : (token : Token) (f : Forest) (c o tag : ℕ) (flat rest after : List Token) → IsTree (node token f) → token ≡ block tag (length flat) → o ≡ c → AreFlat flat → forest_tokens f ++ after ≡ flat ++ rest → IsThere (objects_of (node token f) c) c o tag flat
 own_there token f c o tag flat rest after tree same at flat' is =

@@ -14,10 +14,10 @@ use Rattle.om_format.specs.Spelled.{IsHeader, IsNoReference}
 use Rattle.om_format.proofs.Counts.{objects-tokens-append, objects-tokens-cons}
 use Rattle.om_format.proofs.References.{EachRefersBack-append}
 use Rattle.om_format.proofs.ReadingLemmas.{concat-push, AllZip-push}
+use Rattle.om_format.proofs.SpellValues.{IsToken-spelled}
 use Rattle.om_pass_law.specs.Asked.{Need, of_type, hash_of, Asks, type_in}
 use Rattle.om_pass_law.specs.OnePass.{start, further, IsPassing}
 use Rattle.om_pass_law.proofs.PassLemmas.{leaf_made}
-use Rattle.om_pass_law.proofs.EndLemmas.{spelled_token}
 
 -- before the first token
 pub passing_start :
@@ -63,7 +63,7 @@ pub passing_further :
     → IsPassing noted table limit bytes head first (n + m) (tokens ++ token ∷ []) (types ++ type_in need token) (next ++ needs)
 passing_further noted table limit bytes head first n tokens types need needs p token next m asks within spells back unshared =
     let piece = take m (drop n bytes) in
-    let one = made_in noted table types need token next (spelled_token token piece spells) asks in
+    let one = made_in noted table types need token next (IsToken-spelled token piece spells) asks in
     let both = objects-tokens-append tokens (token ∷ []) in
     let single = objects-tokens-cons token [] in
     let long = length-append types (type_in need token) in

@@ -13,13 +13,14 @@ use Rattle.om_format.specs.Preorder.{EachRefersBack}
 use Rattle.om_format.specs.Spelled.{States}
 use Rattle.om_format.proofs.Parsed.{tree_from_tokens}
 use Rattle.om_format.proofs.References.{ReferBack-from_each}
+use Rattle.om_format.proofs.SpellValues.{IsToken-all_spelled}
 use Rattle.om_pass_law.specs.Asked.{of_type, shape_at, Passes}
 use Rattle.om_pass_law.specs.Noted.{IsFlatNoted}
 use Rattle.om_pass_law.specs.OnePass.{IsPassing, Ends}
 use Rattle.om_pass_law.specs.Laws.{PassesTypeFronts, NotedPassesTypeFronts}
 use Rattle.om_pass_law.proofs.Kernel.{AreNoted}
 use Rattle.om_pass_law.proofs.OnePassLemmas.{passes_all, types_of_tree}
-use Rattle.om_pass_law.proofs.EndLemmas.{spelled_tokens, passed_many, passed_open}
+use Rattle.om_pass_law.proofs.EndLemmas.{passed_many, passed_open}
 use Rattle.om_pass_law.proofs.FlatLemmas.{flat_object, flat_noted}
 
 are_noted : (table : Table) (all : List ℕ) (noted : List (ℕ × ℕ)) (tree : Tree) → IsTree tree → ((o t : ℕ) → Contains noted (o, t) → IsFlatNoted table all noted (tokens tree) o t) → AreNoted table (objects_of tree 0) all noted
@@ -54,7 +55,7 @@ data_length noted table limit bytes head start n ts types p ends =
 pub noted_passes_type_fronts : NotedPassesTypeFronts
 noted_passes_type_fronts noted table limit bytes head start n ts types lawful p ends each =
     let whole = passed_many noted table ts types [] p.passed in
-    let t = tree_from_tokens ts (spelled_tokens ts p.pieces p.spells) (passed_open noted table ts types [] p.passed) whole in
+    let t = tree_from_tokens ts (IsToken-all_spelled ts p.pieces p.spells) (passed_open noted table ts types [] p.passed) whole in
     let back = ReferBack-from_each t.tree 0 (subst (EachRefersBack 0) (sym t.tokens_are) p.refer_back) in
     let passes = subst (λ us. Passes noted table [] (of_type 0 ∷ []) us types) (sym t.tokens_are) (passes_all noted table ts types p.passed) in
     let noted_there = are_noted table types noted t.tree t.is_tree (subst (λ us. (o u : ℕ) → Contains noted (o, u) → IsFlatNoted table types noted us o u) (sym t.tokens_are) each) in

@@ -1,17 +1,17 @@
 -- What was noted of objects stays so where more tokens come and more is noted.
-use Rattle.std.proofs.Common.{ℕ, ◌+◌, ◌<◌, ◌≡◌, ◌∙◌, refl, inl, inr, List, [], ◌∷◌, ◌++◌, length, map, Some, sym, ap, subst, arith}
+use Rattle.std.proofs.Common.{ℕ, ◌+◌, ◌<◌, ◌≡◌, ◌∙◌, inl, inr, List, [], ◌∷◌, ◌++◌, length, map, Some, sym, ap, subst, arith}
 use Rattle.std.specs.Prelude.{slice_get, Contains}
 use Rattle.std.proofs.lemmas.List.{append_assoc}
 use Rattle.std.proofs.lemmas.Option.{same_Some}
 use Rattle.om_model.proofs.Options.{slice_get_there}
 use Rattle.om_model.specs.declared.value.Val.{Val}
 use Rattle.om_model.specs.declared.header.Head.{Head}
+use Rattle.om_model.proofs.Lists.{slice_get-append_left}
 use Rattle.om_types.specs.Table.{Table}
 use Rattle.om_format.specs.Words.{objects}
 use Rattle.om_format.specs.Token.{Token, measure_of}
 use Rattle.om_format.specs.Tree.{made_by}
 use Rattle.om_format.proofs.Counts.{objects-tokens-cons}
-use Rattle.om_scan.proofs.PlaceLemmas.{slice_get-append_left}
 use Rattle.om_pass_law.specs.Asked.{Need, of_type, hash_of}
 use Rattle.om_pass_law.specs.Noted.{AreAt, Stands, flat_values, IsFlatNoted}
 use Rattle.om_pass_law.specs.OnePass.{IsPassing}

@@ -5,6 +5,7 @@ use Rattle.std.proofs.lemmas.List.{append_assoc, append-nil, length-append}
 use Rattle.om_model.proofs.Options.{Contains-none}
 use Rattle.om_model.specs.declared.value.Obj.{Obj}
 use Rattle.om_model.specs.declared.value.Obj.TheVariants as objects
+use Rattle.om_model.proofs.Lists.{slice_get-append_left, slice_get-last}
 use Rattle.om_types.specs.declared.shape.ShapeOf.{ShapeOf}
 use Rattle.om_types.specs.Fitting.{none_if, or_none, object_fields, is_bytes, is_double, has_doubles, is_int32, is_int64, is_native}
 use Rattle.om_types.specs.Table.{Table}
@@ -12,7 +13,6 @@ use Rattle.om_format.specs.Words.{of_object}
 use Rattle.om_format.specs.Token.{Token, integer, atom, shared, block, leaf, IsLeaf, leaf_measure}
 use Rattle.om_format.specs.Tree.{Tree, Forest, node, none, more, trees_in, IsTree, AreTrees, tokens, forest_tokens, root, roots, made, all_made, objects_of, all_objects}
 use Rattle.om_format.proofs.Counts.{leaf_fields, length-roots, length-objects_of}
-use Rattle.om_scan.proofs.PlaceLemmas.{slice_get-append_left, slice_get-last}
 use Rattle.om_pass_law.specs.Asked.{Need, of_type, hash_of, shape_at, block_needs, type_in, Passes}
 use Rattle.om_pass_law.specs.Noted.{IsAt, AreAt}
 use Rattle.om_pass_law.proofs.Kernel.{IsGood, AreGood, good_append}

@@ -3,9 +3,9 @@ use Rattle.std.proofs.Common.{ℕ, ◌-◌, inl, inr, ⊎_elim, List, ◌∷◌,
 use Rattle.std.specs.Prelude.{Contains}
 use Rattle.om_model.specs.declared.value.Val.{Val}
 use Rattle.om_model.specs.declared.value.Val.TheVariants as vals
+use Rattle.om_model.proofs.Lists.{slice_get-append_left}
 use Rattle.om_types.specs.Table.{Table}
 use Rattle.om_format.specs.Token.{Token, integer, atom, shared, block, leaf}
-use Rattle.om_scan.proofs.PlaceLemmas.{slice_get-append_left}
 use Rattle.om_pass_law.specs.Asked.{Need, of_type, hash_of, IsBack, Asks}
 use Rattle.om_pass_law.specs.OnePass.{Passed, start, further}
 use Rattle.om_pass_law.specs.Noted.{IsAt}

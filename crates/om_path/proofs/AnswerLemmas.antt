@@ -8,7 +8,8 @@ use Rattle.om_lex.proofs.PartLaws.{has_one_outcome}
 use Rattle.om_grammar.specs.Refusals.{IsSyntax}
 use Rattle.om_grammar.proofs.TableLemmas.{one_text}
 use Rattle.om_grammar.proofs.LawLemmas.{text_or_syntax, no_syntax}
-use Rattle.om_parse.specs.Parsed.{kinds_of, byte_of}
+use Rattle.om_grammar.specs.Lexemes.{kinds_of}
+use Rattle.om_parse.specs.Parsed.{byte_of}
 use Rattle.om_path.specs.PathGrammar.{path_kinds}
 use Rattle.om_path.specs.Answer.{IsSpelled, IsLexed, IsAnswer, HasOneAnswer, UnlessMemory, Tells}
 use Rattle.om_path.specs.declared.fault.PathFault.{PathFault}

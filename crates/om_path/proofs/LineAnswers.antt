@@ -11,9 +11,10 @@ use Rattle.om_grammar.specs.Grammar.{Kinds}
 use Rattle.om_grammar.specs.Refusals.{IsSyntax}
 use Rattle.om_grammar.proofs.TableLemmas.{one_text}
 use Rattle.om_grammar.proofs.LawLemmas.{text_or_syntax, no_syntax}
-use Rattle.om_parse.specs.Parsed.{kinds_of, byte_of}
-use Rattle.om_parse.proofs.LexemeLemmas.{kinds_length}
-use Rattle.om_path.specs.PathGrammar.{number, path_kinds}
+use Rattle.om_grammar.specs.Lexemes.{kinds_of, number}
+use Rattle.om_parse.specs.Parsed.{byte_of}
+use Rattle.om_grammar.proofs.LexemeLemmas.{kinds_length}
+use Rattle.om_path.specs.PathGrammar.{path_kinds}
 use Rattle.om_path.specs.LineGrammar.{LineTree, set_line, link_line, unshare_line, graft_line, equals, assigned, line_kinds}
 use Rattle.om_path.specs.LineMachine.{role_kinds}
 use Rattle.om_path.specs.ScriptAnswer.{tree_of, EndWith, HasLiteralOf, IsAction, IsInTime, IsLater, LineAnswer, IsRead, IsLineLexed, IsLineAnswer}

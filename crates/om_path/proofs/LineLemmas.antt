@@ -13,8 +13,9 @@ use Rattle.om_grammar.specs.Refusals.{IsSyntax}
 use Rattle.om_grammar.specs.Machine.{run, Leads}
 use Rattle.om_grammar.proofs.MachineLemmas.{leads_run}
 use Rattle.om_grammar.proofs.TableLemmas.{take_whole, run_more, is_syntax_at, syntax_end, text_is_read}
-use Rattle.om_parse.specs.Parsed.{kinds_of, byte_of}
-use Rattle.om_parse.proofs.LexemeLemmas.{kinds_length, kinds_next}
+use Rattle.om_grammar.specs.Lexemes.{kinds_of}
+use Rattle.om_parse.specs.Parsed.{byte_of}
+use Rattle.om_grammar.proofs.LexemeLemmas.{kinds_length, kinds_next}
 use Rattle.om_path.specs.Machine.{at, accepted}
 use Rattle.om_path.specs.LineGrammar.{LineTree, set_line, link_line, unshare_line, graft_line, line_kinds}
 use Rattle.om_path.specs.LineMachine.{LineState, reading, literal, line_start, line_step, line_accepted, next_of, state_of, ended}

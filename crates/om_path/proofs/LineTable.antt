@@ -7,18 +7,20 @@ use Rattle.om_lex.specs.declared.lexeme.LexemeKind.{LexemeKind}
 use Rattle.om_lex.specs.declared.lexeme.LexemeKind.TheVariants as kinds
 use Rattle.om_lex.specs.declared.lexeme.Symbol.TheVariants as symbols
 use Rattle.om_grammar.specs.Grammar.{Kinds}
-use Rattle.om_grammar.specs.Refusals.{opened, open_after}
+use Rattle.om_grammar.specs.Refusals.{open_after}
 use Rattle.om_grammar.specs.Machine.{Leads, stop, go}
 use Rattle.om_grammar.proofs.MachineLemmas.{onward}
 use Rattle.om_grammar.proofs.TableLemmas.{Adds, Completes, Reads}
-use Rattle.om_path.specs.PathGrammar.{number, path_kinds}
-use Rattle.om_path.specs.Machine.{number_of, State, at, step, front, accepted}
+use Rattle.om_path.specs.PathGrammar.{path_kinds}
+use Rattle.om_grammar.specs.Lexemes.{number_of, number}
+use Rattle.om_path.specs.Machine.{State, at, step, front, accepted}
 use Rattle.om_path.specs.LineGrammar.{LineTree, set_line, link_line, unshare_line, graft_line, equals, assigned, line_kinds}
 use Rattle.om_path.specs.LineMachine.{LineState, reading, literal, line_start, valued, named_role, role_of, begun, is_equals, after_equals, with_other, along, state_of, line_step, role_kinds, line_front, ended, line_accepted, line_ends}
 use Rattle.om_path.specs.declared.front.Role.{Role}
 use Rattle.om_path.specs.declared.front.Role.TheVariants as roles
 use Rattle.om_path.specs.declared.front.Front.TheVariants as fronts
-use Rattle.om_path.proofs.PathTable.{none, zeros, final, leads as path_leads, number_is, path_table}
+use Rattle.om_grammar.proofs.LexemeLemmas.{number_is, open_more}
+use Rattle.om_path.proofs.PathTable.{none, zeros, final, path_table, leads as path_leads}
 
 -- brackets stand in literals alone
 abbrev pub brackets : LineState → ℕ
@@ -243,10 +245,6 @@ module _ (value : ℕ) where
   adds_step role s kind true h =
       subst (λ k. AddsIn role s k (state_of (after_equals value role (accepted s)))) (sym (equals_is kind h)) (adds_equals role s (accepted s) refl)
   adds_step role s kind false h = adds_along role s kind (step s kind) (path_table.adds s kind)
-
-open_more : (n : ℕ) (xs : Kinds) (kind : LexemeKind) → open_after n (xs ++ kind ∷ []) ≡ opened kind (open_after n xs)
-open_more n [] kind = refl
-open_more n (x ∷ xs) kind = open_more (opened x n) xs kind
 
 adds : (s : LineState) (kind : LexemeKind) → AddsTo s kind (line_step s kind)
 adds (reading fronts.Start) kind = adds_value kind (number_of kind) refl

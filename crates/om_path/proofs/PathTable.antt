@@ -1,16 +1,16 @@
 -- The table reads paths.
 use Rattle.std.proofs.Common.{ℕ, ◌≡◌, ◌∙◌, Bool, true, false, List, [], ◌∷◌, ◌++◌, Option, Some, None, refl, sym, ap, subst, arith, append_assoc, append-nil}
-use Rattle.std.specs.Prelude.{ℤ, pos, IfSome, option_map, map, if◌then◌else◌}
+use Rattle.std.specs.Prelude.{IfSome, option_map, map, if◌then◌else◌}
 use Rattle.om_lex.specs.declared.lexeme.LexemeKind.{LexemeKind}
 use Rattle.om_lex.specs.declared.lexeme.LexemeKind.TheVariants as kinds
-use Rattle.om_lex.specs.declared.lexeme.Suffix.{Suffix}
-use Rattle.om_lex.specs.declared.lexeme.Suffix.TheVariants as suffixes
 use Rattle.om_lex.specs.declared.lexeme.Symbol.TheVariants as symbols
 use Rattle.om_grammar.specs.Grammar.{Kinds}
 use Rattle.om_grammar.specs.Machine.{Leads, stop, go}
 use Rattle.om_grammar.proofs.TableLemmas.{Adds, Completes, Reads}
-use Rattle.om_path.specs.PathGrammar.{dot, number, steps_kinds, path_kinds}
-use Rattle.om_path.specs.Machine.{plain_number, number_of, is_dot, State, at, start, step, front, accepted, ends}
+use Rattle.om_path.specs.PathGrammar.{dot, steps_kinds, path_kinds}
+use Rattle.om_grammar.specs.Lexemes.{number_of, number}
+use Rattle.om_grammar.proofs.LexemeLemmas.{number_is}
+use Rattle.om_path.specs.Machine.{is_dot, State, at, start, step, front, accepted, ends}
 
 abbrev pub none : State → ℕ
 none s = 0
@@ -19,15 +19,6 @@ abbrev pub zeros : Kinds → List ℕ
 zeros lexemes = map (λ (kind : LexemeKind). 0) lexemes
 
 -- ---- what a lexeme is
-
-plain_is : (minus : Bool) (value : ℤ) (suffix : Suffix) (n : ℕ) → plain_number minus value suffix ≡ Some n →
-    kinds.Integer (record { minus = minus; value = value; suffix = suffix }) ≡ number n
-plain_is false (pos m) suffixes.Absent n h = let e : m ≡ n = cc in ap number e
-plain_is minus value suffix n h = absurd (cc)
-
-pub number_is : (kind : LexemeKind) (n : ℕ) → number_of kind ≡ Some n → kind ≡ number n
-number_is (kinds.Integer i) n h = plain_is i.minus i.value i.suffix n h
-number_is kind n h = absurd (cc)
 
 dot_is : (kind : LexemeKind) → is_dot kind ≡ true → kind ≡ dot
 dot_is (kinds.Symbol symbols.Dot) h = refl

@@ -8,8 +8,8 @@ use Rattle.om_lex.specs.LexText.{Lexes, Faults, UnlessMemory as unless_lexer}
 use Rattle.om_grammar.specs.Refusals.{IsSyntax}
 use Rattle.om_grammar.specs.Machine.{run}
 use Rattle.om_grammar.proofs.TableLemmas.{take_whole, run_more, is_syntax_at, syntax_end, text_is_read}
-use Rattle.om_parse.specs.Parsed.{kinds_of}
-use Rattle.om_parse.proofs.LexemeLemmas.{kinds_length, kinds_next}
+use Rattle.om_grammar.specs.Lexemes.{kinds_of}
+use Rattle.om_grammar.proofs.LexemeLemmas.{kinds_length, kinds_next}
 use Rattle.om_path.specs.Answer.{IsAnswer, IsSpelled, fault_of_lexer, UnlessMemory}
 use Rattle.om_path.specs.declared.fault.PathFault.{PathFault}
 use Rattle.om_path.specs.declared.fault.PathFault.TheVariants as faults

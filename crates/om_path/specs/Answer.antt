@@ -5,7 +5,8 @@ use Rattle.om_lex.specs.declared.lexeme.LexFault.{LexFault}
 use Rattle.om_lex.specs.declared.lexeme.LexFault.TheVariants as lexer
 use Rattle.om_lex.specs.LexText.{Outcome}
 use Rattle.om_grammar.specs.Refusals.{IsSyntax}
-use Rattle.om_parse.specs.Parsed.{kinds_of, byte_of}
+use Rattle.om_grammar.specs.Lexemes.{kinds_of}
+use Rattle.om_parse.specs.Parsed.{byte_of}
 use Rattle.om_path.specs.PathGrammar.{path_kinds}
 use Rattle.om_path.specs.declared.fault.PathFault.{PathFault}
 use Rattle.om_path.specs.declared.fault.PathFault.TheVariants as faults

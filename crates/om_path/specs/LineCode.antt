@@ -3,7 +3,7 @@ use Rattle.std.specs.Prelude.{ℕ, ◌≡◌, ◌≤◌, nat_le, if◌then◌els
 use Rattle.om_lex.specs.declared.lexeme.Lexeme.{Lexeme}
 use Rattle.om_grammar.specs.Machine.{run}
 use Rattle.om_grammar.specs.Refusals.{IsSyntax}
-use Rattle.om_parse.specs.Parsed.{kinds_of}
+use Rattle.om_grammar.specs.Lexemes.{kinds_of}
 use Rattle.om_path.specs.Machine.{at, accepted}
 use Rattle.om_path.specs.LineGrammar.{line_kinds}
 use Rattle.om_path.specs.LineMachine.{reading, literal, line_start, line_step}

@@ -5,7 +5,8 @@ use Rattle.om_lex.specs.declared.lexeme.LexemeKind.{LexemeKind}
 use Rattle.om_lex.specs.declared.lexeme.LexemeKind.TheVariants as kinds
 use Rattle.om_lex.specs.declared.lexeme.Symbol.TheVariants as symbols
 use Rattle.om_grammar.specs.Grammar.{Kinds}
-use Rattle.om_path.specs.PathGrammar.{number, path_kinds}
+use Rattle.om_grammar.specs.Lexemes.{number}
+use Rattle.om_path.specs.PathGrammar.{path_kinds}
 
 -- the number of a value, and the edit; the literal is any lexemes, also none
 pub data LineTree : Type 0 where

@@ -5,8 +5,8 @@ use Rattle.om_lex.specs.declared.lexeme.LexemeKind.{LexemeKind}
 use Rattle.om_lex.specs.declared.lexeme.LexemeKind.TheVariants as kinds
 use Rattle.om_lex.specs.declared.lexeme.Symbol.TheVariants as symbols
 use Rattle.om_grammar.specs.Grammar.{Kinds}
-use Rattle.om_path.specs.PathGrammar.{number}
-use Rattle.om_path.specs.Machine.{number_of, State, at, step, front, accepted}
+use Rattle.om_grammar.specs.Lexemes.{number_of, number}
+use Rattle.om_path.specs.Machine.{State, at, step, front, accepted}
 use Rattle.om_path.specs.LineGrammar.{LineTree, set_line, link_line, unshare_line, graft_line, assigned, line_kinds}
 use Rattle.om_path.specs.declared.front.Role.{Role}
 use Rattle.om_path.specs.declared.front.Role.TheVariants as roles

@@ -1,20 +1,11 @@
 -- The table that reads a path's lexemes one by one.
-use Rattle.std.specs.Prelude.{ℕ, ℤ, pos, Bool, true, false, not, if◌then◌else◌, Option, Some, None, option_map, List, [], ◌∷◌, ◌++◌, map}
+use Rattle.std.specs.Prelude.{ℕ, Bool, true, false, not, if◌then◌else◌, Option, Some, None, option_map, List, [], ◌∷◌, ◌++◌, map}
 use Rattle.om_lex.specs.declared.lexeme.LexemeKind.{LexemeKind}
 use Rattle.om_lex.specs.declared.lexeme.LexemeKind.TheVariants as kinds
-use Rattle.om_lex.specs.declared.lexeme.Suffix.{Suffix}
-use Rattle.om_lex.specs.declared.lexeme.Suffix.TheVariants as suffixes
 use Rattle.om_lex.specs.declared.lexeme.Symbol.TheVariants as symbols
 use Rattle.om_grammar.specs.Grammar.{Kinds}
+use Rattle.om_grammar.specs.Lexemes.{number_of}
 use Rattle.om_path.specs.PathGrammar.{dot, steps_kinds, path_kinds}
-
-abbrev pub plain_number : Bool → ℤ → Suffix → Option ℕ
-plain_number false (pos n) suffixes.Absent = Some n
-plain_number minus value suffix = None
-
-abbrev pub number_of : LexemeKind → Option ℕ
-number_of (kinds.Integer i) = plain_number i.minus i.value i.suffix
-number_of kind = None
 
 abbrev pub is_dot : LexemeKind → Bool
 is_dot (kinds.Symbol symbols.Dot) = true

@@ -6,7 +6,8 @@ use Rattle.om_lex.specs.declared.lexeme.LexFault.{LexFault}
 use Rattle.om_lex.specs.declared.lexeme.LexFault.TheVariants as lexer
 use Rattle.om_lex.specs.LexText.{Outcome}
 use Rattle.om_grammar.specs.Refusals.{IsSyntax}
-use Rattle.om_parse.specs.Parsed.{kinds_of, byte_of}
+use Rattle.om_grammar.specs.Lexemes.{kinds_of}
+use Rattle.om_parse.specs.Parsed.{byte_of}
 use Rattle.om_path.specs.LineGrammar.{LineTree, set_line, link_line, unshare_line, graft_line, line_kinds}
 use Rattle.om_path.specs.declared.edits.Action.{Action}
 use Rattle.om_path.specs.declared.edits.Action.TheVariants as actions

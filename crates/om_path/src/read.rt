@@ -2,7 +2,8 @@
 
 ghost use Rattle.std.specs.Prelude.{◌≡◌, if◌then◌else◌, IfOk, IfErr, List, ℕ, Option, Some, None, Result, Ok, Err};
 ghost use Rattle.om_path.specs.Answer.{IsAnswer, IsSpelled, UnlessMemory, Tells};
-ghost use Rattle.om_path.specs.Machine.{number_of, is_dot, at, step, stepped, accepted};
+ghost use Rattle.om_grammar.specs.Lexemes.{number_of};
+ghost use Rattle.om_path.specs.Machine.{is_dot, at, step, stepped, accepted};
 ghost use Rattle.om_path.specs.declared.fault.PathFault.{PathFault};
 
 use crate::fault::{PathFault, lexer_fault};

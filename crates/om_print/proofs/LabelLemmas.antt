@@ -7,7 +7,8 @@ use Rattle.std.proofs.lemmas.List.Folds.{list_any-append}
 use Rattle.om_model.specs.declared.value.Val.{Val}
 use Rattle.om_model.specs.declared.value.Obj.{Obj}
 use Rattle.om_type_table.specs.declared.table.TypeTable.{TypeTable}
-use Rattle.om_show.specs.Pieces.{Piece, Text, First, Again, has, firsts, agains, labelled, number_in, label_text, piece_text}
+use Rattle.om_show.specs.Pieces.{Piece, First, Again, has, firsts, agains, labelled, number_in, label_text, piece_text}
+use Rattle.om_show.proofs.PieceLemmas.{agains-append, firsts-append}
 use Rattle.om_print.specs.declared.walk.Step.{Step}
 use Rattle.om_print.specs.declared.walk.Step.TheVariants as steps
 use Rattle.om_print.specs.declared.walk.Walk.{Walk}
@@ -47,18 +48,6 @@ some_label objects o number is less = ⊎_elim
     (label_cases objects o)
 
 -- ---- pieces one after the other
-
-pub agains-append : (ps qs : List Piece) → agains (ps ++ qs) ≡ agains ps ++ agains qs
-agains-append [] qs = refl
-agains-append (Text bytes ∷ ps) qs = agains-append ps qs
-agains-append (First o ∷ ps) qs = agains-append ps qs
-agains-append (Again o ∷ ps) qs = ap (λ os. o ∷ os) (agains-append ps qs)
-
-pub firsts-append : (ps qs : List Piece) → firsts (ps ++ qs) ≡ firsts ps ++ firsts qs
-firsts-append [] qs = refl
-firsts-append (Text bytes ∷ ps) qs = firsts-append ps qs
-firsts-append (First o ∷ ps) qs = ap (λ os. o ∷ os) (firsts-append ps qs)
-firsts-append (Again o ∷ ps) qs = firsts-append ps qs
 
 or_turns : (a b c : Bool) → (a || (b || c)) ≡ ((b || a) || c)
 or_turns true true c = refl

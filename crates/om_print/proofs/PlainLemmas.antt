@@ -10,6 +10,7 @@ use Rattle.om_model.specs.Graph.{IsValue}
 use Rattle.om_type_table.specs.declared.table.TypeTable.{TypeTable}
 use Rattle.om_type_table.specs.Made.{table_of}
 use Rattle.om_show.specs.Pieces.{Piece, firsts, agains, has, labelled, piece_text, text_of}
+use Rattle.om_show.proofs.PieceLemmas.{agains-append, firsts-append}
 use Rattle.om_print.specs.Typed.{IsTypedAt}
 use Rattle.om_print.specs.declared.walk.Step.{Step}
 use Rattle.om_print.specs.declared.walk.Walk.{Walk}
@@ -17,7 +18,7 @@ use Rattle.om_print.specs.Labels.{agains_of, AreCounted}
 use Rattle.om_print.specs.Walking.{pieces_left, left_of, step_pieces, IsWalk, Goes}
 use Rattle.om_print.specs.Plain.{IsPutOn}
 use Rattle.om_print.proofs.MarkLemmas.{no_marks}
-use Rattle.om_print.proofs.LabelLemmas.{step_agains, agains-append, firsts-append, append_associative, some_piece, first_left}
+use Rattle.om_print.proofs.LabelLemmas.{step_agains, append_associative, some_piece, first_left}
 
 -- one piece of text
 pub one_text : (old text bytes : List ℕ) → text ≡ old ++ bytes → text ≡ old ++ (bytes ++ [])

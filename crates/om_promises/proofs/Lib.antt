@@ -17,3 +17,4 @@ pub mod MeantLemmas
 pub mod FailsLemmas
 pub mod FirstLemmas
 pub mod InTurnLemmas
+pub mod EndedLemmas

@@ -16,10 +16,11 @@ use Rattle.om_read.specs.Build.{Building, building, start, still_open, advanced,
 use Rattle.om_read.specs.declared.build.OpenBlock.{OpenBlock}
 use Rattle.om_heap.specs.Heap.{with_field, set_field, word_of}
 use Rattle.om_heap.proofs.ReadLemmas.{word_of-append, word_of-set_field}
+use Rattle.om_heap.proofs.FieldLemmas.{length-set_field, set_field-append}
 use Rattle.om_format.specs.Preorder.{OpenBefore}
 use Rattle.om_format.proofs.Counts.{leaf_fields, length-object_of, objects-tokens-cons}
 use Rattle.om_format.proofs.Pending.{pending_push}
-use Rattle.om_read.proofs.FieldLemmas.{length-set_field, set_field-append, still_open_below, still_open_full}
+use Rattle.om_read.proofs.FieldLemmas.{still_open_below, still_open_full}
 
 -- ---- open blocks stay open
 

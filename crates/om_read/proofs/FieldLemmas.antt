@@ -1,12 +1,13 @@
 -- Fields of a block among objects that are set one after another.
-use Rattle.std.proofs.Common.{pos, ◌≡◌, ℕ, suc, ◌+◌, ◌<◌, List, [], ◌∷◌, ◌++◌, length, set, get_or, refl, ap, sym, ◌∙◌, arith, length-set, append_assoc, add-zero, eq-eqb, ne_eqb}
-use Rattle.std.proofs.lemmas.List.{set-append_left, get_or_append_left, set_at, get_or_at, length_push}
+use Rattle.std.proofs.Common.{◌≡◌, ℕ, suc, ◌+◌, ◌<◌, List, [], ◌∷◌, ◌++◌, length, refl, ap, sym, ◌∙◌, arith, append_assoc, add-zero, eq-eqb, ne_eqb}
+use Rattle.std.proofs.lemmas.List.{set_at, length_push}
 use Rattle.om_model.specs.declared.value.Val.{Val}
 use Rattle.om_model.specs.declared.value.Obj.{Obj}
 use Rattle.om_model.specs.declared.value.Obj.TheVariants as objs
 use Rattle.om_read.specs.Build.{still_open, advanced}
 use Rattle.om_read.specs.declared.build.OpenBlock.{OpenBlock}
-use Rattle.om_heap.specs.Heap.{with_field, set_field}
+use Rattle.om_heap.specs.Heap.{set_field}
+use Rattle.om_heap.proofs.FieldLemmas.{length-set_field, set_field-append, set_field_at}
 
 -- the fields from i on, one after another
 abbrev pub set_fields : List Obj → ℕ → ℕ → List Val → List Obj
@@ -14,19 +15,6 @@ set_fields all b i [] = all
 set_fields all b i (v ∷ values) = set_fields (set_field all b i v) b (i + 1) values
 
 -- one field
-
-pub length-set_field : (all : List Obj) (b i : ℕ) (v : Val) → length (set_field all b i v) ≡ length all
-length-set_field all b i v = length-set all b (with_field (get_or all b (objs.I32 (pos 0))) i v)
-
-pub set_field-append : (xs ys : List Obj) (b i : ℕ) (v : Val) → b < length xs → set_field (xs ++ ys) b i v ≡ set_field xs b i v ++ ys
-set_field-append xs ys b i v h =
-    ap (λ o. set (xs ++ ys) b (with_field o i v)) (get_or_append_left xs ys (objs.I32 (pos 0)) b h)
-    ∙ set-append_left xs ys b (with_field (get_or xs b (objs.I32 (pos 0))) i v) h
-
-pub set_field_at : (xs : List Obj) (tag : ℕ) (values : List Val) (b i : ℕ) (v : Val) → length xs ≡ b → set_field (xs ++ objs.Block tag values ∷ []) b i v ≡ xs ++ objs.Block tag (set values i v) ∷ []
-set_field_at xs tag values b i v e =
-    ap (λ o. set (xs ++ objs.Block tag values ∷ []) b (with_field o i v)) (get_or_at xs (objs.Block tag values) [] (objs.I32 (pos 0)) b e)
-    ∙ set_at xs (objs.Block tag values) [] (objs.Block tag (set values i v)) b e
 
 -- several fields
 

@@ -88,7 +88,7 @@ start_is true big small p q = rw p refl
 start_is false big small p q = rw q refl
 
 -- where a header ends, by what it states
-start_length : (bytes : List ℕ) → cond {A = ℕ} (head_of bytes).big 32 20 ≡ header_length bytes
+pub start_length : (bytes : List ℕ) → cond {A = ℕ} (head_of bytes).big 32 20 ≡ header_length bytes
 unfolding head_of
 start_length bytes = start_is (eqb (magic bytes) big_magic) (big_head bytes) (small_head bytes) refl refl
 

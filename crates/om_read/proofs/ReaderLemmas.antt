@@ -20,7 +20,8 @@ use Rattle.om_read.specs.declared.value.Value.{Value}
 use Rattle.om_read.specs.Build.{Building, Bounded, building, start, absorb_all}
 use Rattle.om_read.specs.Pieces.{LeadsTokens, LeadsAs, LeadsPieces, IsWhole, TakesPiece}
 use Rattle.om_read.specs.Reader.{Feeds, IsWithin, Finishes}
-use Rattle.om_read.proofs.TreeLemmas.{absorb_start, root_is_value}
+use Rattle.om_format.proofs.RootLemmas.{root_is_value}
+use Rattle.om_read.proofs.TreeLemmas.{absorb_start}
 use Rattle.om_read.proofs.RoomLemmas.{spelled_words}
 use Rattle.om_read.proofs.NextLemmas.{words_built}
 use Rattle.om_read.proofs.PiecesLemmas.{open_from}

@@ -1,9 +1,9 @@
 -- How many words on 64 bits the objects have that tokens build.
 use Rattle.std.proofs.Common.{◌≡◌, ℕ, ◌+◌, ◌<◌, ◌≤◌, List, [], ◌∷◌, ◌++◌, length, map, take, pos, Option, arith, ap, sym, ◌∙◌, refl, length-append}
-use Rattle.std.specs.List.{AllZip, concat}
+use Rattle.std.specs.List.{concat}
 use Rattle.std.specs.Prelude.{All}
 use Rattle.std.proofs.lemmas.List.{length-replicate, length-take, take_at}
-use Rattle.std.proofs.lemmas.List.Elements.{All-nil, All-cons, All-head, All-tail}
+use Rattle.std.proofs.lemmas.List.Elements.{All-head, All-tail}
 use Rattle.std.proofs.lemmas.List.Sums.{sum_by-cons, sum_by-set}
 use Rattle.om_model.specs.declared.value.Val.{Val}
 use Rattle.om_model.specs.declared.value.Val.TheVariants as vals
@@ -11,10 +11,10 @@ use Rattle.om_model.specs.declared.value.Obj.{Obj}
 use Rattle.om_model.specs.declared.value.Obj.TheVariants as objs
 use Rattle.om_format.specs.Words.{of_object, words64, all_words64}
 use Rattle.om_format.specs.Header.{header_length, head_of}
-use Rattle.om_format.specs.Token.{Token, integer, atom, shared, block, leaf, IsToken, measure_of, Spells}
+use Rattle.om_format.specs.Token.{Token, integer, atom, shared, block, leaf, IsToken, measure_of}
 use Rattle.om_format.specs.Tree.{Tree, IsTree, tokens, value_of, objects_of}
 use Rattle.om_format.specs.Spelled.{SpelledUnder}
-use Rattle.om_format.proofs.SpellValues.{IsToken-spelled}
+use Rattle.om_format.proofs.SpellValues.{IsToken-all_spelled}
 use Rattle.om_format.proofs.TokenStepLemmas.{header_length-from, header_length-take, head_of-take}
 use Rattle.om_format.proofs.OneJudgement.{header_length-append}
 use Rattle.om_heap.specs.Heap.{object_at, with_field, set_field, object_words, heap_words}
@@ -85,11 +85,6 @@ heap_words-from_start ts h = let e = heap_words-absorb_all start ts h WellOpen-s
 
 -- ---- a whole value
 
-spelled_tokens : (ts : List Token) (pieces : List (List ℕ)) → AllZip Spells ts pieces → All IsToken ts
-spelled_tokens [] pieces s = All-nil IsToken
-spelled_tokens (t ∷ ts) [] s = absurd s
-spelled_tokens (t ∷ ts) (p ∷ pieces) s = All-cons IsToken t ts (IsToken-spelled t p s.0) (spelled_tokens ts pieces s.1)
-
 -- the objects of a tree have the words of its tokens
 heap_words-objects_of : (tree : Tree) → IsTree tree → All IsToken (tokens tree) → heap_words (objects_of tree 0) ≡ all_words64 (map measure_of (tokens tree))
 heap_words-objects_of tree h k = sym (ap (λ (b : Building). heap_words b.objects) (absorb_start tree h)) ∙ heap_words-from_start (tokens tree) k
@@ -112,6 +107,6 @@ pub spelled_words : (limit n : ℕ) (bytes : List ℕ) (tree : Tree) → Spelled
     → (heap_words (objects_of tree 0) ≡ (head_of bytes).w64) × (heap_words (objects_of tree 0) ≤ limit)
 spelled_words limit n bytes tree s =
     let same = head_in_front n bytes s.header (concat s.pieces) s.spells.is_header.whole s.bytes_are in
-    let words = heap_words-objects_of tree s.spells.is_tree (spelled_tokens (tokens tree) s.pieces s.spells.spells) in
+    let words = heap_words-objects_of tree s.spells.is_tree (IsToken-all_spelled (tokens tree) s.pieces s.spells.spells) in
     let stated : heap_words (objects_of tree 0) ≡ (head_of s.header).w64 = words ∙ sym s.spells.states.w64 in
     (stated ∙ ap (λ h. h.w64) same, omega (arith, s.words))

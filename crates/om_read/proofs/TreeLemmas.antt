@@ -5,15 +5,15 @@ use Rattle.std.proofs.lemmas.List.Sums.{fold-append}
 use Rattle.om_model.specs.declared.value.Val.{Val}
 use Rattle.om_model.specs.declared.value.Val.TheVariants as vals
 use Rattle.om_model.specs.declared.value.Obj.{Obj}
-use Rattle.om_model.specs.Graph.{IsValue}
 use Rattle.om_model.specs.declared.value.Obj.TheVariants as objs
 use Rattle.om_format.specs.Token.{Token, integer, atom, shared, block, leaf}
-use Rattle.om_format.specs.Tree.{Tree, Forest, node, none, more, trees_in, IsTree, AreTrees, ReferBack, tokens, forest_tokens, made, value_of, root, roots, objects_of, all_objects}
+use Rattle.om_format.specs.Tree.{Tree, Forest, node, none, more, trees_in, IsTree, AreTrees, tokens, forest_tokens, made, value_of, root, roots, objects_of, all_objects}
 use Rattle.om_read.specs.Build.{building, start, still_open, advanced, blank, opened, absorb, absorb_all}
 use Rattle.om_read.specs.declared.build.OpenBlock.{OpenBlock}
 use Rattle.om_heap.specs.Heap.{set_field, word_of}
+use Rattle.om_heap.proofs.FieldLemmas.{length-set_field, set_field-append}
 use Rattle.om_format.proofs.Counts.{leaf_fields, length-objects_of, length-roots}
-use Rattle.om_read.proofs.FieldLemmas.{set_fields, set_field-append, length-set_field, set_fields-append, set_fields_at, still_open_below, still_open_full, advanced-zero, advanced-suc}
+use Rattle.om_read.proofs.FieldLemmas.{set_fields, set_fields-append, set_fields_at, still_open_below, still_open_full, advanced-zero, advanced-suc}
 
 -- the tokens of trees set the next fields of an open block, and their objects come after the others
 abbrev pub FillsFields : Forest → Type 0
@@ -100,11 +100,3 @@ absorb_root (node t f) all r h = completes t f h (absorb_forest f h.2) all (leng
 -- from the start the tokens of a tree build it
 pub absorb_start : (tree : Tree) → IsTree tree → absorb_all start (tokens tree) ≡ building (objects_of tree 0) [] (Some (root tree 0))
 absorb_start tree h = absorb_root tree [] None h
-
--- the root of a tree is a value among its objects
-pub root_is_value : (tree : Tree) → IsTree tree → ReferBack tree 0 → IsValue (length (objects_of tree 0)) (root tree 0)
-root_is_value (node (integer z) forest) is_tree back = is_tree.0
-root_is_value (node (atom tag) forest) is_tree back = is_tree.0
-root_is_value (node (shared offset) forest) is_tree back = let first = back.0.0 in let second = back.0.1 in absurd (omega (arith, first, second))
-root_is_value (node (block tag size) forest) is_tree back = omega arith
-root_is_value (node (leaf object) forest) is_tree back = omega arith

@@ -9,7 +9,7 @@ use Rattle.om_types.specs.Accepted.{AreWellFormed, IsSoundType}
 use Rattle.om_types.specs.Lawful.{AreLawful}
 use Rattle.om_types.specs.Typing.{IsHeld, IsTyping}
 use Rattle.om_types.specs.Fault.{field_of, type_of_field, value_at}
-use Rattle.om_types.proofs.FaultLemmas.{place_is_held}
+use Rattle.om_types.proofs.FaultLemmas.{held_by_some, place_is_held}
 use Rattle.om_types.specs.Equal.{declared_shapes}
 use Rattle.om_types.specs.Names.{names_of}
 use Rattle.om_types.specs.Reached.{IsReached}
@@ -20,7 +20,6 @@ use Rattle.om_equal.proofs.LawfulLemmas.{reached_lawful}
 use Rattle.om_equal.proofs.ReachedLemmas.{root_listed}
 use Rattle.om_equal.proofs.SoundLemmas.{known_by_hash}
 use Rattle.om_show.proofs.NamedLemmas.{has_its_names}
-use Rattle.om_show.proofs.PartLemmas.{held_by_some}
 use Rattle.om_literal_texts.specs.Readable.{AreReadable}
 use Rattle.om_readback.specs.Back.{AreShowable}
 use Rattle.om_readback.specs.Laws.{TextsAreReadBack}

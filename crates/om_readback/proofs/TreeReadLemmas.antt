@@ -17,9 +17,10 @@ use Rattle.om_types.specs.Fitting.{numbered_from}
 use Rattle.om_format.specs.Tree.{Tree, Forest, none, more, trees_in, AreTrees, root, roots, made, all_made, objects_of, all_objects}
 use Rattle.om_literal_grammar.specs.Literal.{labelled, label_kinds}
 use Rattle.om_literal.specs.Reading.{reading, label_at, begun, block_read, literal_read, inside}
-use Rattle.om_show.specs.Pieces.{Piece, Text, First, Again, has, firsts, agains, piece_text}
+use Rattle.om_show.specs.Pieces.{Piece, Text, First, has, firsts, agains, piece_text}
 use Rattle.om_leaves.specs.Frames.{Frame, before_part, row_from}
 use Rattle.om_show.specs.Shown.{Met, met, led_by}
+use Rattle.om_show.proofs.PieceLemmas.{firsts-append, agains-append}
 use Rattle.om_literal.specs.Starts.{Start, start_at, small, whole, block as block_of}
 use Rattle.om_lexed.specs.Lexed.{Begins}
 use Rattle.om_lexed.proofs.LexedLemmas.{lexed_then, lexed_at}
@@ -34,28 +35,16 @@ use Rattle.om_readback.proofs.LabelReadLemmas.{IsFront, front_of}
 
 -- ---- pieces one after another
 
-firsts_both : (ps qs : List Piece) → firsts (ps ++ qs) ≡ firsts ps ++ firsts qs
-firsts_both [] qs = refl
-firsts_both (Text b ∷ ps) qs = firsts_both ps qs
-firsts_both (First o ∷ ps) qs = ap (λ t. o ∷ t) (firsts_both ps qs)
-firsts_both (Again o ∷ ps) qs = firsts_both ps qs
-
-agains_both : (ps qs : List Piece) → agains (ps ++ qs) ≡ agains ps ++ agains qs
-agains_both [] qs = refl
-agains_both (Text b ∷ ps) qs = agains_both ps qs
-agains_both (First o ∷ ps) qs = agains_both ps qs
-agains_both (Again o ∷ ps) qs = ap (λ t. o ∷ t) (agains_both ps qs)
-
 has_both : (xs ys : List ℕ) (o : ℕ) → has (xs ++ ys) o ≡ (has xs o || has ys o)
 has_both [] ys o = refl
 has_both (x ∷ xs) ys o = ap (λ b. (x == o) || b) (has_both xs ys o) ∙ sym (or_assoc (x == o) (has xs o) (has ys o))
 
 module _ (ps qs : List Piece) (labels : List ℕ) (are : AreLabels labels (ps ++ qs)) where
   labels_left : AreLabels labels ps
-  labels_left = record { up = are.up; few = are.few; all = λ o e. are.all o (ap (λ l. has l o) (agains_both ps qs) ∙ has_both (agains ps) (agains qs) o ∙ or_left _ _ e) }
+  labels_left = record { up = are.up; few = are.few; all = λ o e. are.all o (ap (λ l. has l o) (agains-append ps qs) ∙ has_both (agains ps) (agains qs) o ∙ or_left _ _ e) }
 
   labels_right : AreLabels labels qs
-  labels_right = record { up = are.up; few = are.few; all = λ o e. are.all o (ap (λ l. has l o) (agains_both ps qs) ∙ has_both (agains ps) (agains qs) o ∙ or_right _ _ e) }
+  labels_right = record { up = are.up; few = are.few; all = λ o e. are.all o (ap (λ l. has l o) (agains-append ps qs) ∙ has_both (agains ps) (agains qs) o ∙ or_right _ _ e) }
 
 -- ---- where objects stand
 
@@ -186,10 +175,10 @@ module _ {T : Type 0} (shape : T → ShapeOf T) (names : T → Names) where
       let last : c + made s + all_made fs ≡ c + (made s + all_made fs) = omega arith in
       record {
         seen = rest.seen ∙ ap down last;
-        firsts_are = firsts_both m.pieces others.pieces ∙ ap (λ l. l ++ firsts others.pieces) one.firsts_are ∙ ap (λ l. count_from c (made s) ++ l) rest.firsts_are ∙ sym (count_both (made s) (all_made fs) c);
+        firsts_are = firsts-append m.pieces others.pieces ∙ ap (λ l. l ++ firsts others.pieces) one.firsts_are ∙ ap (λ l. count_from c (made s) ++ l) rest.firsts_are ∙ sym (count_both (made s) (all_made fs) c);
         agains_are = λ o e.
             ⊎_elim (λ h. let lt = one.agains_are o h in omega arith) (λ h. let lt = rest.agains_are o h in omega arith)
-            (or_cases (has (agains m.pieces) o) (has (agains others.pieces) o) (sym (has_both (agains m.pieces) (agains others.pieces) o) ∙ ap (λ l. has l o) (sym (agains_both m.pieces others.pieces)) ∙ e));
+            (or_cases (has (agains m.pieces) o) (has (agains others.pieces) o) (sym (has_both (agains m.pieces) (agains others.pieces) o) ∙ ap (λ l. has l o) (sym (agains-append m.pieces others.pieces)) ∙ e));
         back = λ labels are.
             let both : AreLabels labels (m.pieces ++ others.pieces) = record { up = are.up; few = are.few; all = are.all } in
             let x = one.back labels (labels_left m.pieces others.pieces labels both) in

@@ -21,7 +21,7 @@ use Rattle.om_sites.specs.InFile.{spread, in_constrs, constr_name, constr_size, 
 use Rattle.om_sites.specs.InText.{in_texpr}
 use Rattle.om_grammar.specs.Depths.{texpr_ends, file_ends}
 use Rattle.om_grammar.specs.Refusals.{Reading, text_read, syntax_at, too_deep_at, IsReading}
-use Rattle.om_parse.specs.Parsed.{kinds_of}
+use Rattle.om_grammar.specs.Lexemes.{kinds_of}
 use Rattle.om_decl.specs.Answer.{accepted, IsRead, IsLexed}
 use Rattle.om_decl.specs.Read.{IsDeclared, IsTypeOf}
 use Rattle.om_lex.specs.declared.lexeme.LexFault.{LexFault}
@@ -29,6 +29,7 @@ use Rattle.om_lex.specs.LexText.{Outcome}
 use Rattle.om_model.proofs.Options.{slice_get-Contains}
 use Rattle.std.proofs.lemmas.List.{length-map}
 use Rattle.std.proofs.Common.{length-append, Result, Ok, Err}
+use Rattle.om_model.proofs.Lists.{AllByRecursion-append}
 use Rattle.om_lexed.specs.Lexed.{kinds_in}
 use Rattle.om_lexed.proofs.LexedLemmas.{kinds_lexemes}
 use Rattle.om_rebuild.specs.Spoken.{IsSpoken, IsSpokenField, AreSpokenArguments, IsSpokenConstructor, AreOnce, IsSpokenBody, AreSpoken}
@@ -241,10 +242,6 @@ group_spoken group k g all free =
       more_spoken group (k + 1 + decl_size g.first) g.more (right (word keywords.Type ++ decl_kinds g.first) rest both) free.1,
     )
 
-both_all : {X : Type 0} (P : X → Type 0) (xs ys : List X) → AllByRecursion P xs → AllByRecursion P ys → AllByRecursion P (xs ++ ys)
-both_all P [] ys h k = k
-both_all P (x ∷ xs) ys h k = (h.0, both_all P xs ys h.1 k)
-
 first_all : {X : Type 0} (P : X → Type 0) (xs ys : List X) → AllByRecursion P (xs ++ ys) → AllByRecursion P xs
 first_all P [] ys h = tt
 first_all P (x ∷ xs) ys h = (h.0, first_all P xs ys h.1)
@@ -262,7 +259,7 @@ after_spoken (g ∷ groups) before k spoken all free =
     let here = group_spoken (length before) k g (left (group_kinds g) (file_kinds groups) all) (first_all IsFree own others free) in
     let long : length before + length (g.first ∷ g.more) ≡ length (with_group before g) =
     sym (length-append before (map (declaration_of_tree (length before)) (g.first ∷ g.more)) ∙ ap (λ n. length before + n) (length-map (g.first ∷ g.more) (declaration_of_tree (length before)))) in
-    after_spoken groups (with_group before g) (k + length (group_kinds g)) (both_all IsSpokenDecl before (map (declaration_of_tree (length before)) (g.first ∷ g.more)) spoken here)
+    after_spoken groups (with_group before g) (k + length (group_kinds g)) (AllByRecursion-append IsSpokenDecl before (map (declaration_of_tree (length before)) (g.first ∷ g.more)) spoken here)
     (right (group_kinds g) (file_kinds groups) all)
     (subst (λ n. AllByRecursion IsFree (places_after n (k + length (group_kinds g)) groups)) long (last_all IsFree own others free))
 

@@ -4,7 +4,8 @@ use Rattle.std.specs.Prelude.{slice_get, filter, map, option_map, Contains}
 use Rattle.std.specs.List.{AllByRecursion, flat_map, cons_option}
 use Rattle.std.specs.Str.{bytes_eq}
 use Rattle.std.proofs.lemmas.Option.{same_Some, none-some}
-use Rattle.om_model.proofs.Options.{Contains-none, Contains-cases}
+use Rattle.om_model.proofs.Options.{Contains-none}
+use Rattle.om_model.proofs.Lists.{AllByRecursion-append, AllByRecursion-filter, AllByRecursion-Contains, Contains-place}
 use Rattle.om_types.specs.declared.decl.Predeclared.{Predeclared}
 use Rattle.om_types.specs.declared.decl.Predeclared.TheVariants as bases
 use Rattle.om_types.specs.declared.decl.Field.{Field}
@@ -32,29 +33,13 @@ use Rattle.om_rebuild.proofs.SpokenLemmas.{IsSpokenTag, IsSpokenHead, head_reada
 
 -- ---- lists
 
-all_append : {X : Type 0} (P : X → Type 0) (xs ys : List X) → AllByRecursion P xs → AllByRecursion P ys → AllByRecursion P (xs ++ ys)
-all_append P [] ys h k = k
-all_append P (x ∷ xs) ys h k = (h.0, all_append P xs ys h.1 k)
-
-all_filter : {X : Type 0} (P : X → Type 0) (p : X → Bool) (xs : List X) → AllByRecursion P xs → AllByRecursion P (filter p xs)
-all_filter P p [] h = tt
-all_filter P p (x ∷ xs) h = by_test (p x) (all_filter P p xs h.1)
-  where
-    by_test : (b : Bool) → AllByRecursion P (filter p xs) → AllByRecursion P (cond b (x ∷ filter p xs) (filter p xs))
-    by_test true rest = (h.0, rest)
-    by_test false rest = rest
-
 all_map : {X Y : Type 0} (P : X → Type 0) (Q : Y → Type 0) (f : X → Y) → ((x : X) → P x → Q (f x)) → (xs : List X) → AllByRecursion P xs → AllByRecursion Q (map f xs)
 all_map P Q f each [] h = tt
 all_map P Q f each (x ∷ xs) h = (each x h.0, all_map P Q f each xs h.1)
 
 all_flat : {X Y : Type 0} (P : X → Type 0) (Q : Y → Type 0) (f : X → List Y) → ((x : X) → P x → AllByRecursion Q (f x)) → (xs : List X) → AllByRecursion P xs → AllByRecursion Q (flat_map f xs)
 all_flat P Q f each [] h = tt
-all_flat P Q f each (x ∷ xs) h = all_append Q (f x) (flat_map f xs) (each x h.0) (all_flat P Q f each xs h.1)
-
-all_contains : {X : Type 0} (P : X → Type 0) (xs : List X) (x : X) → AllByRecursion P xs → Contains xs x → P x
-all_contains P [] x h among = absurd (Contains-none x among)
-all_contains P (y ∷ ys) x h among = ⊎_elim (λ here. subst P here h.0) (λ later. all_contains P ys x h.1 later) (Contains-cases y ys x among)
+all_flat P Q f each (x ∷ xs) h = AllByRecursion-append Q (f x) (flat_map f xs) (each x h.0) (all_flat P Q f each xs h.1)
 
 abbrev AllSpoken : List Ty → Type 0
 AllSpoken ts = AllByRecursion (IsSpoken 0) ts
@@ -85,7 +70,7 @@ spoken_parts (variable x) k is = tt
 spoken_parts (named n) k is = tt
 spoken_parts tuple k is = tt
 spoken_parts bracket k is = tt
-spoken_parts (part t a) k is = all_append (IsSpoken 0) (parts t) (a ∷ []) (spoken_parts t (suc k) is.0) (is.1, tt)
+spoken_parts (part t a) k is = AllByRecursion-append (IsSpoken 0) (parts t) (a ∷ []) (spoken_parts t (suc k) is.0) (is.1, tt)
 spoken_parts (tag t x) k is = tt
 spoken_parts (tag_of t x a) k is = tt
 spoken_parts (including t a) k is = tt
@@ -94,14 +79,14 @@ spoken_parts (including t a) k is = tt
 
 with_part_spoken : (h : HeadOf Ty) (a : Ty) (k : ℕ) → IsSpokenHead (suc k) h → IsSpoken 0 a → IsSpokenHead k (with_part h a)
 with_part_spoken (heads.Variable x) a k is one = tt
-with_part_spoken (heads.Predeclared b ts) a k is one = all_append (IsSpoken 0) ts (a ∷ []) is (one, tt)
-with_part_spoken (heads.Datatype n ts) a k is one = all_append (IsSpoken 0) ts (a ∷ []) is (one, tt)
-with_part_spoken (heads.Tuple ts) a k is one = (let two = is.0 in omega (arith, length-append ts (a ∷ [])), all_append (IsSpoken 0) ts (a ∷ []) is.1 (one, tt))
+with_part_spoken (heads.Predeclared b ts) a k is one = AllByRecursion-append (IsSpoken 0) ts (a ∷ []) is (one, tt)
+with_part_spoken (heads.Datatype n ts) a k is one = AllByRecursion-append (IsSpoken 0) ts (a ∷ []) is (one, tt)
+with_part_spoken (heads.Tuple ts) a k is one = (let two = is.0 in omega (arith, length-append ts (a ∷ [])), AllByRecursion-append (IsSpoken 0) ts (a ∷ []) is.1 (one, tt))
 with_part_spoken (heads.Variants tags) a k is one = tt
 with_part_spoken heads.Absent a k is one = tt
 
 with_tags_spoken : (h : HeadOf Ty) (more : List (TagOf Ty)) (k : ℕ) → IsSpokenHead 0 h → AllByRecursion IsSpokenTag more → IsSpokenHead k (with_tags h more)
-with_tags_spoken (heads.Variants tags) more k is all = all_append IsSpokenTag tags (filter (λ (tag : TagOf Ty). not (has_tag tags tag.name)) more) is (all_filter IsSpokenTag (λ (tag : TagOf Ty). not (has_tag tags tag.name)) more all)
+with_tags_spoken (heads.Variants tags) more k is all = AllByRecursion-append IsSpokenTag tags (filter (λ (tag : TagOf Ty). not (has_tag tags tag.name)) more) is (AllByRecursion-filter IsSpokenTag (λ (tag : TagOf Ty). not (has_tag tags tag.name)) more all)
 with_tags_spoken (heads.Variable x) more k is all = tt
 with_tags_spoken (heads.Predeclared b ts) more k is all = tt
 with_tags_spoken (heads.Datatype n ts) more k is all = tt
@@ -213,7 +198,7 @@ module _ (decls : List Decl) (spoken : AreSpoken decls) where
 
   tag_reached : (tags : List (TagOf Ty)) → AllByRecursion IsSpokenTag tags → AllSpoken (flat_map (λ (tag : PolyTag Ty). listed_if tag.arg) (map tag_shape tags))
   tag_reached [] is = tt
-  tag_reached (t ∷ ts) is = all_append (IsSpoken 0) (listed_if t.argument) (flat_map (λ (tag : PolyTag Ty). listed_if tag.arg) (map tag_shape ts)) is.0.1 (tag_reached ts is.1)
+  tag_reached (t ∷ ts) is = AllByRecursion-append (IsSpoken 0) (listed_if t.argument) (flat_map (λ (tag : PolyTag Ty). listed_if tag.arg) (map tag_shape ts)) is.0.1 (tag_reached ts is.1)
 
   named_reached : (h : HeadOf Ty) → IsSpokenHead 0 h → AllSpoken (named_in (head_shape decls h))
   named_reached (heads.Variable x) is = tt
@@ -233,8 +218,8 @@ module _ (decls : List Decl) (spoken : AreSpoken decls) where
 
   reached_spoken : (t a : Ty) → IsSpoken 0 t → Contains (reached_from decls t) a → IsSpoken 0 a
   reached_spoken t a is among =
-      all_contains (IsSpoken 0) (reached_from decls t) a
-      (all_append (IsSpoken 0) (named_in (shape decls t)) (parts_of (head decls t)) (named_reached (head decls t) (head_spoken t is)) (parts_reached (head decls t) (head_spoken t is))) among
+      AllByRecursion-Contains (IsSpoken 0) (reached_from decls t) a
+      (AllByRecursion-append (IsSpoken 0) (named_in (shape decls t)) (parts_of (head decls t)) (named_reached (head decls t) (head_spoken t is)) (parts_reached (head decls t) (head_spoken t is))) among
 
   module _ (t : Ty) (is : IsSpoken 0 t) (types : List Ty) (reached : IsReached decls t types) where
     first_is : slice_get types 0 ≡ Some t
@@ -247,9 +232,5 @@ module _ (decls : List Decl) (spoken : AreSpoken decls) where
         let from = reached.from_earlier (suc k) u (omega arith) at in
         reached_spoken from.1 u (spoken_below n from.0 from.1 (omega (arith, below, from.2)) from.3) from.4
 
-    listed_at : (us : List Ty) (u : Ty) → Contains us u → (k : ℕ) × (slice_get us k ≡ Some u)
-    listed_at [] u among = absurd (Contains-none u among)
-    listed_at (v ∷ us) u among = ⊎_elim (λ here. (0, ap Some here)) (λ later. let found = listed_at us u later in (suc found.0, found.1)) (Contains-cases v us u among)
-
     pub reached_readable : AreReadable decls types
-    reached_readable u among = let found = listed_at types u among in type_readable u (spoken_below (suc found.0) found.0 u (omega arith) found.1)
+    reached_readable u among = let found = Contains-place types u among in type_readable u (spoken_below (suc found.0) found.0 u (omega arith) found.1)

@@ -1,5 +1,5 @@
 -- A typing of a graph, and the faults of a value, carried along the pairs of objects that make two values the same.
-use Rattle.std.proofs.Common.{ℕ, suc, ◌≡◌, ◌==◌, ◌∙◌, ⊎_elim, inl, inr, List, [], ◌∷◌, length, cond, Option, Some, None, refl, sym, ap, subst, eqb-true, eq-eqb}
+use Rattle.std.proofs.Common.{ℕ, ◌≡◌, ◌==◌, ◌∙◌, ⊎_elim, inl, inr, List, [], ◌∷◌, length, cond, Option, Some, None, refl, sym, ap, subst, eqb-true, eq-eqb}
 use Rattle.std.specs.Prelude.{slice_get, flat_map, Contains, IsSomeAnd, IsSome, option_and_then, option_map, ◌&&◌, if◌then◌else◌, replicate}
 use Rattle.std.specs.List.{AllZip}
 use Rattle.std.proofs.lemmas.Option.{same_Some, none-some, option_and_then_some}
@@ -8,6 +8,7 @@ use Rattle.om_model.specs.declared.value.Val.{Val}
 use Rattle.om_model.specs.declared.value.Val.TheVariants as vals
 use Rattle.om_model.specs.declared.value.Obj.{Obj}
 use Rattle.om_model.specs.declared.value.Obj.TheVariants as objects
+use Rattle.om_model.proofs.Lists.{AllZip-length}
 use Rattle.om_format.specs.Iso.{AreAlike, AreAlikeObjects, IsPairing, Iso}
 use Rattle.om_canonical.proofs.ListLemmas.{Contains-cond, cond-Contains, AllZip-at}
 use Rattle.om_canonical.proofs.IsoLemmas.{objects_of_pair, same_symmetric}
@@ -21,6 +22,7 @@ use Rattle.om_types.specs.declared.fault.Fault.TheVariants.{Misfit, Clash}
 use Rattle.om_types.specs.LeastFault.{IsLeastFault}
 use Rattle.om_types.specs.Fault.{type_of_field, step, value_at, IsMisfit, IsClash, IsFault}
 use Rattle.om_types.specs.Typing.{values_of, field_at, IsListed, IsHeld, IsTyping, IsTyped, HasType}
+use Rattle.om_types.proofs.FaultLemmas.{paired}
 
 -- ---- what a shape says of values that are alike
 
@@ -33,12 +35,6 @@ values_alike pairs (objects.Doubles all) b alike = subst (λ o. AllZip (AreAlike
 values_alike pairs (objects.I32 z) b alike = subst (λ o. AllZip (AreAlike pairs) [] (values_of o)) alike tt
 values_alike pairs (objects.I64 z) b alike = subst (λ o. AllZip (AreAlike pairs) [] (values_of o)) alike tt
 values_alike pairs (objects.Native z) b alike = subst (λ o. AllZip (AreAlike pairs) [] (values_of o)) alike tt
-
-pub length-AllZip : {A B : Type 0} (R : A → B → Type 0) (xs : List A) (ys : List B) → AllZip R xs ys → length xs ≡ length ys
-length-AllZip R [] [] all = refl
-length-AllZip R [] (y ∷ ys) all = absurd all
-length-AllZip R (x ∷ xs) [] all = absurd all
-length-AllZip R (x ∷ xs) (y ∷ ys) all = ap suc (length-AllZip R xs ys all.1)
 
 alike_tag : (pairs : List (ℕ × ℕ)) (a b : Obj) → AreAlikeObjects pairs a b → tag_of_block (Some a) ≡ tag_of_block (Some b)
 alike_tag pairs (objects.Block tag values) (objects.Block tag' values') alike = alike.0
@@ -81,11 +77,11 @@ module _ {T : Type 0} (pairs : List (ℕ × ℕ)) where
       (shape : ShapeOf T) (tag : ℕ) (values others : List Val) → AllZip (AreAlike pairs) values others
       → block_fields shape tag values ≡ block_fields shape tag others
   alike_block_fields (shapes.Sum constants blocks) tag values others all =
-      ap (λ n. constr_fields n (slice_get blocks tag)) (length-AllZip (AreAlike pairs) values others all)
+      ap (λ n. constr_fields n (slice_get blocks tag)) (AllZip-length (AreAlike pairs) values others all)
   alike_block_fields (shapes.Product mutable ts) tag values others all =
-      ap (λ n. fields_if ((tag == 0) && (length ts == n)) ts) (length-AllZip (AreAlike pairs) values others all)
+      ap (λ n. fields_if ((tag == 0) && (length ts == n)) ts) (AllZip-length (AreAlike pairs) values others all)
   alike_block_fields (shapes.ArrayOf t) tag values others all =
-      ap (λ n. fields_if (tag == 0) (replicate n t)) (length-AllZip (AreAlike pairs) values others all)
+      ap (λ n. fields_if (tag == 0) (replicate n t)) (AllZip-length (AreAlike pairs) values others all)
   alike_block_fields (shapes.Poly tags) tag values others all =
       ap (λ fields. if tag == 0 then fields else None) (alike_tag_fields tags values others all)
   alike_block_fields shape tag values others all = refl
@@ -241,10 +237,6 @@ type_is_kept shape Equal g h v w t (pairs, pairing, alike) has =
 
 -- ---- faults
 
-paired_type : {T : Type 0} (w : Val) (named : Option T) (next : Val × T) → option_map (λ u. (w, u)) named ≡ Some next → (named ≡ Some next.1) × (w ≡ next.0)
-paired_type w None next same = absurd (none-some next same)
-paired_type w (Some u) next same = let pair = same_Some (w, u) next same in (ap (λ p. Some p.1) pair, ap (λ p. p.0) pair)
-
 -- what stands at the end of a path, and what is alike to it stands there in the other graph
 pub record OtherPlace {T : Type 0} (shapes : Shapes T) (h : List Obj) (pairs : List (ℕ × ℕ)) (place : Option (Val × T)) (v : Val) (t : T) : Type 0 where
   pub value : Val
@@ -276,7 +268,7 @@ module _ {T : Type 0} (shape : T → ShapeOf T) (Equal : T → T → Type 0) (g 
       option_and_then_some
       (λ w. option_map (λ u. (w, u)) (type_of_field ((shaped shape Equal).needs g (vals.Ref k) t) i))
       (field_at g k i) next stepped (λ v field typed.
-      let parts = paired_type v (type_of_field ((shaped shape Equal).needs g (vals.Ref k) t) i) next typed in
+      let parts = paired v (type_of_field ((shaped shape Equal).needs g (vals.Ref k) t) i) next typed in
       let other = field_of_other k l i v alike field in
       let named : type_of_field ((shaped shape Equal).needs h (vals.Ref l) t) i ≡ Some next.1 =
       ap (λ needs. type_of_field needs i) (sym (same_needs (vals.Ref k) (vals.Ref l) t alike)) ∙ parts.0 in

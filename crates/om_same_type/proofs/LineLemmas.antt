@@ -1,11 +1,12 @@
 -- The line of the least fault, carried along the pairs of objects that make two values the same.
-use Rattle.std.proofs.Common.{ℕ, ◌≡◌, ◌∙◌, List, [], ◌++◌, Some, refl, sym, ap}
-use Rattle.std.specs.Prelude.{Contains, codes, decimal}
+use Rattle.std.proofs.Common.{ℕ, ◌≡◌, ◌∙◌, List, ◌++◌, Some, refl, sym, ap}
+use Rattle.std.specs.Prelude.{codes, decimal}
 use Rattle.om_model.specs.declared.value.Val.{Val}
 use Rattle.om_model.specs.declared.value.Val.TheVariants as vals
 use Rattle.om_model.specs.declared.value.Obj.{Obj}
 use Rattle.om_model.specs.declared.value.Obj.TheVariants as objects
 use Rattle.om_model.specs.PathText.{path_text}
+use Rattle.om_model.proofs.Lists.{AllZip-length}
 use Rattle.om_format.specs.Iso.{AreAlike, AreAlikeObjects, IsPairing, Iso}
 use Rattle.om_canonical.proofs.IsoLemmas.{objects_of_pair}
 use Rattle.om_types.specs.declared.shape.ShapeOf.{ShapeOf}
@@ -13,7 +14,7 @@ use Rattle.om_types.specs.declared.fault.Fault.{Fault}
 use Rattle.om_types.specs.declared.fault.Fault.TheVariants.{Misfit, Clash}
 use Rattle.om_types.specs.Fitting.{shaped}
 use Rattle.om_types.specs.VerdictText.{object_text, kind_text, IsFaultText, IsNoLine}
-use Rattle.om_same_type.proofs.KeptLemmas.{length-AllZip, place_of_other, least_fault_is_kept}
+use Rattle.om_same_type.proofs.KeptLemmas.{place_of_other, least_fault_is_kept}
 
 -- ---- kinds
 
@@ -23,7 +24,7 @@ alike_text :
 alike_text pairs (objects.Block tag values) (objects.Block tag' values') alike =
     ap (λ n. object_text (Some (objects.Block n values))) alike.0
     ∙ ap (λ n. codes "block " ++ decimal tag' ++ codes " of " ++ decimal n)
-    (length-AllZip (AreAlike pairs) values values' alike.1)
+    (AllZip-length (AreAlike pairs) values values' alike.1)
 alike_text pairs (objects.Block tag values) b alike = absurd alike
 alike_text pairs (objects.Bytes bytes) b alike = ap (λ o. object_text (Some o)) alike
 alike_text pairs (objects.Double bits) b alike = ap (λ o. object_text (Some o)) alike

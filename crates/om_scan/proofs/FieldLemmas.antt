@@ -3,10 +3,9 @@ use Rattle.std.proofs.Common.{ℕ, ◌<◌, ◌≡◌, ◌∙◌, List, length, 
 use Rattle.std.specs.Prelude.{slice_get, slice_index, map, pos, option_and_then}
 use Rattle.std.proofs.lemmas.List.{length-map}
 use Rattle.std.proofs.lemmas.List.Elements.{All-contains}
-use Rattle.std.proofs.lemmas.Option.{none-some, get_or_from_slice_get, slice_get-get_or}
+use Rattle.std.proofs.lemmas.Option.{get_or_from_slice_get, slice_get-get_or}
 use Rattle.om_model.proofs.Options.{slice_get_there, slice_get-Contains}
 use Rattle.om_model.specs.Graph.{IsValue, IsObject, IsGraph}
-use Rattle.om_model.specs.declared.value.Val.{Val}
 use Rattle.om_model.specs.declared.value.Val.TheVariants as vals
 use Rattle.om_model.specs.declared.value.Obj.{Obj}
 use Rattle.om_model.specs.declared.value.Obj.TheVariants as objects
@@ -14,6 +13,7 @@ use Rattle.om_types.specs.Fault.{field_of}
 use Rattle.om_types.specs.Typing.{values_of}
 use Rattle.om_heap.specs.Heap.{object_at, fields_of, field_at, word_of}
 use Rattle.om_heap.proofs.ReadLemmas.{field_word-at}
+use Rattle.om_heap.proofs.FieldLemmas.{values_there}
 
 -- the fields of an object, in the words of the heap
 pub fields_are_values : (object : Obj) → values_of object ≡ fields_of object
@@ -24,15 +24,6 @@ fields_are_values (objects.Doubles all) = refl
 fields_are_values (objects.I32 z) = refl
 fields_are_values (objects.I64 z) = refl
 fields_are_values (objects.Native z) = refl
-
-values_there : (n : ℕ) (object : Obj) (i : ℕ) (v : Val) → IsObject n object → slice_get (fields_of object) i ≡ Some v → IsValue n v
-values_there n (objects.Block tag values) i v is at_i = All-contains (IsValue n) values v is.2 (slice_get-Contains values i v at_i)
-values_there n (objects.Bytes bytes) i v is at_i = absurd (none-some v at_i)
-values_there n (objects.Double bits) i v is at_i = absurd (none-some v at_i)
-values_there n (objects.Doubles all) i v is at_i = absurd (none-some v at_i)
-values_there n (objects.I32 z) i v is at_i = absurd (none-some v at_i)
-values_there n (objects.I64 z) i v is at_i = absurd (none-some v at_i)
-values_there n (objects.Native z) i v is at_i = absurd (none-some v at_i)
 
 module _ (graph : List Obj) (o i : ℕ) (inside : o < length graph) (short : i < length (fields_of (object_at graph o))) where
   own_field : slice_get (fields_of (object_at graph o)) i ≡ Some (field_at graph o i)

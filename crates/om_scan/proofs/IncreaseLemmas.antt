@@ -1,5 +1,5 @@
 -- The numbers of an object's needs: they increase.
-use Rattle.std.proofs.Common.{ℕ, zero, suc, ◌+◌, ◌<◌, ◌≤◌, ◌≡◌, ◌∙◌, ◌⊎◌, inl, inr, ⊎_elim, List, [], ◌∷◌, length, Bool, true, false, Option, Some, None, refl, sym, ap, arith}
+use Rattle.std.proofs.Common.{ℕ, zero, suc, ◌+◌, ◌<◌, ◌≤◌, ◌≡◌, ◌∙◌, ◌⊎◌, ⊎_elim, List, [], ◌∷◌, length, Bool, true, false, Option, Some, None, sym, ap, arith}
 use Rattle.std.specs.Prelude.{slice_get, option_and_then, if◌then◌else◌, ◌&&◌, ◌==◌, replicate}
 use Rattle.std.proofs.lemmas.Option.{same_Some, none-some, slice_get_within}
 use Rattle.om_model.proofs.Options.{slice_get_there}
@@ -7,21 +7,12 @@ use Rattle.om_model.specs.declared.value.Val.{Val}
 use Rattle.om_model.specs.declared.value.Val.TheVariants as vals
 use Rattle.om_model.specs.declared.value.Obj.{Obj}
 use Rattle.om_model.specs.declared.value.Obj.TheVariants as objects
+use Rattle.om_model.proofs.Numbers.{less_same_more}
 use Rattle.om_types.specs.declared.shape.Constr.{Constr}
 use Rattle.om_types.specs.declared.shape.PolyTag.{PolyTag}
 use Rattle.om_types.specs.declared.shape.ShapeOf.{ShapeOf}
 use Rattle.om_types.specs.declared.shape.ShapeOf.TheVariants as shapes
 use Rattle.om_types.specs.Fitting.{tag_with, numbered_from, fields_if, none_if, constr_fields, or_none, argument_field, tag_fields, block_fields, object_fields, fields_of, fits_int, fits_atom, is_double, is_bytes, has_doubles, is_int32, is_int64, is_native}
-
-pub numbers_compare : (m n : ℕ) → (m < n) ⊎ ((m ≡ n) ⊎ (n < m))
-numbers_compare zero zero = inr (inl refl)
-numbers_compare zero (suc n) = inl (omega arith)
-numbers_compare (suc m) zero = inr (inr (omega arith))
-numbers_compare (suc m) (suc n) = more (numbers_compare m n) where
-  more : (m < n) ⊎ ((m ≡ n) ⊎ (n < m)) → (suc m < suc n) ⊎ ((suc m ≡ suc n) ⊎ (suc n < suc m))
-  more (inl less) = inl (omega arith)
-  more (inr (inl same)) = inr (inl (ap suc same))
-  more (inr (inr greater)) = inr (inr (omega arith))
 
 module _ {T : Type 0} where
   -- they increase
@@ -118,7 +109,7 @@ module _ {T : Type 0} where
       (λ same. let number = ap (λ (need : ℕ × T). need.0) (same_Some (i, a) (l, b) (sym at_j ∙ ap (slice_get needs) same ∙ at_k)) in absurd (omega (arith, less, number)))
       (λ after. let more = increase k j l i b a after at_k at_j in absurd (omega (arith, less, more)))
       others)
-      (numbers_compare j k)
+      (less_same_more j k)
 
   -- a number stands at one place
   pub place_same :
@@ -130,4 +121,4 @@ module _ {T : Type 0} where
       (λ same. ap (λ (need : ℕ × T). need.1) (same_Some (i, a) (l, b) (sym at_j ∙ ap (slice_get needs) same ∙ at_k)))
       (λ after. let more = increase k j l i b a after at_k at_j in absurd (omega (arith, more, number)))
       others)
-      (numbers_compare j k)
+      (less_same_more j k)

@@ -329,18 +329,6 @@ marked_met table graph marks word key t u graph' field even keys marked same v v
     subst (λ w. IsMet table graph marks w t) (sym named)
     (u, ap (slice_index marks) (sym (keys r.0 r.1 r.2)) ∙ marked, same)
 
--- the same of an unequal type
-pub marked_other :
-    (table : Table) (graph : List Obj) (marks : List ℕ) (word key t u : ℕ) → IsGraph graph → IsFieldWord graph word → word % 8 ≡ 0
-    → ((o : ℕ) → o < length graph → word ≡ word_of graph (vals.Ref o) → key ≡ key_of graph o)
-    → slice_index marks key ≡ suc u → (¬ (table_shapes table).equal u t)
-    → (v : Val) → IsValue (length graph) v → word ≡ word_of graph v → IsOther table graph marks v t
-marked_other table graph marks word key t u graph' field even keys marked other v valid is =
-    let r = is_reference graph word field even in
-    let named : v ≡ vals.Ref r.0 = word_of-inj graph v (vals.Ref r.0) graph' valid r.1 (sym is ∙ r.2) in
-    subst (λ w. IsOther table graph marks w t) (sym named)
-    (u, ap (slice_index marks) (sym (keys r.0 r.1 r.2)) ∙ marked, other)
-
 -- a word that names no object, of a value that does not fit
 pub word_unfit :
     (table : Table) (graph : List Obj) (v : Val) (t word : ℕ) → word ≡ word_of graph v → word % 8 ≢ 0

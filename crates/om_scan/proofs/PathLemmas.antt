@@ -6,6 +6,7 @@ use Rattle.om_model.specs.Graph.{IsGraph}
 use Rattle.om_model.specs.declared.value.Val.{Val}
 use Rattle.om_model.specs.declared.value.Val.TheVariants as vals
 use Rattle.om_model.specs.declared.value.Obj.{Obj}
+use Rattle.om_model.proofs.Numbers.{less_same_more}
 use Rattle.om_types.specs.declared.shape.ShapeOf.{ShapeOf}
 use Rattle.om_types.specs.Fault.{type_of_field, step}
 use Rattle.om_types.specs.Fitting.{or_none, fields_of}
@@ -18,7 +19,6 @@ use Rattle.om_heap.specs.Heap.{key_of, field_at}
 use Rattle.om_heap.proofs.PlaceLemmas.{place_grows}
 use Rattle.om_scan.specs.Paths.{HasPath}
 use Rattle.om_scan.specs.Scanned.{object_needs}
-use Rattle.om_scan.proofs.IncreaseLemmas.{numbers_compare}
 use Rattle.om_scan.proofs.FieldLemmas.{field_there}
 use Rattle.om_scan.proofs.NeedLemmas.{need_field}
 
@@ -31,7 +31,7 @@ same_from_key graph o p valid here there same = ⊎_elim
     (λ is. is)
     (λ more. let grows = place_grows graph p o valid more there in absurd (omega (arith, grows, same)))
     others)
-    (numbers_compare o p)
+    (less_same_more o p)
 
 -- a need's number names its type
 pub need_is_named : {T : Type 0} (s : ShapeOf T) (graph : List Obj) (v : Val) (k i : ℕ) (a : T)

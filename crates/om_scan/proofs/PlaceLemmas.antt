@@ -2,12 +2,8 @@
 use Rattle.std.proofs.Common.{ℕ, zero, suc, ◌+◌, ◌<◌, ◌≡◌, ◌⊎◌, inl, inr, ⊎_elim, ◌++◌, List, [], ◌∷◌, length, Some, refl, sym, ap, subst, arith}
 use Rattle.std.specs.Prelude.{slice_get, slice_index, slice_set, map, Contains}
 use Rattle.std.proofs.lemmas.Option.{same_Some, none-some}
-use Rattle.om_model.proofs.Options.{Contains-none, Contains-cases, Contains-first, Contains-later, slice_get-Contains}
-
-pub slice_get-append_left : {X : Type 0} (xs ys : List X) (k : ℕ) (x : X) → slice_get xs k ≡ Some x → slice_get (xs ++ ys) k ≡ Some x
-slice_get-append_left [] ys k x at_k = absurd (none-some x at_k)
-slice_get-append_left (y ∷ xs) ys zero x at_k = at_k
-slice_get-append_left (y ∷ xs) ys (suc k) x at_k = slice_get-append_left xs ys k x at_k
+use Rattle.om_model.proofs.Options.{Contains-cases, Contains-first, Contains-later, slice_get-Contains}
+use Rattle.om_model.proofs.Lists.{slice_get-append_left, slice_get-last, Contains-place}
 
 pub slice_get-append_below : {X : Type 0} (xs ys : List X) (k : ℕ) (x : X) → k < length xs → slice_get (xs ++ ys) k ≡ Some x → slice_get xs k ≡ Some x
 slice_get-append_below [] ys k x below at_k = absurd (omega arith)
@@ -20,18 +16,6 @@ slice_get-push_cases [] y (suc k) x at_k = absurd (none-some x at_k)
 slice_get-push_cases (z ∷ xs) y zero x at_k = inl at_k
 slice_get-push_cases (z ∷ xs) y (suc k) x at_k =
     ⊎_elim (λ here. inl here) (λ last. inr (ap suc last.0, last.1)) (slice_get-push_cases xs y k x at_k)
-
-pub slice_get-last : {X : Type 0} (xs : List X) (y : X) → slice_get (xs ++ y ∷ []) (length xs) ≡ Some y
-slice_get-last [] y = refl
-slice_get-last (x ∷ xs) y = slice_get-last xs y
-
--- what is among the items has a place
-pub place_of : {X : Type 0} (xs : List X) (x : X) → Contains xs x → (k : ℕ) × (slice_get xs k ≡ Some x)
-place_of [] x among = absurd (Contains-none x among)
-place_of (z ∷ xs) x among = ⊎_elim
-    (λ here. (0, ap Some here))
-    (λ later. let p = place_of xs x later in (suc p.0, p.1))
-    (Contains-cases z xs x among)
 
 pub read_at : (xs : List ℕ) (k x : ℕ) → k < length xs → x ≡ slice_index xs k → slice_get xs k ≡ Some x
 read_at [] k x less is = absurd (omega arith)
@@ -46,12 +30,12 @@ mapped_at f (x ∷ xs) (suc k) y at_k = mapped_at f xs k y at_k
 -- what is among the items of a list that grew by one
 pub contains_push : {X : Type 0} (xs : List X) (y x : X) → Contains (xs ++ y ∷ []) x → Contains xs x ⊎ (y ≡ x)
 contains_push xs y x among =
-    let k = place_of (xs ++ y ∷ []) x among in
+    let k = Contains-place (xs ++ y ∷ []) x among in
     ⊎_elim (λ before. inl (slice_get-Contains xs k.0 x before)) (λ last. inr last.1) (slice_get-push_cases xs y k.0 x k.1)
 
 pub contains_left : {X : Type 0} (xs ys : List X) (x : X) → Contains xs x → Contains (xs ++ ys) x
 contains_left xs ys x among =
-    let k = place_of xs x among in
+    let k = Contains-place xs x among in
     slice_get-Contains (xs ++ ys) k.0 x (slice_get-append_left xs ys k.0 x k.1)
 
 pub contains_last : {X : Type 0} (xs : List X) (y : X) → Contains (xs ++ y ∷ []) y

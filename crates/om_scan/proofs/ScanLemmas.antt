@@ -9,6 +9,7 @@ use Rattle.om_model.specs.Graph.{IsValue, IsGraph}
 use Rattle.om_model.specs.declared.value.Val.{Val}
 use Rattle.om_model.specs.declared.value.Val.TheVariants as vals
 use Rattle.om_model.specs.declared.value.Obj.{Obj}
+use Rattle.om_model.proofs.Lists.{Contains-place}
 use Rattle.om_types.specs.Fitting.{numbered_from}
 use Rattle.om_types.specs.Steps.{most_steps}
 use Rattle.om_types.specs.Table.{Table, table_shapes}
@@ -24,7 +25,7 @@ use Rattle.om_scan.specs.declared.seconds.Seconds.{Seconds}
 use Rattle.om_scan.specs.Seconds.{noted_in}
 use Rattle.om_scan.specs.Scanned.{object_needs, IsScanned, IsFoundIn, IsScannedBut, cost_of}
 use Rattle.om_scan.specs.Scan.{mark_of, AreMarks, AreKept, AreNoted, AreStillNoted, IsMet, IsNoted, AreMet, IsTaken, IsScanning}
-use Rattle.om_scan.proofs.PlaceLemmas.{place_of, slice_get-push_cases, contains_left, contains_right}
+use Rattle.om_scan.proofs.PlaceLemmas.{slice_get-push_cases, contains_left, contains_right}
 use Rattle.om_scan.proofs.FieldLemmas.{field_there, field_valid}
 use Rattle.om_scan.proofs.NeedLemmas.{need_field, needs_few}
 use Rattle.om_scan.proofs.MarkLemmas.{marks_none, marks_more, taken_kept, never_noted}
@@ -59,7 +60,7 @@ numbered_there i (s ∷ ts) (suc k) t at_k =
 
 pub pair_at : (ts : List ℕ) (o t : ℕ) → Contains (numbered_from 0 ts) (o, t) → slice_get ts o ≡ Some t
 pair_at ts o t among =
-    let k = place_of (numbered_from 0 ts) (o, t) among in
+    let k = Contains-place (numbered_from 0 ts) (o, t) among in
     let is = numbered_at 0 ts k.0 o t k.1 in
     let same : o ≡ k.0 = omega (arith, is.1) in
     ap (slice_get ts) same ∙ is.0
@@ -207,7 +208,7 @@ module _ (table : Table) (graph : List Obj) where
       held = λ o t i u among needed.
           let at_o = pair_at types o t among in
           let inside = inside_of o t at_o in
-          let j = place_of (object_needs table graph o t) (i, u) needed in
+          let j = Contains-place (object_needs table graph o t) (i, u) needed in
           let short = need_field table graph o t j.0 i u inside j.1 in
           let below = slice_get_within (object_needs table graph o t) j.0 (i, u) j.1 in
           subst (λ value. IsSomeAnd value (λ v. IsHeld (table_shapes table) graph (numbered_from 0 types) v u)) (sym (field_there graph o i inside short))
@@ -240,7 +241,7 @@ module _ (table : Table) (graph : List Obj) where
       fits = λ o t at_o. (scanning.taken o t at_o).fits;
       found = λ o t i a at_o needed.
           let inside = inside_of o t at_o in
-          let j = place_of (object_needs table graph o t) (i, a) needed in
+          let j = Contains-place (object_needs table graph o t) (i, a) needed in
           let short = need_field table graph o t j.0 i a inside j.1 in
           let below = slice_get_within (object_needs table graph o t) j.0 (i, a) j.1 in
           subst (λ xs. IsFoundIn table graph (numbered_from 0 types ++ xs) (field_at graph o i) a) (sym is)

@@ -18,11 +18,11 @@ equal_from Greater is = absurd (false≢true is)
 same_pair : (k q : ℕ × ℕ) → is_at (pair_cmp k) q ≡ true → k ≡ q
 same_pair k q is = exact_pairs nat_cmp nat_cmp exact_unsigned exact_unsigned k q (equal_from (pair_cmp k q) is)
 
-cond_true : (test other : Bool) → cond test true other ≡ true → (test ≡ true) ⊎ (other ≡ true)
+pub cond_true : (test other : Bool) → cond test true other ≡ true → (test ≡ true) ⊎ (other ≡ true)
 cond_true true other is = inl refl
 cond_true false other is = inr is
 
-cond_kept : (test other : Bool) → other ≡ true → cond test true other ≡ true
+pub cond_kept : (test other : Bool) → other ≡ true → cond test true other ≡ true
 cond_kept true other is = refl
 cond_kept false other is = is
 

@@ -1,5 +1,5 @@
 -- An object at each class once, with its fields, comes to few steps.
-use Rattle.std.proofs.Common.{ℕ, suc, ◌+◌, ◌*◌, ◌<◌, ◌≤◌, ◌≡◌, ◌∙◌, List, [], ◌∷◌, length, Some, refl, sym, ap, subst, arith}
+use Rattle.std.proofs.Common.{ℕ, ◌+◌, ◌*◌, ◌<◌, ◌≤◌, ◌≡◌, ◌∙◌, List, [], ◌∷◌, length, Some, refl, sym, ap, subst, arith}
 use Rattle.std.specs.Prelude.{slice_get, option_map, map, sum_by, Contains, replicate, pos}
 use Rattle.std.proofs.lemmas.List.{length-map, length-replicate}
 use Rattle.std.proofs.lemmas.List.Sums.{sum_by-cons}
@@ -9,20 +9,15 @@ use Rattle.om_model.specs.declared.value.Val.TheVariants as vals
 use Rattle.om_model.specs.declared.value.Obj.{Obj}
 use Rattle.om_model.specs.declared.value.Obj.TheVariants as objects
 use Rattle.om_types.specs.declared.shape.ShapeOf.TheVariants as shapes
-use Rattle.om_types.specs.Fitting.{numbered_from}
 use Rattle.om_types.specs.Steps.{class_count, field_count, most_steps}
 use Rattle.om_types.specs.Table.{Table, table_shapes}
 use Rattle.om_types.specs.Typing.{values_of}
 use Rattle.om_typing.specs.StepLaws.{AreEntries}
-use Rattle.om_typing.proofs.StepLemmas.{steps_are_few}
+use Rattle.om_typing.proofs.StepLemmas.{steps_are_few, length-numbered_from}
 use Rattle.om_heap.specs.Heap as heap
 use Rattle.om_heap.specs.Heap.{object_at}
 use Rattle.om_scan.specs.Taken.{size_of}
 use Rattle.om_scan.proofs.FieldLemmas.{fields_are_values}
-
-length_numbered : {T : Type 0} (i : ℕ) (ts : List T) → length (numbered_from i ts) ≡ length ts
-length_numbered i [] = refl
-length_numbered i (t ∷ ts) = ap suc (length_numbered (suc i) ts)
 
 sum_same : {X : Type 0} (f g : X → ℕ) (xs : List X) → ((x : X) → Contains xs x → f x ≡ g x) → sum_by f xs ≡ sum_by g xs
 sum_same f g [] same = refl
@@ -53,7 +48,7 @@ plain_needs table graph o t inside typed =
     let node : slice_get (plain_table table).nodes t ≡ Some (shapes.ArrayOf 0) = slice_get-map (λ (c : ℕ). shapes.ArrayOf 0) table.classes t ∙ ap (option_map (λ (c : ℕ). shapes.ArrayOf 0)) class.1 in
     let own : slice_get (map plain graph) o ≡ Some (plain object.0) = slice_get-map plain graph o ∙ ap (option_map plain) object.1 in
     let is : object_at graph o ≡ object.0 = get_or_from_slice_get graph o object.0 (objects.I32 (pos 0)) object.1 in
-    rw node (rw own (length_numbered 0 (replicate (length (values_of object.0)) 0) ∙ length-replicate (length (values_of object.0)) 0
+    rw node (rw own (length-numbered_from 0 (replicate (length (values_of object.0)) 0) ∙ length-replicate (length (values_of object.0)) 0
     ∙ ap length (fields_are_values object.0) ∙ ap (λ x. length (heap.fields_of x)) (sym is)))
 
 pub sizes_are_few :

@@ -7,6 +7,8 @@ use Rattle.std.proofs.lemmas.Option.{slice_get_within}
 use Rattle.om_model.specs.declared.value.Val.{Val}
 use Rattle.om_model.specs.declared.value.Val.TheVariants as vals
 use Rattle.om_model.specs.declared.value.Obj.{Obj}
+use Rattle.om_model.proofs.Lists.{Contains-place}
+use Rattle.om_model.proofs.Numbers.{less_same_more}
 use Rattle.om_types.specs.Table.{Table, table_shapes}
 use Rattle.om_heap.specs.Heap.{field_at, key_of}
 use Rattle.om_type_table.specs.Made.{IsLawful}
@@ -17,8 +19,8 @@ use Rattle.om_scan.specs.Taken.{types_in, all_fields, seen_of, is_unfit_field, i
 use Rattle.om_scan.specs.Scanned.{object_needs, IsSeen, AreTaken, cost_of, left_of}
 use Rattle.om_scan.specs.Scan.{mark_of, IsMet, IsNoted, IsUnfit, IsUnmet, IsScanning}
 use Rattle.om_scan.proofs.MarkLemmas.{never_noted}
-use Rattle.om_scan.proofs.IncreaseLemmas.{numbers_compare, place_before, place_same}
-use Rattle.om_scan.proofs.PlaceLemmas.{place_of, slice_get-push_cases}
+use Rattle.om_scan.proofs.IncreaseLemmas.{place_before, place_same}
+use Rattle.om_scan.proofs.PlaceLemmas.{slice_get-push_cases}
 use Rattle.om_scan.proofs.NeedLemmas.{increase}
 use Rattle.om_scan.proofs.ScanLemmas.{scanned_within, cost_more}
 
@@ -73,7 +75,7 @@ field_sees types o unmet unfit = record {
       (λ same. inr (same, (unfit_this o unmet.field i (sym same), unfit)))
       (λ after. absurd (omega (arith, less, after)))
       others)
-      (numbers_compare i unmet.field);
+      (less_same_more i unmet.field);
 }
 
 pub nothing_sees : (types : List ℕ) (o : ℕ) (unmet : Unmet) → SeesUntil (record { types = types; objects = o + 1; seen = unmet.field; unfit = unfits.Nothing }) o unmet
@@ -142,7 +144,7 @@ module _ (table : Table) (graph : List Obj) (lawful : IsLawful table) (marks : L
       → is_unfit_field taken.unfit o i ≡ false → Contains (object_needs table graph o t) (i, a) → IsSeen table graph taken o i (field_at graph o i) a
   wholly_seen types n steps o t i a marked scanning at_o none needed =
       let needs = object_needs table graph o t in
-      let j = place_of needs (i, a) needed in
+      let j = Contains-place needs (i, a) needed in
       need_seen o i (field_at graph o i) a marked none ((scanning.taken o t at_o).met j.0 i a (slice_get_within needs j.0 (i, a) j.1) j.1)
 
   -- ---- the scan stopped before an object
@@ -208,7 +210,7 @@ module _ (table : Table) (graph : List Obj) (lawful : IsLawful table) (marks : L
     last_field : (i a : ℕ) → i < taken.seen → Contains (object_needs table graph o t) (i, a) → IsSeen table graph taken o i (field_at graph o i) a
     last_field i a less needed =
         let needs = object_needs table graph o t in
-        let j = place_of needs (i, a) needed in
+        let j = Contains-place needs (i, a) needed in
         ⊎_elim
         (λ before.
         let place = place_before needs (increase table graph o t) j.0 unmet.place i unmet.field a stop.type j.1 stop.at before.0 in

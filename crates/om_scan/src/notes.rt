@@ -1,6 +1,6 @@
 //! What a scan notes on its way: objects that it meets at a second class.
 
-ghost use Rattle.std.specs.Prelude.{◌≡◌, [], None, length};
+ghost use Rattle.std.specs.Prelude.{◌≡◌, None, length};
 ghost use Rattle.om_scan.specs.Seconds.{noted_in};
 
 use crate::seconds::Seconds;

@@ -4,7 +4,7 @@ use Rattle.std.proofs.Common.{Bool, false, length, sym, ap, subst, arith, ◌∙
 use Rattle.std.proofs.lemmas.List.{length-map}
 use Rattle.std.specs.Prelude.{slice_get, Contains, ◌↔◌, IsTrue, IsSome, option_map}
 use Rattle.std.proofs.lemmas.Option.{same_Some, slice_get-map, slice_get_within, slice_get-get_or}
-use Rattle.om_model.proofs.Options.{slice_get-Contains}
+use Rattle.om_model.proofs.Options.{slice_get-Contains, slice_get_there}
 use Rattle.om_types.specs.declared.decl.Decl.{Decl}
 use Rattle.om_types.specs.Declarations.{abbreviated}
 use Rattle.om_types.specs.Occurrence.{DeclPlaces, Placed, use_of}
@@ -17,7 +17,7 @@ use Rattle.om_scope.specs.Graph.{Graph, IsEdge, IsPath, Reaches, IsOnCycle}
 use Rattle.om_scope.specs.Least.{IsLeast, sooner, place_if}
 use Rattle.om_scope.specs.Sites.{AreSites, IsSite}
 use Rattle.om_scope.specs.Steps.{HasStep, IsStepGraph}
-use Rattle.om_scope.proofs.FileLemmas.{decl_at, get_at, name_placed, not_earlier}
+use Rattle.om_scope.proofs.FileLemmas.{decl_at, name_placed, not_earlier}
 use Rattle.om_scope.proofs.LeastLemmas.{Before, before_more, least_if, least_more, least_same}
 use Rattle.om_scope.proofs.SearchLemmas.{path_within}
 
@@ -85,7 +85,7 @@ module _ (all : List DeclPlaces) (distinct : (k : ℕ) → ¬ NamesBreak all twi
       → IsEdge graph i j ↔ IsStep all d e
   edge_step i j d e d_at e_at =
       let within : i < length all = slice_get_within all i d d_at in
-      let site = get_at sites i (omega (arith, counted)) in
+      let site = slice_get_there sites i (omega (arith, counted)) in
       let steps = is.edges i j d.decl site.0 (decl_at all i d d_at) site.1 in
       let same = site_step i j d e site.0 d_at e_at site.1 in
       (λ edge. same.0 (steps.0 edge), λ step. steps.1 (same.1 step))
@@ -97,7 +97,7 @@ module _ (all : List DeclPlaces) (distinct : (k : ℕ) → ¬ NamesBreak all twi
   steps_of_path i [] j d e d_at e_at edge = ([], (edge_step i j d e d_at e_at).0 edge)
   steps_of_path i (next ∷ between) j d e d_at e_at path =
       let node : next < length graph = path_within graph next between j path.1 in
-      let f = get_at all next (omega (arith, is.counted, length-map all (λ (x : DeclPlaces). x.decl))) in
+      let f = slice_get_there all next (omega (arith, is.counted, length-map all (λ (x : DeclPlaces). x.decl))) in
       let rest = steps_of_path next between j f.0 e f.1 e_at path.1 in
       (f.0 ∷ rest.0, ((edge_step i next d f.0 d_at f.1).0 path.0, rest.1))
 
@@ -117,7 +117,7 @@ module _ (all : List DeclPlaces) (distinct : (k : ℕ) → ¬ NamesBreak all twi
   cyclic_name k = (to, ⊎_elim (λ never. absurd never) from) where
     to : IsCyclicName graph (declared_names all) k → BreaksInFile all cyclic k
     to (i, below, (p, p_is, (place, cycle))) =
-        let d = get_at all i (omega (arith, below, length-map {B = Placed} all (λ (x : DeclPlaces). (x.place, x.decl.name)))) in
+        let d = slice_get_there all i (omega (arith, below, length-map {B = Placed} all (λ (x : DeclPlaces). (x.place, x.decl.name)))) in
         let p_same : p ≡ (d.0.place, d.0.decl.name) =
         same_Some p (d.0.place, d.0.decl.name) (sym p_is ∙ name_placed all i d.0 d.1) in
         let steps = steps_of_path i cycle.0 i d.0 d.0 d.1 d.1 cycle.1 in

@@ -8,7 +8,7 @@ use Rattle.std.proofs.lemmas.Option.{same_Some, none-some, slice_get-map, slice_
 use Rattle.std.proofs.lemmas.Option.{slice_get-get_or}
 use Rattle.std.specs.Str.{bytes_eq}
 use Rattle.std.proofs.lemmas.Slice.Eq.{bytes_eq-Decides}
-use Rattle.om_model.proofs.Options.{Contains-first, Contains-later, slice_get-Contains}
+use Rattle.om_model.proofs.Options.{Contains-first, Contains-later, slice_get-Contains, slice_get_there}
 use Rattle.om_types.specs.declared.decl.Decl.{Decl}
 use Rattle.om_types.specs.Ty.{Ty}
 use Rattle.om_types.specs.Accepted.{IsVariable}
@@ -90,11 +90,6 @@ pub map_at :
 map_at f [] i y at = absurd (none-some y at)
 map_at f (x ∷ xs) zero y at = (x, refl, same_Some (f x) y at)
 map_at f (x ∷ xs) (suc i) y at = map_at f xs i y at
-
-pub get_at : {X : Type 0} (xs : List X) (i : ℕ) → i < length xs → (x : X) × (slice_get xs i ≡ Some x)
-get_at [] i below = absurd (omega arith)
-get_at (x ∷ xs) zero below = (x, refl)
-get_at (x ∷ xs) (suc i) below = get_at xs i (omega arith)
 
 -- a name that is found is that of a declaration of the file
 found_in :
@@ -273,7 +268,7 @@ module _ (all : List DeclPlaces) (rule : NameRule) (none : rule ≢ names.Cyclic
         let d = some.0 in
         let d_at : slice_get all j ≡ Some d = slice_get-get_or all j d some.1.1 ∙ ap Some some.1.2 in
         let within : j < length all = some.1.1 in
-        let site = get_at sites j (omega arith) in (
+        let site = slice_get_there sites j (omega arith) in (
           j,
           slice_get_within (decls_of all) j d.decl (decl_at all j d d_at),
           (

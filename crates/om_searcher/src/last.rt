@@ -1,6 +1,6 @@
 //! With which byte it is decided what some bytes begin with.
 
-ghost use Rattle.std.specs.Prelude.{◌≡◌, ◌<◌, ◌≤◌, ℕ, List, [], length, IfOk};
+ghost use Rattle.std.specs.Prelude.{◌≡◌, ◌<◌, ℕ, List, [], length, IfOk};
 ghost use Rattle.om_format.specs.Front.{IsFront};
 ghost use Rattle.om_read.specs.Reader.{IsReader, Leads};
 ghost use Rattle.om_searcher.specs.Last.{IsRefusal, TakesByte, FindsLast, ReadsSome};

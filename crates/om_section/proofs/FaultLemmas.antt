@@ -1,10 +1,11 @@
 -- The first faulty line of a text.
-use Rattle.std.proofs.Common.{ℕ, zero, suc, ◌<◌, ◌≤◌, ◌+◌, ◌-◌, ◌≡◌, ◌≢◌, ◌∙◌, ◌⊎◌, ⊎_elim, inl, inr, List, [], ◌∷◌, ◌++◌, length, take, drop, refl, sym, ap, subst, arith, length-append, append_assoc}
+use Rattle.std.proofs.Common.{ℕ, ◌<◌, ◌≤◌, ◌+◌, ◌-◌, ◌≡◌, ◌≢◌, ◌∙◌, ◌⊎◌, ⊎_elim, inl, inr, List, [], ◌∷◌, ◌++◌, length, take, drop, refl, sym, ap, subst, arith, length-append, append_assoc}
 use Rattle.std.specs.Prelude.{Contains}
 use Rattle.std.proofs.lemmas.List.{append-nil, append_cancel_left, take-append-drop, take-take, take_at, length_push}
 use Rattle.std.proofs.lemmas.List.Concat.{flat_map-append}
 use Rattle.std.proofs.lemmas.List.Elements.{Contains-append_left, Contains-append_right, Contains-push}
 use Rattle.om_model.proofs.Options.{Contains-first, Contains-none, same_or_not}
+use Rattle.om_model.proofs.Numbers.{less_same_more}
 use Rattle.om_section.specs.declared.section.Section.{Section}
 use Rattle.om_section.specs.Format.{lines_from, text_of, IsCertificate, AreLinesOf, AreFront, AreWhole, IsSyntaxAt}
 use Rattle.om_section.proofs.CutLemmas.{lacks_more, cut_is_one}
@@ -222,16 +223,6 @@ never_later bytes m n one two less = ⊎_elim at_line behind one.why where
 
   behind : (m ≡ length one.lines + 1) × ((one.rest ≢ []) ⊎ (¬ AreWhole one.lines)) → ⊥
   behind (last, others) = let within = two.within in let long = ap length same.0 in omega (arith, last, within, long, less)
-
-less_same_more : (m n : ℕ) → (m < n) ⊎ ((m ≡ n) ⊎ (n < m))
-less_same_more zero zero = inr (inl refl)
-less_same_more zero (suc n) = inl (omega arith)
-less_same_more (suc m) zero = inr (inr (omega arith))
-less_same_more (suc m) (suc n) = one_further (less_same_more m n) where
-  one_further : (m < n) ⊎ ((m ≡ n) ⊎ (n < m)) → (suc m < suc n) ⊎ ((suc m ≡ suc n) ⊎ (suc n < suc m))
-  one_further (inl less) = inl (omega (arith, less))
-  one_further (inr (inl same)) = inr (inl (ap suc same))
-  one_further (inr (inr more)) = inr (inr (omega (arith, more)))
 
 pub faults_are_one : (bytes : List ℕ) (m n : ℕ) → IsSyntaxAt bytes m → IsSyntaxAt bytes n → m ≡ n
 faults_are_one bytes m n one two = ⊎_elim

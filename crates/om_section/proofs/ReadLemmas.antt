@@ -264,9 +264,6 @@ reading_without_more reading section line is some other without =
 
 -- ---- a run of pairs
 
-pub run_numbers : (reading : Reading) (pairs : List (ℕ × ℕ)) → IsReading reading → reading.begun ≡ Some (sections.Pairs pairs) → All AreNumbers pairs
-run_numbers reading pairs is some = (begun_is reading (sections.Pairs pairs) is some).0.1
-
 pub run_read :
     (reading : Reading) (pairs longer : List (ℕ × ℕ)) (text : List ℕ) (many taken : ℕ) → IsReading reading
     → reading.begun ≡ Some (sections.Pairs pairs) → AreIncreasing longer → HasMorePairs pairs text longer many taken

@@ -3,3 +3,4 @@ pub mod TableLemmas
 pub mod FuelLemmas
 pub mod NamedLemmas
 pub mod PartLemmas
+pub mod PieceLemmas

@@ -141,7 +141,7 @@ head_named decls heads.Absent = tt
 
 -- ---- what fits has its names
 
-none_if_true : (T : Type 0) (test : Bool) → IsSome (none_if {T = T} test) → IsTrue test
+pub none_if_true : (T : Type 0) (test : Bool) → IsSome (none_if {T = T} test) → IsTrue test
 none_if_true T true some = refl
 none_if_true T false some = some
 

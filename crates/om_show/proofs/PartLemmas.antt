@@ -1,16 +1,14 @@
 -- Where a value has a sound type, each part has the names that its text wants.
-use Rattle.std.proofs.Common.{ℕ, ◌≡◌, List, [], Some}
+use Rattle.std.proofs.Common.{ℕ, ◌≡◌, List, Some}
 use Rattle.std.specs.Prelude.{Contains}
-use Rattle.om_model.proofs.Options.{Contains-none}
 use Rattle.om_model.specs.declared.value.Val.{Val}
-use Rattle.om_model.specs.declared.value.Val.TheVariants as vals
 use Rattle.om_model.specs.declared.value.Obj.{Obj}
 use Rattle.om_types.specs.Shapes.{Shapes}
 use Rattle.om_types.specs.Lawful.{AreLawful}
-use Rattle.om_types.specs.Typing.{IsHeld, IsTyping, HasType}
+use Rattle.om_types.specs.Typing.{HasType}
 use Rattle.om_types.specs.Fault.{value_at}
 use Rattle.om_types.specs.Equal.{declared_shapes}
-use Rattle.om_types.proofs.FaultLemmas.{place_is_held}
+use Rattle.om_types.proofs.FaultLemmas.{held_by_some, place_is_held}
 use Rattle.om_equal.proofs.LawfulLemmas.{reached_lawful}
 use Rattle.om_equal.proofs.ReachedLemmas.{root_listed}
 use Rattle.om_equal.proofs.SoundLemmas.{known_by_hash}
@@ -19,28 +17,11 @@ use Rattle.om_show.proofs.NamedLemmas.{has_its_names}
 
 module _ {T : Type 0} (shapes : Shapes T) (InQuestion : T → Type 0) (lawful : AreLawful shapes InQuestion)
     (graph : List Obj) where
-  nothing_is_typing : IsTyping shapes graph []
-  nothing_is_typing = record {
-    fits = λ o t among. absurd (Contains-none (o, t) among);
-    held = λ o t i u among. absurd (Contains-none (o, t) among);
-    one_type = λ o t u among. absurd (Contains-none (o, t) among);
-  }
-
-  pub held_by_some : (v : Val) (t : T) → InQuestion t → HasType shapes graph v t
-      → (pairs : List (ℕ × T)) × IsTyping shapes graph pairs × IsHeld shapes graph pairs v t
-  held_by_some (vals.Int z) t in_question has = ([], nothing_is_typing, record { fits = has.fits; listed = tt })
-  held_by_some (vals.Atom tag) t in_question has = ([], nothing_is_typing, record { fits = has.fits; listed = tt })
-  held_by_some (vals.Ref o) t in_question has = (
-    has.typed.0,
-    has.typed.1,
-    record { fits = has.fits; listed = (t, has.typed.2, lawful.reflexive t in_question) },
-  )
-
   -- where a path leads from a value that has its type, the value fits the type
   part_fits : (v : Val) (t : T) → InQuestion t → HasType shapes graph v t → (path : List ℕ) (w : Val) (u : T)
       → value_at shapes graph v t path ≡ Some (w, u) → shapes.fits graph w u
   part_fits v t in_question has path w u leads =
-      let held = held_by_some v t in_question has in
+      let held = held_by_some shapes InQuestion lawful graph v t in_question has in
       let place = place_is_held shapes InQuestion lawful graph held.0 held.1 path v t w u in_question held.2 leads in
       place.1.fits
 

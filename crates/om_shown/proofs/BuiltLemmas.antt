@@ -1,15 +1,14 @@
 -- So `build` of these lines has one outcome, which puts the canonical bytes of the values.
-use Rattle.std.proofs.Common.{◌≡◌, ℕ, true, List, [], ◌∷◌, ◌++◌, map, Some, Ok, inl, inr, refl, sym, ap, ◌∙◌, subst, append_assoc, append-nil}
-use Rattle.std.proofs.lemmas.List.{append_cancel_left}
+use Rattle.std.proofs.Common.{◌≡◌, ℕ, List, [], ◌∷◌, ◌++◌, map, Some, Ok, inl, inr, refl, sym, ap, ◌∙◌, subst, append_assoc}
 use Rattle.std.specs.Prelude.{if◌then◌else◌, IfSome}
-use Rattle.std.specs.List.{concat, AllByRecursion}
+use Rattle.std.specs.List.{AllByRecursion}
 use Rattle.om_model.specs.Bytes.{AreBytes}
 use Rattle.om_format.specs.Canonical.{canon}
 use Rattle.om_format.specs.Spelled.{SpelledUnder}
 use Rattle.om_format.specs.Stream.{SpellAll}
 use Rattle.om_format.specs.Tree.{Tree}
 use Rattle.om_outcome.specs.declared.status.Status.TheVariants as statuses
-use Rattle.om_outcome.specs.Outcome.{at_end, Taken, whole, opened, found_of, own, build, Asks, tell, the_text, ending_of, nothing_said, says, Replies, replies, all_well}
+use Rattle.om_outcome.specs.Outcome.{whole, found_of, own, build, Asks, tell, the_text, ending_of}
 use Rattle.om_edge.specs.Files.{File, contents_of}
 use Rattle.om_edge.specs.Sink.{Puts}
 use Rattle.om_promises.specs.Account.{IsWanted}
@@ -19,6 +18,7 @@ use Rattle.om_promises.specs.CommandLaws.{HaveOneOutcome, Follow}
 use Rattle.om_promises.specs.Commands.{Item, text, Given, Cut, AllSay, Answers, Outcome}
 use Rattle.om_promises.specs.Given.{TellsBytes, TakesFrom, IsFoundOf}
 use Rattle.om_promises.specs.LawfulLanguage.{IsGiven}
+use Rattle.om_promises.proofs.EndedLemmas.{HasEnded, has_ended, held, taken_whole, put_once}
 use Rattle.om_promises.specs.Promises.{Promises, told_files}
 use Rattle.om_commands.specs.Tasks.{commands}
 use Rattle.om_decl.specs.Read.{IsDeclared, IsTypeOf}
@@ -29,10 +29,9 @@ use Rattle.om_texts.proofs.SaidLemmas.{texts}
 use Rattle.om_texts.proofs.TableLemmas.{goes_on}
 use Rattle.om_build.specs.Lines.{declared_texts}
 use Rattle.om_session.proofs.CopyLemmas.{said_all, texts_are, all_are_well}
-use Rattle.om_shown.specs.Shown.{HasPut, Shows, Builds, PutsCanonical, ShownTextsAreBuilt}
+use Rattle.om_shown.specs.Shown.{Shows, Builds, PutsCanonical, ShownTextsAreBuilt}
 use Rattle.om_shown.proofs.LineLemmas.{IsSoundOver, HasIt, text_of, IsBuilt, is_built}
 use Rattle.om_shown.proofs.ShownLemmas.{lines_of, AreShown, are_shown}
-use Rattle.om_shown.proofs.WellLemmas.{EndsWell, ends_well}
 
 module _ (t : TypeOver) where
   abbrev lines : List Tree → List Item
@@ -79,28 +78,6 @@ module _ (t : TypeOver) where
     },
   )
 
--- ---- what the first call took and put
-
--- the file that was read has what it is told to hold
-held :
-    (contents other : List ℕ) → IsFoundOf (Some contents) (opened (whole other))
-    → contents ≡ other
-held contents other (rest, takes) =
-    takes.front ∙ (ap (λ rest. other ++ rest) (takes.ends refl) ∙ append-nil other)
-
--- an input that ended was taken whole
-taken_whole : (taken : Taken) (bytes rest : List ℕ) → taken.until ≡ at_end
-    → TakesFrom bytes taken rest → bytes ≡ taken.bytes
-taken_whole taken bytes rest ended takes =
-    takes.front ∙ (ap (λ rest. taken.bytes ++ rest) (takes.ends ended) ∙ append-nil taken.bytes)
-
--- what is put is one text
-put_once : (call : Call) (shown put : List ℕ) → HasPut call shown → Puts call.out put → shown ≡ put
-put_once call shown put has puts =
-    let after : call.out.after.bytes ≡ Some (has.before ++ put) = rw has.had at puts.appended in
-    let same : Some (has.before ++ shown) ≡ Some (has.before ++ put) = sym has.has ∙ after in
-    append_cancel_left has.before shown put (cc same)
-
 -- each value is made of its line
 all_built : (t : TypeOver) (limit : ℕ)
     → ((bytes : List ℕ) (tree : Tree) → SpelledUnder limit bytes tree → HasIt t tree
@@ -119,8 +96,9 @@ module _ (told : Follow (commands declared_types) (AreAsTold (commands declared_
       (promises : Promises (commands declared_types) words call)
       (file type : List ℕ) (limit : ℕ) (contents input shown : List ℕ)
       (shows : Shows words call file type limit contents input shown)
-      (e : EndsWell (commands declared_types) words call)
-      (v : AreShown words file type limit shows.asks e.given e.all e.well) where
+      (e : HasEnded (commands declared_types) words call)
+      (well : (ending_of e.all).status ≡ statuses.Well)
+      (v : AreShown words file type limit shows.asks e.given e.all well) where
     same_contents : contents ≡ v.read.contents
     same_contents =
         let wanted : IsWanted (commands declared_types) words e.given.files 0 file = record {
@@ -210,7 +188,8 @@ module _ (told : Follow (commands declared_types) (AreAsTold (commands declared_
       ShownTextsAreBuilt (commands declared_types) (building declared_types declared_texts)
   shown_texts_are_built words call tells promises later_words later later_tells later_promises
       file type limit contents input shown shows builds =
-      let e = ends_well (commands declared_types) words call promises.account shows.well in
-      let v = are_shown words file type limit shows.asks e.given e.all e.well e.outcome in
-      puts_canonical words call tells promises file type limit contents input shown shows e v
+      let e = has_ended (commands declared_types) words call promises.account (inl shows.well) in
+      let well = sym e.status ∙ shows.well in
+      let v = are_shown words file type limit shows.asks e.given e.all well e.outcome in
+      puts_canonical words call tells promises file type limit contents input shown shows e well v
       later_words later later_tells later_promises builds

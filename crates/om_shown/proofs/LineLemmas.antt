@@ -1,12 +1,10 @@
 -- The text of a value at a type that was read is a line that is made into its canonical bytes.
-use Rattle.std.proofs.Common.{◌≡◌, ℕ, ◌<◌, ◌≤◌, ◌^◌, List, [], ◌∷◌, length, map, Option, refl, ap, ◌∙◌, length-append, arith}
+use Rattle.std.proofs.Common.{◌≡◌, ℕ, ◌<◌, ◌≤◌, ◌^◌, List, [], ◌∷◌, length, map, Option, refl, ap, ◌∙◌, arith}
 use Rattle.std.specs.Prelude.{◌≢◌}
-use Rattle.std.specs.List.{concat, AllZip}
 use Rattle.om_format.specs.Canonical.{canon}
 use Rattle.om_format.specs.Spelled.{SpelledUnder}
-use Rattle.om_format.specs.Token.{Token, Spells}
 use Rattle.om_format.specs.Tree.{Tree, tokens, root, made, objects_of}
-use Rattle.om_format.proofs.SpellValues.{some_bytes}
+use Rattle.om_format.proofs.SpellValues.{bytes_of_tokens}
 use Rattle.om_canonical.proofs.CanonLemmas.{made-le}
 use Rattle.om_canonical.proofs.TreeGraphs.{own_tree}
 use Rattle.om_lex.specs.declared.lexeme.Lexeme.{Lexeme}
@@ -58,18 +56,10 @@ lexemes_some v lexemes spelled none =
 
 -- ---- a value that is spelled has few objects
 
-pieces_long : (all : List Token) (pieces : List (List ℕ)) → AllZip Spells all pieces
-    → length all ≤ length (concat pieces)
-pieces_long [] pieces h = omega arith
-pieces_long (t ∷ all) [] h = absurd h
-pieces_long (t ∷ all) (piece ∷ pieces) h =
-    let next = pieces_long all pieces h.1 in
-    omega (arith, some_bytes t piece h.0, next, length-append piece (concat pieces))
-
 few_objects : (limit : ℕ) (bytes : List ℕ) (tree : Tree) → SpelledUnder limit bytes tree
     → made tree < 2 ^ 63
 few_objects limit bytes tree s =
-    let long = pieces_long (tokens tree) s.pieces s.spells.spells in
+    let long = bytes_of_tokens (tokens tree) s.pieces s.spells.spells in
     omega (arith, made-le tree s.spells.is_tree, long, s.spells.length, s.small)
 
 -- ---- a line

@@ -9,16 +9,10 @@ use Rattle.om_outcome.specs.declared.status.Status.TheVariants.{Well, Memory}
 use Rattle.om_outcome.specs.Outcome.{tell, the_text, own, build, Asks}
 use Rattle.om_edge.specs.Files.{File, contents_of}
 use Rattle.om_edge.specs.Sink.{Puts}
-use Rattle.om_promises.specs.Call.{Call}
+use Rattle.om_promises.specs.Call.{Call, HasPut}
 use Rattle.om_promises.specs.Commands.{Commands}
 use Rattle.om_promises.specs.CommandLaws.{Follow}
 use Rattle.om_promises.specs.Outside.{IsHonest}
-
--- out is told, and the call put this there
-pub record HasPut (call : Call) (text : List ℕ) : Type 0 where
-  pub before : List ℕ
-  pub had : call.out.before.bytes ≡ Some before
-  pub has : call.out.after.bytes ≡ Some (before ++ text)
 
 -- The words ask to show the values of the input at FILE and TYPE, each under the limit, and the
 -- call ended well; its input, what FILE holds, and what it put on out are told.

@@ -6,7 +6,7 @@ use Rattle.std.proofs.lemmas.List.{append-nil, get_or-drop, drop_all}
 use Rattle.std.proofs.lemmas.Option.{same_Some, none-some}
 use Rattle.om_lex.specs.declared.lexeme.Lexeme.{Lexeme}
 use Rattle.om_grammar.specs.Grammar.{Texpr, texpr, FileTree, file_kinds}
-use Rattle.om_parse.specs.Parsed.{kinds_of}
+use Rattle.om_grammar.specs.Lexemes.{kinds_of}
 use Rattle.om_parse.specs.Written.{type_of_texpr, declarations_of}
 use Rattle.om_types.specs.Ty.{Ty}
 use Rattle.om_types.specs.declared.decl.Decl.{Decl}

@@ -4,8 +4,8 @@ use Rattle.std.proofs.Common.{sym, ap, arith, append_assoc}
 use Rattle.std.specs.Prelude.{◌&&◌}
 use Rattle.std.proofs.lemmas.List.{length-take-le, append-nil}
 use Rattle.om_lex.specs.declared.lexeme.Lexeme.{Lexeme}
-use Rattle.om_parse.specs.Parsed.{kinds_of}
-use Rattle.om_parse.proofs.LexemeLemmas.{kinds_length, kinds_next}
+use Rattle.om_grammar.specs.Lexemes.{kinds_of}
+use Rattle.om_grammar.proofs.LexemeLemmas.{kinds_length, kinds_next}
 use Rattle.om_sites.specs.Counted.{is_marked, opens_item, begins_type, after, one_if, marks}
 use Rattle.om_sites.proofs.StandLemmas.{after_append, marks_append}
 

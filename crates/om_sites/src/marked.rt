@@ -2,7 +2,7 @@
 //! include.
 
 ghost use Rattle.std.specs.Prelude.{◌≡◌, ◌&&◌, ◌++◌, false, IfOk, OnOk};
-ghost use Rattle.om_parse.specs.Parsed.{kinds_of};
+ghost use Rattle.om_grammar.specs.Lexemes.{kinds_of};
 ghost use Rattle.om_sites.specs.Counted.{is_marked, opens_item, begins_type, one_if, marks};
 
 use om_lex::lexeme::{Lexeme, LexemeKind, Symbol};

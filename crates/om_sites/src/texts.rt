@@ -4,7 +4,7 @@ ghost use Rattle.std.specs.Prelude.{◌≡◌, IfOk, false};
 ghost use Rattle.om_grammar.specs.Grammar.{Texpr, texpr, FileTree, file_kinds};
 ghost use Rattle.om_sites.specs.InFile.{file_places};
 ghost use Rattle.om_sites.specs.InText.{in_texpr};
-ghost use Rattle.om_parse.specs.Parsed.{kinds_of};
+ghost use Rattle.om_grammar.specs.Lexemes.{kinds_of};
 ghost use Rattle.om_parse.specs.Written.{type_of_texpr, declarations_of};
 ghost use Rattle.om_scope.specs.Sites.{IsTypeSite, AreSites};
 ghost use Rattle.om_scope.specs.Brackets.{AreBrackets, AreFileBrackets};

@@ -1,26 +1,16 @@
 -- A value has as many bytes as its header claims, and the words that it states.
-use Rattle.std.proofs.Common.{◌≡◌, ℕ, ◌+◌, ◌-◌, ◌<◌, ◌≤◌, Bool, true, false, cond, eqb, List, ◌++◌, length, take, refl, sym, ap, ◌∙◌, append_assoc, length-append, take_at, arith}
+use Rattle.std.proofs.Common.{◌≡◌, ℕ, ◌+◌, ◌-◌, ◌<◌, ◌≤◌, cond, List, ◌++◌, length, take, refl, sym, ap, ◌∙◌, append_assoc, length-append, take_at, arith}
 use Rattle.std.specs.Prelude.{IsTrue, nat_lt}
 use Rattle.std.proofs.lemmas.Bool.Decides.{Decides-ltb}
 use Rattle.std.specs.List.{concat}
+use Rattle.om_read.proofs.HeadLemmas.{start_length}
 use Rattle.om_model.specs.declared.header.Head.{Head}
-use Rattle.om_format.specs.Header.{magic, big_magic, big_head, small_head, header_length, head_of}
+use Rattle.om_format.specs.Header.{header_length, head_of}
 use Rattle.om_format.specs.Spelled.{SpelledUnder}
 use Rattle.om_format.specs.Tree.{Tree}
 use Rattle.om_format.proofs.OneJudgement.{header_length-append}
 use Rattle.om_format.proofs.TokenStepLemmas.{head_of-take}
 use Rattle.om_sighting.specs.Parts.{BeginNoValue}
-
-start_by : (b : Bool) (big small : Head) → big.big ≡ true → small.big ≡ false
-    → cond {A = ℕ} (cond b big small).big 32 20 ≡ cond {A = ℕ} b 32 20
-start_by true big small p q = rw p refl
-start_by false big small p q = rw q refl
-
--- where a header ends, by what it states
-pub start_length : (bytes : List ℕ) → cond {A = ℕ} (head_of bytes).big 32 20 ≡ header_length bytes
-unfolding head_of
-start_length bytes =
-    start_by (eqb (magic bytes) big_magic) (big_head bytes) (small_head bytes) refl refl
 
 pub start_of :
     (bytes : List ℕ) (head : Head) (start : ℕ) → head ≡ head_of bytes

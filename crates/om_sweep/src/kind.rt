@@ -1,7 +1,6 @@
 //! What a value is, put at the end of a text: as the text of a fault names what was found.
 
 ghost use Rattle.std.specs.Prelude.{◌≡◌, ◌++◌, length, OnOk, decimal};
-ghost use Rattle.std.specs.Fmt.{signed_decimal};
 ghost use Rattle.om_model.specs.Graph.{IsValue};
 ghost use Rattle.om_types.specs.VerdictText.{kind_text};
 ghost use Rattle.om_fault.specs.Text.{text_of_kind};

@@ -22,14 +22,9 @@ use Rattle.om_types.specs.Fitting.{fits_int, fits_atom, is_double, is_bytes, has
 use Rattle.om_types.specs.Fitting.{is_int64, is_native}
 use Rattle.om_types.specs.Typing.{values_of}
 use Rattle.om_types.specs.Fault.{field_of}
-use Rattle.om_model.proofs.Options.{Contains-none, Contains-cases}
+use Rattle.om_model.proofs.Options.{Contains-none, Contains-cases, slice_get_there}
 
 -- ---- what is there
-
-get_below : {X : Type 0} (xs : List X) (i : ℕ) → i < length xs → (x : X) × (slice_get xs i ≡ Some x)
-get_below [] i below = absurd (omega arith)
-get_below (x ∷ xs) zero below = (x, refl)
-get_below (x ∷ xs) (suc i) below = get_below xs i (omega arith)
 
 module _ {T : Type 0} where
   -- a need of the list is the type at its place
@@ -63,7 +58,7 @@ module _ {T : Type 0} where
       → (test ≡ true → length ts ≡ length values) → There values (fields_if test ts)
   if_there true ts values sized i a among =
       let at = from_zero ts i a among in
-      get_below values i (omega (arith, slice_get_within ts i a at, sized refl))
+      slice_get_there values i (omega (arith, slice_get_within ts i a at, sized refl))
   if_there false ts values sized i a among = absurd (Contains-none (i, a) among)
 
   if_once : (test : Bool) (ts : List T) → Once (fields_if test ts)

@@ -8,6 +8,7 @@ use Rattle.om_model.proofs.Options.{Contains-none, IsSomeAnd-at, IsSomeAnd-some,
 use Rattle.om_model.specs.declared.value.Val.{Val}
 use Rattle.om_model.specs.declared.value.Val.TheVariants as vals
 use Rattle.om_model.specs.declared.value.Obj.{Obj}
+use Rattle.om_model.proofs.Lists.{Contains-place}
 use Rattle.om_types.specs.Fault.{IsBefore, value_at}
 use Rattle.om_types.specs.Lawful.{Everything}
 use Rattle.om_types.specs.Searched.{Entry}
@@ -17,7 +18,6 @@ use Rattle.om_typing.proofs.SearchedLemmas.{before_transitive}
 use Rattle.om_equal.proofs.TableLemmas.{mapped_some}
 use Rattle.om_type_table.specs.declared.table.TypeTable.{TypeTable}
 use Rattle.om_type_table.specs.Made.{table_of}
-use Rattle.om_scan.proofs.PlaceLemmas.{place_of}
 use Rattle.om_check.specs.declared.visits.Visit.{Visit}
 use Rattle.om_check.specs.Told.{IsPathOf}
 use Rattle.om_check.specs.Met.{AreAllMet}
@@ -117,7 +117,7 @@ module _ (table : TypeTable) (graph : List Obj) (root : Val) (its : IsTreeTable 
       let entered = met.least path o u node.leads in
       let e = entered.0 in
       let tree = its.alike e.type u (sym entered.3) node.tree in
-      let k = place_of met.told e entered.1 in
+      let k = Contains-place met.told e entered.1 in
       let inside = slice_get_within met.told k.0 e k.1 in
       let told = met.are_told.many in
       let v = slice_get_there all k.0 (omega (arith, inside, told)) in
@@ -170,7 +170,7 @@ module _ (table : TypeTable) (graph : List Obj) (root : Val) (its : IsTreeTable 
         n.entry.path o n.entry.type node.leads node.tree in
         slice_get_within graph o object.object object.at);
     left = λ o listed.
-        let i = place_of objects o listed in
+        let i = Contains-place objects o listed in
         let n = node_there i.0 o i.1 in
         let node = leads_there i.0 o n in
         let object = object_of (shape_in table) (names_in table) (SameClass table) Everything
@@ -182,7 +182,7 @@ module _ (table : TypeTable) (graph : List Obj) (root : Val) (its : IsTreeTable 
         n.entry.path o n.entry.type node.leads node.tree object)
         (its.alike node.tree.left n.entry.type node.tree.left_same node.tree);
     right = λ o listed.
-        let i = place_of objects o listed in
+        let i = Contains-place objects o listed in
         let n = node_there i.0 o i.1 in
         let node = leads_there i.0 o n in
         let object = object_of (shape_in table) (names_in table) (SameClass table) Everything
@@ -345,7 +345,7 @@ module _ (table : TypeTable) (graph : List Obj) (root : Val) (its : IsTreeTable 
   are_nodes : AreNodes (shape_in table) (names_in table) (SameClass table) graph root 0 pairs
   are_nodes = record {
     led = λ o u listed.
-        let i = place_of pairs (o, u) listed in
+        let i = Contains-place pairs (o, u) listed in
         let p = pair_there i.0 o u i.1 in (
           p.entry.path,
           record {
@@ -476,10 +476,3 @@ fault_inside graph objects kinds.Balance i wrong =
 fault_inside graph objects kinds.Order i wrong =
     let o = IsSomeAnd-some (slice_get objects i) (IsDisordered graph) wrong.0 in slice_get_within
     objects i o.0 o.1
-
--- the numbers are those of visits
-pub visits_inside :
-    (IsTree : ℕ → Type 0) (all : List Visit) (nodes : Nodes) → AreNodeVisits IsTree all
-    (length all) nodes
-    → All (λ k. k < length all) nodes.visits.items
-visits_inside IsTree all nodes among = all_are (λ k. k < length all) nodes.visits.items among.below

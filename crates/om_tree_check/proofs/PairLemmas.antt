@@ -1,7 +1,7 @@
 -- The pairs of a check at types of sets and maps are the nodes, and what is said of their objects
 -- is the verdict, where that asks for no path but the root's.
-use Rattle.std.proofs.Common.{ℕ, zero, suc, ◌<◌, ◌≡◌, ◌∙◌, ◌⊎◌, inl, inr, ⊎_elim, ◌++◌, Bool, true, false, ◌+◌, List, [], ◌∷◌, cond, get_or, length, map, take, Option, Some, None, refl, sym, ap, subst, arith}
-use Rattle.std.specs.Prelude.{slice_get, slice_index_or, All, Contains, filter, option_map}
+use Rattle.std.proofs.Common.{ℕ, zero, suc, ◌<◌, ◌≡◌, ◌∙◌, ◌⊎◌, inl, inr, ⊎_elim, ◌++◌, Bool, true, false, ◌+◌, List, [], ◌∷◌, cond, get_or, length, map, take, Option, Some, refl, sym, ap, subst, arith}
+use Rattle.std.specs.Prelude.{slice_get, slice_index_or, Contains, filter, option_map}
 use Rattle.std.proofs.lemmas.List.Elements.{filter_more}
 use Rattle.std.proofs.lemmas.List.{length-map, map-append}
 use Rattle.std.proofs.lemmas.Option.{same_Some, none-some, slice_get_within, slice_get-map}
@@ -9,6 +9,7 @@ use Rattle.om_model.proofs.Options.{Contains-none, Contains-first, Contains-late
 use Rattle.om_model.specs.declared.value.Val.{Val}
 use Rattle.om_model.specs.declared.value.Val.TheVariants as vals
 use Rattle.om_model.specs.declared.value.Obj.{Obj}
+use Rattle.om_model.proofs.Lists.{Contains-place, Contains-filter}
 use Rattle.om_types.specs.Fault.{IsBefore, value_at}
 use Rattle.om_types.specs.Lawful.{Everything}
 use Rattle.om_types.specs.Table.{table_shapes}
@@ -18,7 +19,6 @@ use Rattle.om_typing.specs.StepLaws.{AreApart, key_of}
 use Rattle.om_type_table.specs.declared.table.TypeTable.{TypeTable}
 use Rattle.om_type_table.specs.Made.{table_of}
 use Rattle.om_scan.specs.Paths.{HasPath}
-use Rattle.om_scan.proofs.PlaceLemmas.{place_of}
 use Rattle.om_check.specs.Verdict.{IsYes}
 use Rattle.om_trees.specs.declared.node.TreeKind.{TreeKind}
 use Rattle.om_trees.specs.declared.node.TreeKind.TheVariants as kinds
@@ -51,24 +51,6 @@ kept {X} p (z ∷ xs) x among = by_test (p z) refl (kept p xs x) among where
       (Contains-cases z (filter p xs) x there)
   by_test false failed rest there = let k = rest there in (Contains-later z xs x k.0, k.1)
 
--- what is of the list and passes is kept
-passing : {X : Type 0} (p : X → Bool) (xs : List X) (x : X) → Contains xs x → p x ≡ true
-    → Contains (filter p xs) x
-passing p [] x among passed = absurd (Contains-none x among)
-passing {X} p (z ∷ xs) x among passed =
-    by_case (Contains-cases z xs x among) (λ later. passing p xs x later passed) where
-      by_test : (b : Bool) → Contains (filter p xs) x
-          → Contains (cond b (z ∷ filter p xs) (filter p xs)) x
-      by_test true there = Contains-later z (filter p xs) x there
-      by_test false there = there
-
-      by_case : (z ≡ x) ⊎ Contains xs x → (Contains xs x → Contains (filter p xs) x)
-          → Contains (filter p (z ∷ xs)) x
-      by_case (inl here) rest =
-          subst (λ b. Contains (cond b (z ∷ filter p xs) (filter p xs)) x) (sym (ap p here ∙ passed))
-          (subst (Contains (z ∷ filter p xs)) here (Contains-first z (filter p xs)))
-      by_case (inr later) rest = by_test (p z) (rest later)
-
 -- ---- elements that are apart
 
 -- no element is among those after it
@@ -80,7 +62,7 @@ distinct : {X : Type 0} (xs : List X) → AreApart xs → Distinct xs
 distinct [] apart = tt
 distinct (x ∷ xs) apart = (
   λ among.
-      let p = place_of xs x among in
+      let p = Contains-place xs x among in
       let e : 0 ≡ suc p.0 = apart 0 (suc p.0) x refl p.1 in
       omega (arith, e),
   distinct xs (λ j k y at_j at_k.
@@ -157,7 +139,7 @@ module _ (table : TypeTable) (graph : List Obj) (root : Val) (its : IsTreeTable 
           graph typing yes.typing path root 0 (vals.Ref o) u tt root_held node.leads in
           let other = held.1.listed in (
             other.0,
-            passing (is_node_pair found) typing (o, other.0) other.1
+            Contains-filter (is_node_pair found) typing (o, other.0) other.1
                 ((marked other.0).1 (its.alike other.0 u other.2 node.tree)),
             other.2,
           );
@@ -239,7 +221,7 @@ module _ (table : TypeTable) (graph : List Obj) (root : Val) (its : IsTreeTable 
     has_at : (Has : List Obj → ℕ → Type 0) (path : List ℕ) → HasNodeWith Has path
         → (i : ℕ) × HasAt (Has graph) objects i
     has_at Has path (o, u, node, wrong) =
-        let at = place_of objects o (among_objects path o u node) in
+        let at = Contains-place objects o (among_objects path o u node) in
         (at.0, IsSomeAnd-at (slice_get objects at.0) o (Has graph) at.1 wrong)
 
     has_node : (Has : List Obj → ℕ → Type 0) (i : ℕ) → HasAt (Has graph) objects i

@@ -7,12 +7,12 @@ use Rattle.om_model.proofs.Options.{Contains-first, Contains-later, slice_get-Co
 use Rattle.om_model.specs.declared.value.Val.{Val}
 use Rattle.om_model.specs.declared.value.Val.TheVariants as vals
 use Rattle.om_model.specs.declared.value.Obj.{Obj}
+use Rattle.om_model.proofs.Lists.{Contains-place}
 use Rattle.om_types.specs.declared.names.Names.{Names}
 use Rattle.om_types.specs.declared.shape.ShapeOf.{ShapeOf}
 use Rattle.om_types.specs.Fault.{value_at}
 use Rattle.om_types.specs.Fitting.{shaped}
 use Rattle.om_equal.proofs.SimulationLemmas.{SayTheSame, SamePlace, place_same}
-use Rattle.om_scan.proofs.PlaceLemmas.{place_of}
 use Rattle.om_trees.specs.declared.node.TreeKind.{TreeKind}
 use Rattle.om_trees.specs.declared.node.TreeKind.TheVariants as kinds
 use Rattle.om_trees.specs.declared.verdict.TreeVerdict.{TreeVerdict}
@@ -183,13 +183,13 @@ module _ {T U : Type 0} (shape : T → ShapeOf T) (names : T → Names) (Equal :
     are_others : AreNodes shape' names' Equal' graph root s others.0
     are_others = record {
       led = λ o t among.
-          let j = place_of others.0 (o, t) among in
+          let j = Contains-place others.0 (o, t) among in
           let i = others.1.back j.0 o t j.1 in
           (i.2.1, i.2.2);
       all = λ path o t node.
           let i = back path o t node in
           let w = are.all path o i.0 i.2 in
-          let j = place_of xs (o, w.0) w.1 in
+          let j = Contains-place xs (o, w.0) w.1 in
           let u = others.1.forth j.0 o w.0 j.1 in (
             u.0,
             slice_get-Contains others.0 j.0 (o, u.0) u.1,

@@ -4,8 +4,9 @@ use Rattle.std.specs.Prelude.{slice_get, IfSome, ◌↔◌}
 use Rattle.std.proofs.lemmas.Bool.{cases_lt}
 use Rattle.std.proofs.lemmas.Option.{same_Some, none-some, slice_get_within}
 use Rattle.om_model.proofs.Options.{slice_get_there}
+use Rattle.om_model.proofs.Lists.{slice_get-append_left, slice_get-last}
 use Rattle.om_check.specs.declared.visits.Visit.{Visit}
-use Rattle.om_scan.proofs.PlaceLemmas.{slice_get-append_left, slice_get-push_cases, slice_get-last}
+use Rattle.om_scan.proofs.PlaceLemmas.{slice_get-push_cases}
 use Rattle.om_tree_check.specs.declared.nodes.Nodes.{Nodes}
 use Rattle.om_tree_check.specs.NodeVisits.{IsVisitAt, AreNodeVisits}
 

@@ -1,6 +1,6 @@
 //! The nodes among all that is met of a value.
 
-ghost use Rattle.std.specs.Prelude.{◌≡◌, ◌+◌, ◌<◌, length, IfOk, OnOk};
+ghost use Rattle.std.specs.Prelude.{◌+◌, ◌<◌, length, IfOk, OnOk};
 ghost use Rattle.om_tree_check.specs.NodeVisits.{AreNodeVisits, IsMarked};
 
 use crate::found::is_marked;

@@ -1,15 +1,15 @@
 -- The heights of closed nodes, which are counted right: none is negative, and parts are lower.
-use Rattle.std.proofs.Common.{ℕ, zero, suc, ◌≡◌, ◌<◌, ◌∙◌, List, length, max, map, Some, refl, ap, arith}
+use Rattle.std.proofs.Common.{ℕ, zero, suc, ◌≡◌, ◌<◌, ◌∙◌, List, length, max, map, refl, arith}
 use Rattle.std.specs.Prelude.{Contains, slice_get, ℤ, pos, ◌+ℤ◌, ◌<ℤ◌}
 use Rattle.std.specs.Int.{int_max}
 use Rattle.std.specs.Global.{Vec}
 use Rattle.std.proofs.lemmas.Int.{ints}
 use Rattle.std.proofs.lemmas.List.Elements.{All-contains}
-use Rattle.std.proofs.lemmas.Option.{slice_get-get_or}
 use Rattle.om_model.proofs.Options.{Contains-map, IsSomeAnd-at}
 use Rattle.om_model.specs.declared.value.Val.{Val}
 use Rattle.om_model.specs.declared.value.Val.TheVariants as vals
 use Rattle.om_model.specs.declared.value.Obj.{Obj}
+use Rattle.om_model.proofs.Lists.{Contains-place}
 use Rattle.om_trees.specs.Parts.{node_at, height_of}
 use Rattle.om_trees.specs.TreeFault.{left_height, right_height, IsMiscounted}
 use Rattle.om_trees.specs.Judgement.{IsAmong, AreClosed, HasAt}
@@ -18,9 +18,6 @@ use Rattle.om_trees.proofs.FewLemmas.{lower, lower_less}
 use Rattle.om_trees.proofs.SearchTreeLemmas.{counted_up}
 use Rattle.om_trees.proofs.SoundLemmas.{same_number, left_is_lower, right_is_lower}
 
-place_of : {X : Type 0} (xs : List X) (x : X) → Contains xs x → (k : ℕ) × (slice_get xs k ≡ Some x)
-place_of xs x among = (among.0, slice_get-get_or xs among.0 x among.1 ∙ ap Some among.2)
-
 lower_level : (y z : ℤ) (g h : ℕ) → y ≡ pos g → z ≡ pos h → y <ℤ z → g < h
 lower_level y z g h first second less = omega (arith, ints, first, second, less)
 
@@ -28,7 +25,7 @@ module _ (graph : List Obj) (nodes : List ℕ) (closed : AreClosed graph nodes)
     (counted : (i : ℕ) → ¬ HasAt (IsMiscounted graph) nodes i) where
   right_height_is : (o : ℕ) → Contains nodes o → (node_at graph o).height ≡ pos 1 +ℤ int_max (left_height graph o) (right_height graph o)
   right_height_is o among =
-      let place = place_of nodes o among in
+      let place = Contains-place nodes o among in
       same_number (node_at graph o).height (pos 1 +ℤ int_max (left_height graph o) (right_height graph o))
       (λ wrong. counted place.0 (IsSomeAnd-at (slice_get nodes place.0) o (IsMiscounted graph) place.1 wrong))
 
@@ -37,7 +34,7 @@ module _ (graph : List Obj) (nodes : List ℕ) (closed : AreClosed graph nodes)
 
   fewer : (o : ℕ) → Contains nodes o → (z : ℤ) → (node_at graph o).height <ℤ z → lower heights (node_at graph o).height < lower heights z
   fewer o among z less =
-      let place = place_of heights (node_at graph o).height (Contains-map (λ p. (node_at graph p).height) nodes o among) in
+      let place = Contains-place heights (node_at graph o).height (Contains-map (λ p. (node_at graph p).height) nodes o among) in
       lower_less heights place.0 (node_at graph o).height z place.1 less
 
   -- a part has a level where each node that is lower has one

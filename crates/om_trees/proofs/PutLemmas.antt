@@ -1,30 +1,16 @@
 -- Levels with one more node.
-use Rattle.std.proofs.Common.{ℕ, zero, suc, ◌<◌, ◌+◌, ◌≡◌, ◌≢◌, ◌∙◌, ⊎_elim, ◌⊎◌, inl, inr, List, [], ◌∷◌, ◌++◌, Some, refl, sym, ap, subst, length, length-append, get_or, set, arith}
+use Rattle.std.proofs.Common.{ℕ, zero, suc, ◌<◌, ◌+◌, ◌≡◌, ◌≢◌, ◌∙◌, ⊎_elim, ◌⊎◌, inl, inr, List, [], ◌∷◌, ◌++◌, Some, sym, ap, subst, length, length-append, get_or, set, arith}
 use Rattle.std.specs.Prelude.{Contains, slice_get, pos}
 use Rattle.std.specs.Global.{Vec}
 use Rattle.std.proofs.lemmas.List.Elements.{Contains-append_left, Contains-push, Contains-push_cases}
-use Rattle.std.proofs.lemmas.Option.{same_Some, slice_get-get_or}
+use Rattle.std.proofs.lemmas.Option.{same_Some}
 use Rattle.om_model.proofs.Options.{Contains-none, same_or_not}
 use Rattle.om_model.specs.declared.value.Obj.{Obj}
+use Rattle.om_model.proofs.Lists.{slice_get-append_left, slice_get-set_other, slice_get-set_here, slice_get-read}
 use Rattle.om_trees.specs.Parts.{node_at}
 use Rattle.om_trees.specs.Levels.{Has, HasRooms, IsPut, AreLevels}
 
 -- ---- an element that is replaced
-
-pub set_other : {X : Type 0} (xs : List X) (i j : ℕ) (y : X) → j ≢ i → slice_get (set xs i y) j ≡ slice_get xs j
-set_other [] i j y other = refl
-set_other (x ∷ xs) zero zero y other = absurd (other refl)
-set_other (x ∷ xs) zero (suc j) y other = refl
-set_other (x ∷ xs) (suc i) zero y other = refl
-set_other (x ∷ xs) (suc i) (suc j) y other = set_other xs i j y (λ same. other (ap suc same))
-
-pub set_here : {X : Type 0} (xs : List X) (i : ℕ) (y : X) → i < length xs → slice_get (set xs i y) i ≡ Some y
-set_here [] i y below = absurd (omega arith)
-set_here (x ∷ xs) zero y below = refl
-set_here (x ∷ xs) (suc i) y below = set_here xs i y (omega arith)
-
-pub read : {X : Type 0} (xs : List X) (i : ℕ) (x : X) → i < length xs → x ≡ get_or xs i x → slice_get xs i ≡ Some x
-read xs i x below is = slice_get-get_or xs i x below ∙ ap Some (sym is)
 
 -- ---- levels with nothing
 
@@ -36,11 +22,6 @@ pushed_cases [] y (suc i) x is = cc
 pushed_cases (z ∷ xs) y zero x is = inl is
 pushed_cases (z ∷ xs) y (suc i) x is = pushed_cases xs y i x is
 
-before_end : {X : Type 0} (xs : List X) (y : X) (i : ℕ) (x : X) → slice_get xs i ≡ Some x → slice_get (xs ++ y ∷ []) i ≡ Some x
-before_end [] y i x is = cc
-before_end (z ∷ xs) y zero x is = is
-before_end (z ∷ xs) y (suc i) x is = before_end xs y i x is
-
 pub rooms_now : (levels : List (Vec ℕ)) → HasRooms levels (length levels) levels
 rooms_now levels = record { enough = omega arith; kept = λ h o has. has; back = λ h o has. has }
 
@@ -48,7 +29,7 @@ pub room_more : (old now new : List (Vec ℕ)) (w : Vec ℕ) (many : ℕ) → Ha
 room_more old now new w many held none is = record {
   enough = let before = held.enough in omega (arith, before, ap length is, length-append now (w ∷ []));
   kept = λ h o has. let before = held.kept h o has in
-      (before.0, ap (λ l. slice_get l h) is ∙ before_end now w h before.0 before.1, before.2);
+      (before.0, ap (λ l. slice_get l h) is ∙ slice_get-append_left now (w ∷ []) h before.0 before.1, before.2);
   back = λ h o has. held.back h o (by_place h o has (pushed_cases now w h has.0 (ap (λ l. slice_get l h) (sym is) ∙ has.1)));
 } where
   by_place : (h o : ℕ) (has : Has new h o) → (slice_get now h ≡ Some has.0) ⊎ (w ≡ has.0) → Has now h o
@@ -61,11 +42,11 @@ room_more old now new w many held none is = record {
 module _ (levels : List (Vec ℕ)) (at : ℕ) (v w : Vec ℕ) (below : at < length levels) (is : v ≡ get_or levels at v)
     (o : ℕ) (more : w.items ≡ v.items ++ o ∷ []) where
   at_read : slice_get levels at ≡ Some v
-  at_read = read levels at v below is
+  at_read = slice_get-read levels at v below is
 
   pub put_is : IsPut levels at o (set levels at w)
   put_is = record {
-    there = (w, set_here levels at w below, subst (λ l. Contains l o) (sym more) (Contains-push v.items o));
+    there = (w, slice_get-set_here levels at w below, subst (λ l. Contains l o) (sym more) (Contains-push v.items o));
     kept = kept;
     back = back;
   } where
@@ -74,23 +55,23 @@ module _ (levels : List (Vec ℕ)) (at : ℕ) (v w : Vec ℕ) (below : at < leng
         (λ here.
         let same : has.0 ≡ v = same_Some has.0 v (sym has.1 ∙ ap (slice_get levels) here ∙ at_read) in (
           w,
-          ap (slice_get (set levels at w)) here ∙ set_here levels at w below,
+          ap (slice_get (set levels at w)) here ∙ slice_get-set_here levels at w below,
           subst (λ l. Contains l p) (sym more) (Contains-append_left v.items (o ∷ []) p
               (subst (λ (u : Vec ℕ). Contains u.items p) same has.2)),
         ))
-        (λ other. (has.0, set_other levels at h w other ∙ has.1, has.2))
+        (λ other. (has.0, slice_get-set_other levels at h w other ∙ has.1, has.2))
         (same_or_not h at)
 
     back : (h p : ℕ) → Has (set levels at w) h p → Has levels h p ⊎ ((h ≡ at) × (p ≡ o))
     back h p has = ⊎_elim
         (λ here.
-        let same : has.0 ≡ w = same_Some has.0 w (sym has.1 ∙ ap (slice_get (set levels at w)) here ∙ set_here levels at w below) in
+        let same : has.0 ≡ w = same_Some has.0 w (sym has.1 ∙ ap (slice_get (set levels at w)) here ∙ slice_get-set_here levels at w below) in
         let among : Contains (v.items ++ o ∷ []) p = subst (λ l. Contains l p) more (subst (λ (u : Vec ℕ). Contains u.items p) same has.2) in
         ⊎_elim
         (λ before. inl (v, ap (slice_get levels) here ∙ at_read, before))
         (λ last. inr (here, sym last))
         (Contains-push_cases v.items o p among))
-        (λ other. inl (has.0, sym (set_other levels at h w other) ∙ has.1, has.2))
+        (λ other. inl (has.0, sym (slice_get-set_other levels at h w other) ∙ has.1, has.2))
         (same_or_not h at)
 
 pub rooms_put :

@@ -11,11 +11,11 @@ use Rattle.om_model.proofs.Options.{Contains-none, same_or_not}
 use Rattle.om_model.specs.declared.value.Val.{Val}
 use Rattle.om_model.specs.declared.value.Val.TheVariants as vals
 use Rattle.om_model.specs.declared.value.Obj.{Obj}
+use Rattle.om_model.proofs.Lists.{slice_get-set_other, slice_get-set_here}
 use Rattle.om_trees.specs.declared.span.Settled.{Settled}
 use Rattle.om_trees.specs.Parts.{node_at}
 use Rattle.om_trees.specs.Span.{IsSettledAs, IsSettled, IsPartSettled, IsReady}
 use Rattle.om_trees.specs.Levels.{Has, IsEarlier, AreRising}
-use Rattle.om_trees.proofs.PutLemmas.{set_here, set_other}
 
 -- the first nodes are settled, and so is what was settled before
 pub record AreSettledSoFar (graph : List Obj) (nodes : List ℕ) (old new : List Settled) : Type 0 where
@@ -29,10 +29,10 @@ module _ (graph : List Obj) where
 
   -- one more is settled
   with_one : (all : List Settled) (o : ℕ) (s : Settled) → o < length all → IsSettledAs graph o s → (p : ℕ) → (o ≡ p) ⊎ IsSettled graph all p → IsSettled graph (set all o s) p
-  with_one all o s below known p (inl same) = subst (λ q. IsSettled graph (set all o s) q) same (s, set_here all o s below, known)
+  with_one all o s below known p (inl same) = subst (λ q. IsSettled graph (set all o s) q) same (s, slice_get-set_here all o s below, known)
   with_one all o s below known p (inr before) = ⊎_elim
-      (λ same. subst (λ q. IsSettled graph (set all o s) q) (sym same) (s, set_here all o s below, known))
-      (λ other. (before.0, set_other all o p s other ∙ before.1, before.2))
+      (λ same. subst (λ q. IsSettled graph (set all o s) q) (sym same) (s, slice_get-set_here all o s below, known))
+      (λ other. (before.0, slice_get-set_other all o p s other ∙ before.1, before.2))
       (same_or_not p o)
 
   pub one_more :

@@ -14,10 +14,10 @@ use Rattle.om_heap.specs.Heap.{fields_of}
 use Rattle.om_types.specs.declared.names.Names.{Names}
 use Rattle.om_types.specs.declared.shape.ShapeOf.{ShapeOf}
 use Rattle.om_types.specs.Lawful.{AreLawful}
-use Rattle.om_types.specs.Typing.{IsHeld, IsTyping, HasType}
+use Rattle.om_types.specs.Typing.{HasType}
 use Rattle.om_types.specs.Fault.{value_at}
 use Rattle.om_types.specs.Fitting.{shaped}
-use Rattle.om_types.proofs.FaultLemmas.{place_is_held}
+use Rattle.om_types.proofs.FaultLemmas.{held_by_some, place_is_held}
 use Rattle.om_typing.proofs.PathLemmas.{value_at-push}
 use Rattle.om_trees.specs.declared.node.TreeKind.{TreeKind}
 use Rattle.om_trees.specs.declared.node.TreeKind.TheVariants as kinds
@@ -84,23 +84,6 @@ module _ {T : Type 0} (shape : T → ShapeOf T) (names : T → Names) (Equal : T
   abbrev IsTreeHere : T → Type 0
   IsTreeHere u = IsTreeType shape names Equal u
 
-  nothing_is_typing : IsTyping (shaped shape Equal) graph []
-  nothing_is_typing = record {
-    fits = λ o t among. absurd (Contains-none (o, t) among);
-    held = λ o t i u among. absurd (Contains-none (o, t) among);
-    one_type = λ o t u among. absurd (Contains-none (o, t) among);
-  }
-
-  held_by_some : (v : Val) → HasType (shaped shape Equal) graph v t
-      → (pairs : List (ℕ × T)) × IsTyping (shaped shape Equal) graph pairs × IsHeld (shaped shape Equal) graph pairs v t
-  held_by_some (vals.Int z) has = ([], nothing_is_typing, record { fits = has.fits; listed = tt })
-  held_by_some (vals.Atom tag) has = ([], nothing_is_typing, record { fits = has.fits; listed = tt })
-  held_by_some (vals.Ref o) has = (
-    has.typed.0,
-    has.typed.1,
-    record { fits = has.fits; listed = (t, has.typed.2, lawful.reflexive t in_question) },
-  )
-
   -- ---- search trees have no faults
 
   pub ordered_is_sound :
@@ -116,7 +99,8 @@ module _ {T : Type 0} (shape : T → ShapeOf T) (names : T → Names) (Equal : T
     -- what a path leads to is in question, and fits
     pub placed : (path : List ℕ) (v : Val) (u : T) → Leads path v u → InQuestion u × (shaped shape Equal).fits graph v u
     placed path v u leads =
-        let held = held_by_some root has in
+        let held =
+        held_by_some (shaped shape Equal) InQuestion lawful graph root t in_question has in
         let place = place_is_held (shaped shape Equal) InQuestion lawful graph held.0 held.1 path root t v u in_question held.2 leads in
         (place.0, place.1.fits)
 

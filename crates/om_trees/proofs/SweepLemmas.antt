@@ -3,15 +3,17 @@ use Rattle.std.proofs.Common.{ℕ, zero, suc, ◌≡◌, ◌≢◌, ◌<◌, ◌
 use Rattle.std.specs.Prelude.{slice_get, slice_index, map, pos, nat_lt, if◌then◌else◌}
 use Rattle.std.proofs.lemmas.Bool.{cases_lt, ltb-true, ltb-false}
 use Rattle.std.proofs.lemmas.List.Elements.{All-contains}
-use Rattle.std.proofs.lemmas.Option.{same_Some, none-some, get_or_from_slice_get, slice_get-get_or, slice_get_within}
+use Rattle.std.proofs.lemmas.Option.{same_Some, none-some, get_or_from_slice_get, slice_get-get_or}
 use Rattle.om_model.proofs.Options.{IsSomeAnd-at, IsSomeAnd-some, same_or_not, slice_get_there, slice_get-Contains}
 use Rattle.om_model.specs.Graph.{IsValue, IsObject, IsGraph}
 use Rattle.om_model.specs.declared.value.Val.{Val}
 use Rattle.om_model.specs.declared.value.Val.TheVariants as vals
 use Rattle.om_model.specs.declared.value.Obj.{Obj}
 use Rattle.om_model.specs.declared.value.Obj.TheVariants as objects
+use Rattle.om_model.proofs.Lists.{slice_get-set_other, slice_get-set_here}
 use Rattle.om_heap.specs.Heap.{object_at, fields_of, field_at, word_of}
 use Rattle.om_heap.proofs.ReadLemmas.{field_word-at, word_of-inj}
+use Rattle.om_heap.proofs.FieldLemmas.{values_there}
 use Rattle.om_trees.specs.declared.judging.Judgement.{Judgement}
 use Rattle.om_trees.specs.declared.judging.Judgement.TheVariants.{Sound, Faulty}
 use Rattle.om_trees.specs.declared.node.TreeKind.{TreeKind}
@@ -22,20 +24,8 @@ use Rattle.om_trees.specs.Parts.{node_of, number_in}
 use Rattle.om_trees.specs.Span.{IsSettledAs}
 use Rattle.om_trees.specs.Sweep.{AreKnown, HasKind, IsGravest, replaced, graver, IsGravestFrom}
 use Rattle.om_trees.specs.TreeFault.{IsMiscounted, IsUnbalanced, IsDisordered}
-use Rattle.om_trees.proofs.PutLemmas.{set_here, set_other}
 
 -- ---- the words of fields
-
-values_there : (n : ℕ) (object : Obj) (i : ℕ) (v : Val) → IsObject n object
-    → slice_get (fields_of object) i ≡ Some v → IsValue n v
-values_there n (objects.Block tag values) i v is at_i =
-    All-contains (IsValue n) values v is.2 (slice_get-Contains values i v at_i)
-values_there n (objects.Bytes bytes) i v is at_i = absurd (none-some v at_i)
-values_there n (objects.Double bits) i v is at_i = absurd (none-some v at_i)
-values_there n (objects.Doubles all) i v is at_i = absurd (none-some v at_i)
-values_there n (objects.I32 z) i v is at_i = absurd (none-some v at_i)
-values_there n (objects.I64 z) i v is at_i = absurd (none-some v at_i)
-values_there n (objects.Native z) i v is at_i = absurd (none-some v at_i)
 
 module _ (graph : List Obj) (o i : ℕ) (inside : o < length graph)
     (short : i < length (fields_of (object_at graph o))) where
@@ -101,17 +91,12 @@ pub one_more_known : (graph : List Obj) (all : List Settled) (o : ℕ) (new : Se
 one_more_known graph all o new below known is p settled at clear = ⊎_elim
     (λ same.
     let here : new ≡ settled = same_Some new settled
-    (sym (set_here all o new below) ∙ ap (slice_get (set all o new)) (sym same) ∙ at) in
+    (sym (slice_get-set_here all o new below) ∙ ap (slice_get (set all o new)) (sym same) ∙ at) in
     subst (λ q. IsSettledAs graph q settled) (sym same) (subst (IsSettledAs graph o) here is))
-    (λ other. known p settled (sym (set_other all o p new other) ∙ at) clear)
+    (λ other. known p settled (sym (slice_get-set_other all o p new other) ∙ at) clear)
     (same_or_not p o)
 
 -- ---- the gravest so far
-
-pub none_from : (graph : List Obj) (nodes : List ℕ) (from : ℕ) → length nodes ≤ from
-    → IsGravestFrom graph nodes from Sound
-none_from graph nodes from past j o later at =
-    let within = slice_get_within nodes j o at in absurd (omega (arith, within, past, later))
 
 module _ (graph : List Obj) (nodes : List ℕ) (i o : ℕ) (at : slice_get nodes i ≡ Some o) where
   -- a node from i on is node i or a later one

@@ -1,6 +1,6 @@
 //! What is wrong with nodes, each of which comes before its parts.
 
-ghost use Rattle.std.specs.Prelude.{◌≡◌, ◌+◌, ◌<◌, ◌↔◌, List, length, slice_get, Some, IfOk, IfSome, IsTrue, vec_len};
+ghost use Rattle.std.specs.Prelude.{◌≡◌, ◌<◌, ◌↔◌, List, length, Some, IfOk, IfSome, IsTrue, vec_len};
 ghost use Rattle.std.specs.Bool.{OnTrue};
 ghost use Rattle.om_model.specs.declared.value.Obj.{Obj};
 ghost use Rattle.om_model.specs.Graph.{IsValue};
@@ -9,7 +9,7 @@ ghost use Rattle.om_trees.specs.Judgement.{AreClosed, IsJudgement};
 ghost use Rattle.om_trees.specs.Parts as parts;
 ghost use Rattle.om_trees.specs.Span.{IsPartSettled};
 ghost use Rattle.om_trees.specs.Sweep as sweeps;
-ghost use Rattle.om_trees.specs.Sweep.{AreKnown, IsGravest, IsGravestFrom};
+ghost use Rattle.om_trees.specs.Sweep.{AreKnown, IsGravest};
 ghost use Rattle.om_trees.specs.TreeFault.{IsDisordered};
 ghost use Rattle.om_trees.specs.Valid.{IsValid};
 

@@ -1,62 +1,23 @@
 -- A table of types is over numbers of its own.
-use Rattle.std.proofs.Common.{ℕ, ◌<◌, ◌≡◌, ◌∙◌, ⊎_elim, List, [], ◌∷◌, ◌++◌, length, Option, Some}
-use Rattle.std.proofs.Common.{None, refl, ap, subst, sym, get_or, All, arith}
-use Rattle.std.specs.Prelude.{Contains, map, slice_get, option_map}
-use Rattle.std.specs.List.{flat_map}
+use Rattle.std.proofs.Common.{ℕ, ◌<◌, ◌≡◌, ◌∙◌, ⊎_elim, List, ◌∷◌, ◌++◌, length, Option, Some}
+use Rattle.std.proofs.Common.{ap, subst, sym, get_or, All, arith}
+use Rattle.std.specs.Prelude.{Contains, slice_get, option_map}
 use Rattle.std.proofs.lemmas.List.{length-map}
 use Rattle.std.proofs.lemmas.List.Elements.{All-contains_itself}
 use Rattle.std.proofs.lemmas.Option.{slice_get_within, slice_get-get_or}
-use Rattle.om_model.proofs.Options.{Contains-map, Contains-none}
+use Rattle.om_model.proofs.Options.{Contains-map, Contains-none, map-Contains}
 use Rattle.om_types.specs.declared.decl.Decl.{Decl}
-use Rattle.om_types.specs.declared.shape.Constr.{Constr}
-use Rattle.om_types.specs.declared.shape.PolyTag.{PolyTag}
 use Rattle.om_types.specs.declared.shape.ShapeOf.{ShapeOf}
-use Rattle.om_types.specs.declared.shape.ShapeOf.TheVariants as shapes
 use Rattle.om_types.specs.Ty.{Ty}
 use Rattle.om_types.specs.Accepted.{AreWellFormed, IsSoundType}
-use Rattle.om_types.specs.Reached.{listed_if, named_in}
+use Rattle.om_types.specs.Reached.{named_in}
 use Rattle.om_types.specs.Shape.{shape}
-use Rattle.om_types.specs.Table.{Table, constr_with, tag_with_parts, with_parts, IsTableOf}
-use Rattle.om_equal.proofs.AlikeClosure.{mapped_is}
-use Rattle.om_equal.proofs.HeadMapLemmas.{append-map}
+use Rattle.om_types.proofs.ShapeLemmas.{named_in-map}
+use Rattle.om_types.specs.Table.{Table, with_parts, IsTableOf}
 use Rattle.om_equal.proofs.SoundLemmas.{known_by_hash}
 use Rattle.om_equal.proofs.TableLemmas.{slice_get-mapped, mapped_some, table_is_lawful}
 use Rattle.om_type_table.specs.declared.table.TypeTable.{TypeTable}
 use Rattle.om_type_table.specs.Made.{types_of, table_of, IsTypeTable, IsLawful}
-
--- ---- what a shape with other parts names
-
-module _ {T U : Type 0} (f : T → U) where
-  blocks-map :
-      (blocks : List (Constr T)) → flat_map (λ (c : Constr U). c.fields) (map (constr_with f) blocks)
-      ≡ map f (flat_map (λ (c : Constr T). c.fields) blocks)
-  blocks-map [] = refl
-  blocks-map (c ∷ blocks) =
-      ap (λ all. map f c.fields ++ all) (blocks-map blocks)
-      ∙ sym (append-map f c.fields (flat_map (λ (c : Constr T). c.fields) blocks))
-
-  listed-map : (t : Option T) → listed_if (option_map f t) ≡ map f (listed_if t)
-  listed-map None = refl
-  listed-map (Some t) = refl
-
-  tags-map :
-      (tags : List (PolyTag T))
-      → flat_map (λ (tag : PolyTag U). listed_if tag.arg) (map (tag_with_parts f) tags)
-      ≡ map f (flat_map (λ (tag : PolyTag T). listed_if tag.arg) tags)
-  tags-map [] = refl
-  tags-map (tag ∷ tags) =
-      ap (λ all. listed_if (option_map f tag.arg) ++ all) (tags-map tags)
-      ∙ ap (λ first. first ++ map f (flat_map (λ (tag : PolyTag T). listed_if tag.arg) tags))
-      (listed-map tag.arg)
-      ∙ sym (append-map f (listed_if tag.arg)
-      (flat_map (λ (tag : PolyTag T). listed_if tag.arg) tags))
-
-  pub named_in-map : (s : ShapeOf T) → named_in (with_parts f s) ≡ map f (named_in s)
-  named_in-map (shapes.Sum constants blocks) = blocks-map blocks
-  named_in-map (shapes.Product mutable ts) = refl
-  named_in-map (shapes.ArrayOf t) = refl
-  named_in-map (shapes.Poly tags) = tags-map tags
-  named_in-map s = refl
 
 -- ---- tables
 
@@ -80,7 +41,7 @@ module _ (decls : List Decl) (types : List Ty) (table : Table) (made : IsTableOf
         let same = sym (named_in-map (slice_get types) s)
         ∙ ap (λ (h : ShapeOf (Option Ty)). named_in h) (sym at.2)
         ∙ named_in-map Some (shape decls at.0) in
-        let found = mapped_is Some (named_in (shape decls at.0)) (slice_get types i)
+        let found = map-Contains Some (named_in (shape decls at.0)) (slice_get types i)
         (subst (λ all. Contains all (slice_get types i)) same
         (Contains-map (slice_get types) (named_in s) i among)) in
         slice_get_within types i found.0 (sym found.2)

@@ -1,62 +1,16 @@
 -- The numbers in shapes and heads, and the types that they stand for.
-use Rattle.std.proofs.Common.{ℕ, ◌<◌, ◌≡◌, ◌∙◌, List, [], ◌∷◌, ◌++◌, length, map, Option, Some, None, refl, sym, ap}
-use Rattle.std.specs.Prelude.{slice_get, option_map}
-use Rattle.std.specs.List.{flat_map}
+use Rattle.std.proofs.Common.{ℕ, ◌<◌, ◌≡◌, ◌∙◌, List, [], ◌∷◌, ◌++◌, length, map, Option, Some, refl, sym, ap}
+use Rattle.std.specs.Prelude.{slice_get}
 use Rattle.std.proofs.lemmas.List.Elements.{All-nil, All-cons}
 use Rattle.std.proofs.lemmas.Option.{slice_get_within, get_or_from_slice_get}
-use Rattle.om_types.specs.declared.shape.Constr.{Constr}
-use Rattle.om_types.specs.declared.shape.PolyTag.{PolyTag}
 use Rattle.om_types.specs.declared.shape.ShapeOf.{ShapeOf}
-use Rattle.om_types.specs.declared.shape.ShapeOf.TheVariants as shapes
 use Rattle.om_types.specs.declared.head.HeadOf.{HeadOf}
 use Rattle.om_types.specs.Ty.{Ty, tuple}
-use Rattle.om_types.specs.Reached.{listed_if, named_in, parts_of}
-use Rattle.om_types.specs.Table.{with_parts, head_with_parts, constr_with, tag_with_parts}
-use Rattle.om_equal.proofs.HeadMapLemmas.{append-map, parts_of-map}
+use Rattle.om_types.specs.Reached.{named_in, parts_of}
+use Rattle.om_types.proofs.ShapeLemmas.{named_in-map}
+use Rattle.om_types.specs.Table.{with_parts, head_with_parts}
+use Rattle.om_equal.proofs.HeadMapLemmas.{parts_of-map}
 use Rattle.om_typeintern.specs.Listed.{types_at, AreWithin}
-
--- ---- the types that a shape names
-
-module _ {T U : Type 0} (f : T → U) where
-  fields-map :
-      (blocks : List (Constr T))
-      → flat_map (λ (c : Constr U). c.fields) (map (constr_with f) blocks)
-      ≡ map f (flat_map (λ (c : Constr T). c.fields) blocks)
-  fields-map [] = refl
-  fields-map (c ∷ blocks) =
-      ap (λ (us : List U). map f c.fields ++ us) (fields-map blocks)
-      ∙ sym (append-map f c.fields (flat_map (λ (d : Constr T). d.fields) blocks))
-
-  argument-map : (t : Option T) → listed_if (option_map f t) ≡ map f (listed_if t)
-  argument-map None = refl
-  argument-map (Some t) = refl
-
-  arguments-map :
-      (tags : List (PolyTag T))
-      → flat_map (λ (tag : PolyTag U). listed_if tag.arg) (map (tag_with_parts f) tags)
-      ≡ map f (flat_map (λ (tag : PolyTag T). listed_if tag.arg) tags)
-  arguments-map [] = refl
-  arguments-map (tag ∷ tags) =
-      ap (λ (us : List U). listed_if (option_map f tag.arg) ++ us) (arguments-map tags)
-      ∙ ap (λ (us : List U). us ++ map f (flat_map (λ (other : PolyTag T). listed_if other.arg) tags)) (argument-map tag.arg)
-      ∙ sym (append-map f (listed_if tag.arg) (flat_map (λ (other : PolyTag T). listed_if other.arg) tags))
-
-  pub named_in-map : (s : ShapeOf T) → named_in (with_parts f s) ≡ map f (named_in s)
-  named_in-map shapes.AnyInt = refl
-  named_in-map (shapes.Below k) = refl
-  named_in-map (shapes.Bytes mutable) = refl
-  named_in-map shapes.Double = refl
-  named_in-map shapes.Int32 = refl
-  named_in-map shapes.Int64 = refl
-  named_in-map shapes.Native = refl
-  named_in-map (shapes.Sum constants blocks) = fields-map blocks
-  named_in-map (shapes.Product mutable ts) = refl
-  named_in-map (shapes.FlatFloats mutable n) = refl
-  named_in-map (shapes.ArrayOf t) = refl
-  named_in-map shapes.FloatArray = refl
-  named_in-map (shapes.Poly tags) = arguments-map tags
-  named_in-map shapes.Variable = refl
-  named_in-map shapes.ArrayOfVariable = refl
 
 -- ---- numbers of types
 

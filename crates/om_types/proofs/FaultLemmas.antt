@@ -41,7 +41,7 @@ named_is_needed (need ∷ needs) i t named =
     named_at_first (need.0 == i) need.0 i need.1 t needs (Decides-eqb need.0 i).0
     (named_is_needed needs i t) named
 
-paired : {T : Type 0} (w : Val) (named : Option T) (next : Val × T)
+pub paired : {T : Type 0} (w : Val) (named : Option T) (next : Val × T)
     → option_map (λ u. (w, u)) named ≡ Some next → (named ≡ Some next.1) × (w ≡ next.0)
 paired w None next same = absurd (none-some next same)
 paired w (Some u) next same =
@@ -139,7 +139,7 @@ module _ {T : Type 0} (shapes : Shapes T) (InQuestion : T → Type 0)
   }
 
   -- a value that has a type is held by some typing
-  held_by_some : (v : Val) (t : T) → InQuestion t → HasType shapes graph v t
+  pub held_by_some : (v : Val) (t : T) → InQuestion t → HasType shapes graph v t
       → (pairs : List (ℕ × T)) × IsTyping shapes graph pairs × IsHeld shapes graph pairs v t
   held_by_some (vals.Int z) t in_question has =
       ([], nothing_is_typing, record { fits = has.fits; listed = tt })

@@ -3,3 +3,4 @@ mod ScopeExamples
 pub mod FaultLemmas
 pub mod ListLemmas
 pub mod NodeLemmas
+pub mod ShapeLemmas

@@ -6,6 +6,7 @@ use Rattle.std.specs.Prelude.{fold, slice_get}
 use Rattle.std.proofs.lemmas.List.{append_assoc, take-append-drop, length-take, length-take-le}
 use Rattle.std.proofs.Math.Seq.{take-append_seam}
 use Rattle.std.proofs.lemmas.Option.{none-some, same_Some, slice_get_within}
+use Rattle.om_model.proofs.Lists.{slice_get-last}
 use Rattle.om_model.proofs.Options.{same_or_not}
 use Rattle.om_types.specs.Ty.{Ty, part, tag, tag_of, including}
 use Rattle.om_types.specs.declared.ty.Node.{Node}
@@ -67,6 +68,10 @@ pub at_kept : (types added : List Ty) (i : ℕ) → i < length types → type_at
 at_kept [] added i below = absurd (omega arith)
 at_kept (t ∷ types) added zero below = refl
 at_kept (t ∷ types) added (suc i) below = at_kept types added i (omega arith)
+
+at_last : (types : List Ty) (t : Ty) → type_at (types ++ t ∷ []) (length types) ≡ t
+at_last [] t = refl
+at_last (u ∷ types) t = at_last types t
 
 at_end : (types : List Ty) (t : Ty) (more : List Ty) → slice_get (types ++ t ∷ more)
     (length types) ≡ Some t
@@ -139,10 +144,6 @@ get-before [] more i below = absurd (omega arith)
 get-before (first ∷ all) more zero below = refl
 get-before (first ∷ all) more (suc i) below = get-before all more i (omega arith)
 
-get-last : (all : List Node) (node : Node) → slice_get (all ++ node ∷ []) (length all) ≡ Some node
-get-last [] node = refl
-get-last (first ∷ all) node = get-last all node
-
 pub AreOrdered-none : AreOrdered []
 AreOrdered-none zero node is = absurd (none-some node is)
 AreOrdered-none (suc i) node is = absurd (none-some node is)
@@ -152,7 +153,7 @@ pub AreOrdered-push :
     (all : List Node) (node : Node) → AreOrdered all → IsBelow (length all) node
     → AreOrdered (all ++ node ∷ [])
 AreOrdered-push all node ordered below i other is = ⊎_elim
-    (λ last. let same = same_Some node other (sym (get-last all node)
+    (λ last. let same = same_Some node other (sym (slice_get-last all node)
     ∙ ap (slice_get (all ++ node ∷ [])) (sym last) ∙ is) in subst (λ n. IsBelow i n) same
     (subst (λ k. IsBelow k node) (sym last) below))
     (λ before. ordered i other (sym (get-before all (node ∷ []) i (earlier before)) ∙ is))
@@ -167,6 +168,26 @@ AreOrdered-push all node ordered below i other is = ⊎_elim
                 node,
           )
 
+-- more nodes change no type
+pub type_at-more :
+    (all more : List Node) (i : ℕ) → i < length all
+    → type_at (types_of (all ++ more)) i ≡ type_at (types_of all) i
+unfolding types_of
+type_at-more all more i below =
+    let kept = grown_keeps (grown [] all) more in
+    ap (λ types. type_at types i) (grown_append [] all more ∙ kept.1)
+    ∙ at_kept (grown [] all) kept.0 i (omega (arith, below, types_of-length all))
+
+-- the type of one node more
+pub type_at-last :
+    (all : List Node) (node : Node)
+    → type_at (types_of (all ++ node ∷ [])) (length all) ≡ type_of_node (types_of all) node
+type_at-last all node =
+    subst (λ n. type_at (types_of (all ++ node ∷ [])) n ≡ type_of_node (types_of all) node)
+    (types_of-length all)
+    (ap (λ types. type_at types (length (types_of all))) (types_of-push all node)
+    ∙ at_last (types_of all) (type_of_node (types_of all) node))
+
 -- the type of nodes is that of the last one
 pub type_of-push :
     (all : List Node) (node : Node) → type_of (all ++ node ∷ []) ≡ type_of_node (types_of all) node
@@ -176,10 +197,7 @@ type_of-push all node =
     omega (arith, length-node all node, types_of-length all) in
     ap (λ ts. type_at ts (length (all ++ node ∷ []) - 1)) (types_of-push all node)
     ∙ ap (type_at (types_of all ++ type_of_node (types_of all) node ∷ [])) last
-    ∙ at_last (types_of all) (type_of_node (types_of all) node) where
-      at_last : (types : List Ty) (t : Ty) → type_at (types ++ t ∷ []) (length types) ≡ t
-      at_last [] t = refl
-      at_last (u ∷ types) t = at_last types t
+    ∙ at_last (types_of all) (type_of_node (types_of all) node)
 
 -- ---- the first nodes
 

@@ -5,12 +5,12 @@ use Rattle.std.specs.List.{list_any}
 use Rattle.std.proofs.lemmas.Bool.{false≢true, or_cases, and_parts}
 use Rattle.std.proofs.lemmas.List.{length-replicate}
 use Rattle.std.proofs.lemmas.List.Sums.{sum_by-cons, sum_by-append}
-use Rattle.std.proofs.lemmas.Option.{same_Some, none-some}
 use Rattle.om_model.proofs.Options.{Contains-first, Contains-later, Contains-none, Contains-cases, Contains-map, Contains-flat_map, slice_get-Contains, slice_get_there, map-Contains}
 use Rattle.om_model.specs.declared.value.Val.{Val}
 use Rattle.om_model.specs.declared.value.Val.TheVariants as vals
 use Rattle.om_model.specs.declared.value.Obj.{Obj}
 use Rattle.om_model.specs.declared.value.Obj.TheVariants as objects
+use Rattle.om_model.proofs.Lists.{Contains-place}
 use Rattle.om_types.specs.Steps.{new_numbers, class_count, field_count, most_steps}
 use Rattle.om_types.specs.Table.{Table, table_shapes, node_or_none}
 use Rattle.om_types.specs.Typing.{values_of}
@@ -28,17 +28,10 @@ abbrev Distinct : {X : Type 0} → List X → Type 0
 Distinct [] = Unit {0}
 Distinct (x ∷ xs) = (¬ Contains xs x) × Distinct xs
 
-place_of : {X : Type 0} (xs : List X) (x : X) → Contains xs x → (k : ℕ) × (slice_get xs k ≡ Some x)
-place_of [] x among = absurd (Contains-none x among)
-place_of (z ∷ xs) x among = ⊎_elim
-    (λ here. (0, ap Some here))
-    (λ later. let p = place_of xs x later in (suc p.0, p.1))
-    (Contains-cases z xs x among)
-
 distinct : {X : Type 0} (xs : List X) → AreApart xs → Distinct xs
 distinct [] apart = tt
 distinct (x ∷ xs) apart = (
-  λ among. let p = place_of xs x among in let e : 0 ≡ suc p.0 = apart 0 (suc p.0) x refl p.1 in omega arith,
+  λ among. let p = Contains-place xs x among in let e : 0 ≡ suc p.0 = apart 0 (suc p.0) x refl p.1 in omega arith,
   distinct xs (λ j k y at_j at_k. let e : suc j ≡ suc k = apart (suc j) (suc k) y at_j at_k in omega arith),
 )
 
@@ -204,7 +197,7 @@ in_firsts seen (m ∷ ns) n among =
 
 -- ---- an object's needs
 
-length-numbered_from : {T : Type 0} (i : ℕ) (ts : List T) → length (numbered_from i ts) ≡ length ts
+pub length-numbered_from : {T : Type 0} (i : ℕ) (ts : List T) → length (numbered_from i ts) ≡ length ts
 length-numbered_from i [] = refl
 length-numbered_from i (t ∷ ts) = ap suc (length-numbered_from (suc i) ts)
 

@@ -2,7 +2,7 @@
 -- lead to a lesser fault.
 use Rattle.std.proofs.Common.{ℕ, ◌≡◌, ◌∙◌, ◌⊎◌, ⊎_elim, inl, inr, List, [], ◌∷◌, ◌++◌, length, Option, Some, None, refl, sym, ap, subst, arith}
 use Rattle.std.specs.Prelude.{option_and_then, option_map}
-use Rattle.std.proofs.lemmas.Option.{option_and_then_some, same_Some, none-some}
+use Rattle.std.proofs.lemmas.Option.{option_and_then_some, same_Some}
 use Rattle.om_model.proofs.Options.{IsSomeAnd-some, IsSomeAnd-at}
 use Rattle.om_model.specs.declared.value.Val.{Val}
 use Rattle.om_model.specs.declared.value.Val.TheVariants as vals
@@ -14,7 +14,7 @@ use Rattle.om_types.specs.Lawful.{Everything, AreLawful}
 use Rattle.om_types.specs.Typing.{field_at}
 use Rattle.om_types.specs.Fault.{IsLexicallyBefore, IsBefore, type_of_field, step, value_at, IsMisfit, IsClash}
 use Rattle.om_types.specs.LeastFault.{IsLeastFault}
-use Rattle.om_types.proofs.FaultLemmas.{named_is_needed}
+use Rattle.om_types.proofs.FaultLemmas.{named_is_needed, paired}
 use Rattle.om_typing.specs.Decidable.{AreDecidable}
 use Rattle.om_typing.specs.LeastWay.{IsLeastWay, AreLeastWays}
 use Rattle.om_typing.proofs.NeedLemmas.{needed_is_named}
@@ -35,10 +35,6 @@ push_before p q i (inl shorter) = inl (omega (arith, length_pushed p i, length_p
 push_before p q i (inr equal) = inr (omega (arith, length_pushed p i, length_pushed q i, equal.0), lexically_push p q i equal.0 equal.1)
 
 -- ---- the last step
-
-paired : {T : Type 0} (w : Val) (named : Option T) (next : Val × T) → option_map (λ u. (w, u)) named ≡ Some next → (named ≡ Some next.1) × (w ≡ next.0)
-paired w None next same = absurd (none-some next same)
-paired w (Some u) next same = let pair = same_Some (w, u) next same in (ap (λ p. Some p.1) pair, ap (λ p. p.0) pair)
 
 only_some : {A : Type 0} (o : Option A) → option_and_then Some o ≡ o
 only_some None = refl

@@ -1,6 +1,5 @@
 //! The laws. Each function does nothing: what it ensures is the law.
 
-ghost use Rattle.std.specs.Prelude.{List};
 ghost use Rattle.om_format.specs.Tree.{Tree};
 ghost use Rattle.om_outcome.specs.Outcome.{Language};
 ghost use Rattle.om_promises.specs.CommandLaws.{HaveOneOutcome, HaveOneStop, StopsStay, StopsAreLast, ArePromised, Follow};

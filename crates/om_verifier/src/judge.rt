@@ -9,7 +9,7 @@ ghost use Rattle.om_declared.specs.Types.{type_over, IsReady};
 ghost use Rattle.om_verifier.specs.Judged.{Judges, JudgesAt};
 
 use crate::reason::put_why;
-use om_cert::{Verified, Why, verify};
+use om_cert::{Verified, verify};
 use om_declared::Requested;
 use om_equal::table::tables_have_the_faults;
 use om_fault::fault_text;

@@ -1,7 +1,7 @@
 -- What is said of items, gathered and put at once: where out fails, it fails in the text of one item.
 use Rattle.std.proofs.Common.{◌≡◌, ◌⊎◌, ℕ, zero, suc, ◌+◌, ◌-◌, ◌<◌, ◌≤◌, List, [], ◌∷◌, ◌++◌, length, take, drop, Option, Some, None, Result, Ok, Err, inl, inr, refl, sym, ap, ◌∙◌, subst, append_assoc, append-nil, length-append, arith}
 use Rattle.std.proofs.Math.Seq.{take-add, take-append-add}
-use Rattle.std.proofs.lemmas.List.{take-append-drop, take-append-le, take_at}
+use Rattle.std.proofs.lemmas.List.{take-append-drop, take-append-le}
 use Rattle.std.specs.Prelude.{IsErrAnd, true, false, is_some}
 use Rattle.om_outcome.specs.Outcome.{Said, texts_of}
 use Rattle.om_edge.specs.Faults.{HasCause}
@@ -27,15 +27,6 @@ grown old new = change (text_state old) (text_state new)
 puts_text : (old new text : List ℕ) → Puts (grown old new) text → new ≡ old ++ text
 puts_text old new text put =
     let is : ◌≡◌ {A = Option (List ℕ)} (Some new) (Some (old ++ text)) = put.appended in cc is
-
-part_text :
-    (old new text : List ℕ) → PutsPart (grown old new) text → take (length old) new ≡ old
-part_text old new text part =
-    let n = part.appended.0 in
-    let is : ◌≡◌ {A = Option (List ℕ)} (Some new) (Some (old ++ take n text)) =
-    part.appended.2 in
-    let same : new ≡ old ++ take n text = cc is in
-    ap (λ t. take (length old) t) same ∙ take_at old (take n text) (length old) refl
 
 -- ---- out fails in one of some texts
 

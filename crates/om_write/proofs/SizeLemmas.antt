@@ -15,6 +15,7 @@ use Rattle.om_format.specs.Tree.{Tree, Forest, node, none, more, trees_in, IsTre
 use Rattle.om_format.specs.Canonical.{is_signed, signed_bytes, double_bytes, wide_integer, integer_spelling, block_word, block_spelling, string_front, shared_spelling, doubles_front, native_spelling, custom_spelling, spelling, data_spelling}
 use Rattle.om_format.proofs.Counts.{length-roots}
 use Rattle.om_canonical.proofs.ByteLemmas.{length-bytes, length-signed_bytes}
+use Rattle.om_canonical.proofs.CanonLemmas.{length-doubles}
 use Rattle.om_heap.specs.Heap.{object_words, heap_words}
 
 -- ---- the words of the objects are those of the tokens
@@ -108,10 +109,6 @@ doubles_few n =
 native_few : (z : ℤ) → length (native_spelling z) ≤ 9
 native_few z = cond_few 9 (is_signed 31 z) (1 ∷ signed_bytes 4 z) (2 ∷ signed_bytes 8 z) (signed_few 4 1 z (omega arith)) (signed_few 8 2 z (omega arith))
 
-pub length_doubles : (all : List ℕ) → length (flat_map double_bytes all) ≡ 8 * length all
-length_doubles [] = refl
-length_doubles (d ∷ all) = omega (arith, length-append (double_bytes d) (flat_map double_bytes all), length_doubles all)
-
 token_few : (t : Token) → length (spelling t) + 9 * of_object fields (measure_of t) ≤ 9 + 9 * of_object words64 (measure_of t)
 unfolding custom_spelling
 token_few (integer z) = omega (arith, integer_few z)
@@ -121,7 +118,7 @@ token_few (block tag size) = omega (arith, block_few tag size)
 token_few (leaf (objects.Block tag vs)) = omega arith
 token_few (leaf (objects.Bytes bytes)) = omega (arith, length-append (string_front (length bytes)) bytes, string_few (length bytes))
 token_few (leaf (objects.Double bits)) = omega arith
-token_few (leaf (objects.Doubles all)) = omega (arith, length-append (doubles_front (length all)) (flat_map double_bytes all), doubles_few (length all), length_doubles all)
+token_few (leaf (objects.Doubles all)) = omega (arith, length-append (doubles_front (length all)) (flat_map double_bytes all), doubles_few (length all), length-doubles all)
 token_few (leaf (objects.I32 z)) = omega (arith, length-signed_bytes 4 z)
 token_few (leaf (objects.I64 z)) = omega (arith, length-signed_bytes 8 z)
 token_few (leaf (objects.Native z)) = omega (arith, native_few z)

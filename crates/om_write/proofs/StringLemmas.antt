@@ -1,68 +1,17 @@
 -- The bytes of a string, a word at a time.
 use Rattle.std.specs.Int.{to_le_bytes, w64}
-use Rattle.std.proofs.Common.{ℕ, zero, suc, ◌≡◌, ◌+◌, ◌-◌, ◌*◌, inl, inr, replicate, length-append, length-take-le, ◌/◌, ◌%◌, ◌<◌, ◌∙◌, List, [], ◌∷◌, ◌++◌, length, get_or, take, drop, refl, sym, ap, subst, arith, length-drop, take_all, Result}
-use Rattle.std.proofs.lemmas.Bool.{cases_lt}
-use Rattle.std.proofs.lemmas.Nat.{le_bytes_8}
-use Rattle.std.proofs.lemmas.List.{take-append-le, take-append-drop, drop-append-le, length-replicate, get_or_past}
-use Rattle.std.proofs.lemmas.List.Elements.{All-append, All-replicate, All-cons, All-nil, All-take, All-drop}
-use Rattle.std.proofs.lemmas.List.FromFn.{length-map-range_with_len, get_or-map-range_with_len}
+use Rattle.std.proofs.Common.{ℕ, zero, suc, ◌≡◌, ◌+◌, ◌-◌, ◌*◌, ◌/◌, ◌%◌, ◌<◌, ◌∙◌, List, [], ◌∷◌, ◌++◌, length, get_or, take, drop, refl, sym, ap, subst, arith, length-drop, take_all, Result}
+use Rattle.std.proofs.lemmas.List.{take-append-le, take-append-drop}
 use Rattle.om_model.specs.declared.value.Obj.{Obj}
 use Rattle.om_model.specs.declared.value.Obj.TheVariants as objects
 use Rattle.om_model.specs.Bytes.{AreBytes}
 use Rattle.om_model.specs.Graph.{IsObject}
 use Rattle.om_heap.specs.Heap.{object_at, bytes_of, IsHeap}
-use Rattle.om_heap.specs.Words.{body_of, padded, word_of_bytes, bytes_of_word, word_at, string_words}
+use Rattle.om_heap.specs.Words.{body_of, bytes_of_word, string_words}
+use Rattle.om_heap.proofs.StringLemmas.{last_bytes, eight_bytes, word_bytes, length-string_words}
 use Rattle.om_edge.specs.State.{ByteState}
 use Rattle.om_write.specs.Text.{AddsAll, AddsPart, Adds}
 use Rattle.om_write.proofs.TextLemmas.{adds_both, adds_then, adds_then_part, adds_part_of}
-
--- ---- the words of a string, as in `om_heap`
-
--- the bytes of a word that was made of eight bytes
-word_back : (bytes : List ℕ) → length bytes ≡ 8 → AreBytes bytes → bytes_of_word (word_of_bytes bytes) ≡ bytes
-unfolding word_of_bytes bytes_of_word
-word_back bytes eight valid =
-    le_bytes_8 bytes _ eight (λ i. elim (cases_lt i (length bytes)) [
-      | inl inside ↦ valid i 0 inside
-      | inr past ↦ omega (arith, get_or_past bytes i 0 past)
-    ]) refl
-
-padded_bytes : (bytes : List ℕ) → AreBytes bytes → AreBytes (padded bytes)
-padded_bytes bytes valid =
-    All-append (λ b. b < 256) bytes _ valid (All-append (λ b. b < 256) (replicate (7 - length bytes % 8) 0) _ (All-replicate (λ b. b < 256) (7 - length bytes % 8) 0 (omega arith)) (All-cons (λ b. b < 256) (7 - length bytes % 8) [] (omega arith) (All-nil (λ b. b < 256))))
-
-length-padded : (bytes : List ℕ) → length (padded bytes) ≡ 8 * (length bytes / 8 + 1)
-length-padded bytes =
-    omega (arith, length-append bytes (replicate (7 - length bytes % 8) 0 ++ (7 - length bytes % 8) ∷ []), length-append (replicate (7 - length bytes % 8) 0) ((7 - length bytes % 8) ∷ []), length-replicate {A = ℕ} (7 - length bytes % 8) 0)
-
-length-string_words : (bytes : List ℕ) → length (string_words bytes) ≡ length bytes / 8 + 1
-unfolding string_words
-length-string_words bytes = length-map-range_with_len (word_at (padded bytes)) 0 (length bytes / 8 + 1)
-
-get_or-string_words : (bytes : List ℕ) (j : ℕ) → j < length bytes / 8 + 1 → get_or (string_words bytes) j 0 ≡ word_at (padded bytes) j
-unfolding string_words
-get_or-string_words bytes j inside = get_or-map-range_with_len (word_at (padded bytes)) 0 (length bytes / 8 + 1) j j 0 inside (omega arith)
-
--- the bytes of word j
-word_bytes : (bytes : List ℕ) (j : ℕ) → AreBytes bytes → j < length bytes / 8 + 1 → bytes_of_word (get_or (string_words bytes) j 0) ≡ take 8 (drop (8 * j) (padded bytes))
-word_bytes bytes j valid inside =
-    ap bytes_of_word (get_or-string_words bytes j inside)
-    ∙ word_back (take 8 (drop (8 * j) (padded bytes))) (length-take-le 8 (drop (8 * j) (padded bytes)) (omega (arith, length-drop (8 * j) (padded bytes), length-padded bytes)))
-    (All-take (λ b. b < 256) 8 _ (All-drop (λ b. b < 256) (8 * j) (padded bytes) (padded_bytes bytes valid)))
-
--- the words before the last have eight bytes of the string each
-eight_bytes : (bytes : List ℕ) (j : ℕ) → j < length bytes / 8 → take 8 (drop (8 * j) (padded bytes)) ≡ take 8 (drop (8 * j) bytes)
-eight_bytes bytes j inside =
-    ap (take 8) (drop-append-le (8 * j) bytes _ (omega arith))
-    ∙ take-append-le 8 (drop (8 * j) bytes) _ (omega (arith, length-drop (8 * j) bytes))
-
--- the last has the others
-last_bytes : (bytes : List ℕ) → take 8 (drop (8 * (length bytes / 8)) (padded bytes)) ≡ drop (8 * (length bytes / 8)) bytes ++ (replicate (7 - length bytes % 8) 0 ++ (7 - length bytes % 8) ∷ [])
-last_bytes bytes =
-    let m = 8 * (length bytes / 8) in
-    let ending : List ℕ = replicate (7 - length bytes % 8) 0 ++ (7 - length bytes % 8) ∷ [] in
-    ap (take 8) (drop-append-le m bytes ending (omega arith))
-    ∙ take_all 8 (drop m bytes ++ ending) (omega (arith, length-append (drop m bytes) ending, length-drop m bytes, length-append (replicate (7 - length bytes % 8) 0) ((7 - length bytes % 8) ∷ []), length-replicate {A = ℕ} (7 - length bytes % 8) 0))
 
 -- ---- the bytes of words
 

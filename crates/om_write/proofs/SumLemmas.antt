@@ -14,6 +14,7 @@ use Rattle.om_format.specs.Tree.{Tree, tokens, made_by}
 use Rattle.om_format.specs.Canonical.{double_bytes, doubles_front, spelling, data_spelling, canonical_head}
 use Rattle.om_format.specs.Iso.{IsTreeOf}
 use Rattle.om_canonical.proofs.Walk.{has_one_tree}
+use Rattle.om_canonical.proofs.CanonLemmas.{length-doubles}
 use Rattle.om_headers.specs.Spelling.{FitsSmall}
 use Rattle.om_write.specs.Step.{IsNext, token_in}
 use Rattle.om_write.specs.Sums.{token_totals, object_totals, totals_of, plus, FitTotals}
@@ -22,7 +23,7 @@ use Rattle.om_write.specs.declared.measure.Totals.{Totals}
 use Rattle.om_write.specs.declared.walk.Step.{Step}
 use Rattle.om_write.specs.declared.walk.Walk.{Walk}
 use Rattle.om_write.proofs.NextLemmas.{IsBounded, bounded}
-use Rattle.om_write.proofs.SizeLemmas.{length-data, length_doubles, few_words32}
+use Rattle.om_write.proofs.SizeLemmas.{length-data, few_words32}
 
 -- ---- one more token
 
@@ -123,7 +124,7 @@ totals_fit g walk new step totals w gave are =
 pub doubles_totals : (o : Obj) (all : List ℕ) (front n : ℕ) → o ≡ objs.Doubles all → n ≡ length all → front ≡ length (doubles_front n) → object_totals (front + 8 * n) (measures.Doubles n) ≡ token_totals (leaf o)
 doubles_totals o all front n is many first =
     let bytes : length (doubles_front (length all) ++ flat_map double_bytes all) ≡ front + 8 * n =
-    length-append (doubles_front (length all)) (flat_map double_bytes all) ∙ ap (λ m. length (doubles_front (length all)) + m) (length_doubles all)
+    length-append (doubles_front (length all)) (flat_map double_bytes all) ∙ ap (λ m. length (doubles_front (length all)) + m) (length-doubles all)
     ∙ ap (λ m. length (doubles_front m) + 8 * m) (sym many) ∙ ap (λ m. m + 8 * n) (sym first) in
     ap (λ m. object_totals m (measures.Doubles n)) (sym bytes)
     ∙ ap (λ m. object_totals (length (doubles_front (length all) ++ flat_map double_bytes all)) (measures.Doubles m)) many

@@ -1,7 +1,8 @@
 use Rattle.std.proofs.Common.{ℕ, ◌≡◌, ◌∙◌, length, ap, subst, sym, arith, true≢false}
 use Rattle.std.specs.Global.{Vec}
+use Rattle.om_model.proofs.Lists.{take-whole}
 use Rattle.om_classes.specs.Lists.{IsOfClass}
-use Rattle.om_classes.proofs.ListLemmas.{of_class_none, of_class_more, of_class_same, of_class_set, take_end}
+use Rattle.om_classes.proofs.ListLemmas.{of_class_none, of_class_more, of_class_same, of_class_set}
 use Rattle.om_classes.proofs.lists.of_class.Goals as goal
 use Rattle.om_classes.proofs.lists.of_class.Goals.{then-has_class+in_ok-push, else-has_class}
 
@@ -24,4 +25,4 @@ pub returns : goal.returns
 returns c =
     let end : c.loop-number.number-index ≡ length c.args.numbers.now = omega arith in
     of_class_set _ _ _ _ _ (subst (λ l. IsOfClass l c.args.class.now c.args.wanted c.loop-number.found.items)
-    (take_end c.args.numbers.now c.loop-number.number-index end) c.loop-number.invariant) c.as_set.ensures
+    (take-whole c.args.numbers.now c.loop-number.number-index end) c.loop-number.invariant) c.as_set.ensures

@@ -1,6 +1,6 @@
 use Rattle.std.proofs.Common.{◌≡◌, length, subst, arith}
+use Rattle.om_model.proofs.Lists.{take-whole}
 use Rattle.om_classes.specs.Parting.{HasMembers}
-use Rattle.om_classes.proofs.ListLemmas.{take_end}
 use Rattle.om_classes.proofs.LoopLemmas.{members_more}
 use Rattle.om_classes.proofs.moves.add_members.Goals as goal
 
@@ -12,4 +12,4 @@ pub returns-clause-has : goal.returns-clause-has
 returns-clause-has c =
     let end : c.loop-number.number-index ≡ length c.args.looked.now = omega arith in
     subst (λ l. HasMembers c.args.class.now c.args.left l c.loop-number.members.items)
-    (take_end c.args.looked.now c.loop-number.number-index end) c.loop-number.invariant.has
+    (take-whole c.args.looked.now c.loop-number.number-index end) c.loop-number.invariant.has

@@ -1,8 +1,8 @@
 use Rattle.std.proofs.Common.{ℕ, ◌≡◌, ◌<◌, ◌∙◌, ◌++◌, length, ap, subst, arith}
 use Rattle.std.specs.Prelude.{Contains}
 use Rattle.std.proofs.lemmas.List.{take_more}
+use Rattle.om_model.proofs.Lists.{take-whole}
 use Rattle.om_classes.specs.Lists.{Has}
-use Rattle.om_classes.proofs.ListLemmas.{take_end}
 use Rattle.om_classes.proofs.LoopLemmas.{uses_more, only_one, arguments, arguments_next}
 use Rattle.om_classes.proofs.users.add_user.Goals as goal
 
@@ -22,5 +22,5 @@ returns-clause-added c =
     let parts = c.args.form.now.parts in
     let end : c.loop-tag.tag-index ≡ length c.as_slice-tag-items.result.now = omega arith in
     subst (λ l. (k : ℕ) → Contains l k → k < length c.args.users.now.items → Has c.loop-tag.users.items k c.args.user)
-    (ap (λ l. parts ++ arguments l) (take_end c.as_slice-tag-items.result.now c.loop-tag.tag-index end
+    (ap (λ l. parts ++ arguments l) (take-whole c.as_slice-tag-items.result.now c.loop-tag.tag-index end
     ∙ c.as_slice-tag-items.ensures)) c.loop-tag.invariant.has

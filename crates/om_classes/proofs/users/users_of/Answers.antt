@@ -1,12 +1,12 @@
 use Rattle.std.proofs.Common.{arith}
 use Rattle.std.proofs.lemmas.Option.{slice_get_within}
-use Rattle.om_classes.proofs.ListLemmas.{read}
+use Rattle.om_model.proofs.Lists.{slice_get-read}
 use Rattle.om_classes.proofs.LoopLemmas.{users_more}
 use Rattle.om_classes.proofs.users.users_of.Goals as goal
 
 pub loop-user-preserved : goal.loop-user-preserved
 loop-user-preserved c = users_more c.args.forms.now c.loop-user.user c.index-forms-user.result _ _ c.loop-user.invariant
-    (read c.args.forms.now c.loop-user.user c.index-forms-user.result c.loop-user-test.true c.index-forms-user.is)
+    (slice_get-read c.args.forms.now c.loop-user.user c.index-forms-user.result c.loop-user-test.true c.index-forms-user.is)
     c.in_ok-add_user.ensures.keeps c.in_ok-add_user.ensures.added
 
 pub returns : goal.returns

@@ -1,7 +1,7 @@
 use Rattle.std.proofs.Common.{ℕ, ◌≡◌, length, get_or, subst, arith}
 use Rattle.std.specs.Prelude.{Contains, slice_index}
+use Rattle.om_model.proofs.Lists.{take-whole}
 use Rattle.om_classes.specs.Lists.{Has}
-use Rattle.om_classes.proofs.ListLemmas.{take_end}
 use Rattle.om_classes.proofs.LoopLemmas.{marks_more}
 use Rattle.om_classes.proofs.waits.mark_all.Goals as goal
 
@@ -14,4 +14,4 @@ pub returns-clause-marked : goal.returns-clause-marked
 returns-clause-marked c =
     let end : c.loop-number.number-index ≡ length c.args.numbers.now = omega arith in
     subst (λ l. (u : ℕ) → Contains l u → Has c.loop-number.waiting.items (slice_index c.args.class.now u) u)
-    (take_end c.args.numbers.now c.loop-number.number-index end) c.loop-number.invariant.marked
+    (take-whole c.args.numbers.now c.loop-number.number-index end) c.loop-number.invariant.marked

@@ -1,6 +1,6 @@
 use Rattle.std.proofs.Common.{◌≡◌, length, subst, arith}
+use Rattle.om_model.proofs.Lists.{take-whole}
 use Rattle.om_classes.specs.Parting.{MarksUsers}
-use Rattle.om_classes.proofs.ListLemmas.{take_end}
 use Rattle.om_classes.proofs.LoopLemmas.{user_marks_more}
 use Rattle.om_classes.proofs.waits.mark_users.Goals as goal
 
@@ -13,4 +13,4 @@ pub returns-clause-marked : goal.returns-clause-marked
 returns-clause-marked c =
     let end : c.loop-number.number-index ≡ length c.args.looked.now = omega arith in
     subst (λ l. MarksUsers c.args.class.now c.args.users.now c.args.left l c.loop-number.waiting.items)
-    (take_end c.args.looked.now c.loop-number.number-index end) c.loop-number.invariant.marked
+    (take-whole c.args.looked.now c.loop-number.number-index end) c.loop-number.invariant.marked

@@ -1,6 +1,7 @@
 use Rattle.std.proofs.Common.{◌∙◌, ◌≡◌, length, subst, take, arith}
+use Rattle.om_model.proofs.Lists.{take-whole}
 use Rattle.om_command_line.specs.Commands.{Tells, app_with}
-use Rattle.om_command_line.proofs.CommandLemmas.{argument_added, take_end, with_more}
+use Rattle.om_command_line.proofs.CommandLemmas.{argument_added, with_more}
 use Rattle.om_command_line.proofs.command_set.made.Goals as goal
 
 pub loop-argument-preserved : goal.loop-argument-preserved
@@ -12,4 +13,4 @@ loop-argument-preserved c =
 pub returns : goal.returns
 returns c =
     let end : c.loop-argument.argument-index ≡ length c.args.arguments.now = omega arith in
-    subst (λ xs. Tells c.loop-argument.command (app_with c.args.name.now xs)) (take_end c.args.arguments.now c.loop-argument.argument-index end) c.loop-argument.invariant
+    subst (λ xs. Tells c.loop-argument.command (app_with c.args.name.now xs)) (take-whole c.args.arguments.now c.loop-argument.argument-index end) c.loop-argument.invariant

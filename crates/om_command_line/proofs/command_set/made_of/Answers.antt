@@ -1,7 +1,8 @@
 use Rattle.std.proofs.Common.{◌∙◌, ◌≡◌, length, subst, take, arith}
+use Rattle.om_model.proofs.Lists.{take-whole}
 use Rattle.clap.specs.Words.{app_of}
 use Rattle.om_command_line.specs.Commands.{program_with}
-use Rattle.om_command_line.proofs.CommandLemmas.{made_added, program_more, take_end}
+use Rattle.om_command_line.proofs.CommandLemmas.{made_added, program_more}
 use Rattle.om_command_line.proofs.command_set.made_of.Goals as goal
 
 pub loop-name-preserved : goal.loop-name-preserved
@@ -12,4 +13,4 @@ loop-name-preserved c =
 pub returns : goal.returns
 returns c =
     let end : c.loop-name.name-index ≡ length c.args.forms.now = omega arith in
-    subst (λ fs. app_of c.loop-name.all ≡ program_with fs) (take_end c.args.forms.now c.loop-name.name-index end) c.loop-name.invariant
+    subst (λ fs. app_of c.loop-name.all ≡ program_with fs) (take-whole c.args.forms.now c.loop-name.name-index end) c.loop-name.invariant

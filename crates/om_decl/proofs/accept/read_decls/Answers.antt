@@ -6,7 +6,7 @@ use Rattle.om_types.specs.Scope.{Rule, BreaksInFile}
 use Rattle.om_types.specs.declared.decl.Decl.{Decl}
 use Rattle.om_grammar.specs.Depths.{file_ends}
 use Rattle.om_grammar.specs.Grammar.{FileTree, file_kinds}
-use Rattle.om_parse.specs.Parsed.{kinds_of}
+use Rattle.om_grammar.specs.Lexemes.{kinds_of}
 use Rattle.om_sites.specs.CountedFile.{counted_file}
 use Rattle.om_sites.specs.InFile.{file_places}
 use Rattle.om_head_rules.specs.declared.broken.HeadBreak.{HeadBreak}

@@ -4,7 +4,8 @@ use Rattle.om_types.specs.Scope.{Rule, IsFirst, BreaksInFile}
 use Rattle.om_types.specs.Occurrence.{DeclPlaces}
 use Rattle.om_grammar.specs.Grammar.{FileTree, file_kinds}
 use Rattle.om_grammar.specs.Depths.{file_ends}
-use Rattle.om_parse.specs.Parsed.{kinds_of, byte_of, IsFault, AreDeclarationsOf}
+use Rattle.om_grammar.specs.Lexemes.{kinds_of}
+use Rattle.om_parse.specs.Parsed.{byte_of, IsFault, AreDeclarationsOf}
 use Rattle.om_sites.specs.Counted.{marks}
 use Rattle.om_sites.specs.CountedFile.{counted_file}
 use Rattle.om_sites.specs.InFile.{file_places}

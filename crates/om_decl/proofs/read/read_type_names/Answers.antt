@@ -5,7 +5,8 @@ use Rattle.om_types.specs.Occurrence.{Occurrence}
 use Rattle.om_types.specs.declared.decl.Decl.{Decl}
 use Rattle.om_grammar.specs.Grammar.{Texpr, texpr}
 use Rattle.om_grammar.specs.Depths.{texpr_ends}
-use Rattle.om_parse.specs.Parsed.{kinds_of, byte_of, IsFault, IsTypeOf}
+use Rattle.om_grammar.specs.Lexemes.{kinds_of}
+use Rattle.om_parse.specs.Parsed.{byte_of, IsFault, IsTypeOf}
 use Rattle.om_sites.specs.Counted.{marks, in_type}
 use Rattle.om_sites.specs.InText.{in_texpr}
 use Rattle.om_decl.specs.Answer.{IsTypeAnswer}

@@ -1,5 +1,5 @@
 use Rattle.std.proofs.Common.{◌≡◌, ◌+◌, ◌-◌, Some, [], take, drop}
-use Rattle.om_literal_grammar.specs.Nodes.{kinds_of}
+use Rattle.om_grammar.specs.Lexemes.{kinds_of}
 use Rattle.om_literal.specs.Bits.{bits_of_nodes}
 use Rattle.om_literal.proofs.doubles.all_bits.Given as goal
 

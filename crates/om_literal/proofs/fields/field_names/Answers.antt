@@ -1,7 +1,7 @@
 use Rattle.std.proofs.Common.{◌≡◌, ◌+◌, ◌∙◌, ℕ, IfOk, List, Bor, map, subst, sym, ap}
 use Rattle.std.proofs.lemmas.Option.{get_or_from_slice_get}
 use Rattle.om_literal_grammar.specs.declared.node.Node.{Node}
-use Rattle.om_literal_grammar.specs.Nodes.{kinds_of}
+use Rattle.om_grammar.specs.Lexemes.{kinds_of}
 use Rattle.om_literal.specs.FieldNames.{names_from}
 use Rattle.om_literal.proofs.FieldNameLemmas.{field_names_are}
 use Rattle.om_literal.proofs.fields.field_names.Goals as goal

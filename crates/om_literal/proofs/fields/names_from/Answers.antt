@@ -3,7 +3,7 @@ use Rattle.std.proofs.lemmas.Option.{get_or_from_slice_get}
 use Rattle.om_literal_grammar.specs.declared.node.Node.{Node}
 use Rattle.om_literal.specs.FieldNames.{name_before}
 use Rattle.std.proofs.lemmas.List.{map-append}
-use Rattle.om_literal_grammar.specs.Nodes.{kinds_of}
+use Rattle.om_grammar.specs.Lexemes.{kinds_of}
 use Rattle.om_literal.proofs.FieldNameLemmas.{names_step}
 use Rattle.om_literal.proofs.fields.names_from.Goals as goal
 

@@ -5,8 +5,8 @@ use Rattle.std.specs.Prelude.{◌+◌, ◌≡◌, pos, [], ◌∷◌, ◌++◌, 
 use Rattle.om_model.specs.declared.value.Obj.TheVariants as objects
 use Rattle.om_model.specs.declared.value.Val.TheVariants as vals
 use Rattle.om_heap.specs.Heap.{set_field}
+use Rattle.om_heap.proofs.FieldLemmas.{set_field_at}
 use Rattle.om_literal.specs.Openings.{front_of}
-use Rattle.om_literal.proofs.PendingLemmas.{set_field_at}
 use Rattle.om_literal.proofs.StartLemmas.{first_set}
 use Rattle.om_literal.proofs.part.add_parts.Goals as goal
 

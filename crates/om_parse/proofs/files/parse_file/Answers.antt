@@ -1,6 +1,6 @@
 use Rattle.std.proofs.Common.{inl, inr, arith, add-one, ◌∙◌, sym}
-use Rattle.om_parse.specs.Parsed.{kinds_of}
-use Rattle.om_parse.proofs.LexemeLemmas.{kinds_length}
+use Rattle.om_grammar.specs.Lexemes.{kinds_of}
+use Rattle.om_grammar.proofs.LexemeLemmas.{kinds_length}
 use Rattle.om_parse.proofs.FileReading.{
   file_reached_first,
   file_readable,

@@ -1,5 +1,5 @@
 use Rattle.std.proofs.Common.{length, ◌-◌}
-use Rattle.om_parse.specs.Parsed.{kinds_of}
+use Rattle.om_grammar.specs.Lexemes.{kinds_of}
 use Rattle.om_parse.proofs.FileReading.{FileReached}
 use Rattle.om_parse.proofs.files.parse_file.Given as goal
 

@@ -1,4 +1,4 @@
-use Rattle.om_parse.proofs.LexemeLemmas.{kinds_next}
+use Rattle.om_grammar.proofs.LexemeLemmas.{kinds_next}
 use Rattle.om_parse.proofs.told.kind_at.Goals as goal
 
 pub returns : goal.returns

@@ -1,7 +1,7 @@
 use Rattle.std.proofs.Common.{inl, inr, arith, add-one}
-use Rattle.om_parse.specs.Parsed.{kinds_of}
+use Rattle.om_grammar.specs.Lexemes.{kinds_of}
 use Rattle.om_parse.proofs.WholeLemmas.{whole_found, not_found}
-use Rattle.om_parse.proofs.LexemeLemmas.{kinds_length}
+use Rattle.om_grammar.proofs.LexemeLemmas.{kinds_length}
 use Rattle.om_parse.proofs.TypeReading.{type_reached_first, type_syntax, type_too_deep, type_reached_next, type_end_refused, type_written, type_is_read}
 use Rattle.om_parse.proofs.types.parse_type.Goals as goal
 

@@ -1,5 +1,5 @@
 use Rattle.std.proofs.Common.{length, ◌-◌}
-use Rattle.om_parse.specs.Parsed.{kinds_of}
+use Rattle.om_grammar.specs.Lexemes.{kinds_of}
 use Rattle.om_parse.proofs.TypeReading.{TypeReached}
 use Rattle.om_parse.proofs.types.parse_type.Given as goal
 

@@ -1,7 +1,7 @@
 use Rattle.std.proofs.Common.{ℕ, List, sym, subst, arith}
 use Rattle.std.specs.Prelude.{Contains}
 use Rattle.std.proofs.lemmas.Option.{slice_get_within}
-use Rattle.om_trees.proofs.PutLemmas.{read}
+use Rattle.om_model.proofs.Lists.{slice_get-read}
 use Rattle.om_trees.proofs.SettleLemmas.{level_ready, level_settled}
 use Rattle.om_trees.proofs.levels.settle_all.Goals as goal
 
@@ -10,7 +10,7 @@ settle-requires-clause-ready c o among =
     let levels = c.args.levels.now in
     let i = c.loop-level.level-index in
     level_ready c.args.heap.now levels c.loop-level.all.items i c.level-item.result
-    (read levels i c.level-item.result c.loop-level-test.true c.level-item.is) c.loop-level.invariant.1 c.requires o
+    (slice_get-read levels i c.level-item.result c.loop-level-test.true c.level-item.is) c.loop-level.invariant.1 c.requires o
     (subst (λ (l : List ℕ). Contains l o) c.as_slice.ensures.value among)
 
 pub loop-level-preserved : goal.loop-level-preserved
@@ -19,7 +19,7 @@ loop-level-preserved c =
     let i = c.loop-level.level-index in (
       let many = c.settle.ensures.many in omega (arith, many),
       level_settled c.args.heap.now levels c.loop-level.all.items i c.level-item.result
-          (read levels i c.level-item.result c.loop-level-test.true c.level-item.is) c.loop-level.invariant.1 c.settle.new.all.items
+          (slice_get-read levels i c.level-item.result c.loop-level-test.true c.level-item.is) c.loop-level.invariant.1 c.settle.new.all.items
           (λ o among. c.settle.ensures.settled o (subst (λ (l : List ℕ). Contains l o) (sym c.as_slice.ensures.value) among))
           c.settle.ensures.kept,
     )

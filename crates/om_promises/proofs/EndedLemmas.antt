@@ -1,13 +1,15 @@
 -- A call that ended well or with a no put what an outcome of what may have been given puts, and has
 -- its status.
-use Rattle.std.proofs.Common.{◌≡◌, ◌⊎◌, ℕ, List, inl, inr, sym, ◌∙◌}
+use Rattle.std.proofs.Common.{◌≡◌, ◌⊎◌, ℕ, List, ◌++◌, Some, inl, inr, refl, sym, ap, ◌∙◌, append-nil}
+use Rattle.std.proofs.lemmas.List.{append_cancel_left}
 use Rattle.om_outcome.specs.declared.status.Status.{Status}
 use Rattle.om_outcome.specs.declared.status.Status.TheVariants as statuses
-use Rattle.om_outcome.specs.Outcome.{out_of_memory, ending_of, stops, Replies, replies}
+use Rattle.om_outcome.specs.Outcome.{Taken, at_end, whole, opened, out_of_memory, ending_of, stops, Replies, replies}
 use Rattle.om_edge.specs.Sink.{Puts}
 use Rattle.om_promises.specs.Account.{MayBe, Completes, Breaks, Account}
-use Rattle.om_promises.specs.Call.{Call}
+use Rattle.om_promises.specs.Call.{Call, HasPut}
 use Rattle.om_promises.specs.Commands.{Given, Commands, RunReplies}
+use Rattle.om_promises.specs.Given.{TakesFrom, IsFoundOf}
 use Rattle.om_promises.specs.Outside.{PutsLine}
 use Rattle.om_promises.proofs.SettledLemmas.{stop_status}
 
@@ -58,3 +60,26 @@ module _ {A : Type 0} (c : Commands A) (words : List (List ℕ)) (call : Call) w
           (is ∙ stop_status (replies account.said h.last) out_of_memory memory))
       at (inr (part, is)) run = absurd (end_not_write_fault call.status end is)
     by (inr h) = absurd (end_not_write_fault call.status end h.status)
+
+-- ---- what it took and put
+
+-- the file that was read has what it is told to hold
+pub held :
+    (contents other : List ℕ) → IsFoundOf (Some contents) (opened (whole other))
+    → contents ≡ other
+held contents other (rest, takes) =
+    takes.front ∙ (ap (λ rest. other ++ rest) (takes.ends refl) ∙ append-nil other)
+
+-- an input that ended was taken whole
+pub taken_whole : (taken : Taken) (bytes rest : List ℕ) → taken.until ≡ at_end
+    → TakesFrom bytes taken rest → bytes ≡ taken.bytes
+taken_whole taken bytes rest ended takes =
+    takes.front ∙ (ap (λ rest. taken.bytes ++ rest) (takes.ends ended) ∙ append-nil taken.bytes)
+
+-- what is put is one text
+pub put_once : (call : Call) (text put : List ℕ) → HasPut call text → Puts call.out put
+    → text ≡ put
+put_once call text put has puts =
+    let after : call.out.after.bytes ≡ Some (has.before ++ put) = rw has.had at puts.appended in
+    let same : Some (has.before ++ text) ≡ Some (has.before ++ put) = sym has.has ∙ after in
+    append_cancel_left has.before text put (cc same)

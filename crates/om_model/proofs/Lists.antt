@@ -1,0 +1,108 @@
+-- Lists: what stands at a place, what holds of each element, and what a test leaves.
+use Rattle.std.proofs.Common.{ℕ, zero, suc, ◌<◌, ◌≡◌, ◌≢◌, ◌∙◌, ◌⊎◌, ⊎_elim, List, [], ◌∷◌, ◌++◌, length, take, set, get_or, Bool, cond, true, false, Some, refl, sym, ap, subst, arith}
+use Rattle.std.specs.Prelude.{slice_get, filter, Contains}
+use Rattle.std.specs.List.{AllByRecursion, AllZip}
+use Rattle.std.proofs.Math.Seq.{take-length}
+use Rattle.std.proofs.lemmas.Option.{none-some, slice_get-get_or}
+use Rattle.om_model.proofs.Options.{Contains-none, Contains-cases}
+
+-- ---- places
+
+pub slice_get-append_left :
+    {X : Type 0} (xs ys : List X) (k : ℕ) (x : X) → slice_get xs k ≡ Some x
+    → slice_get (xs ++ ys) k ≡ Some x
+slice_get-append_left [] ys k x at_k = absurd (none-some x at_k)
+slice_get-append_left (y ∷ xs) ys zero x at_k = at_k
+slice_get-append_left (y ∷ xs) ys (suc k) x at_k = slice_get-append_left xs ys k x at_k
+
+pub slice_get-last :
+    {X : Type 0} (xs : List X) (y : X) → slice_get (xs ++ y ∷ []) (length xs) ≡ Some y
+slice_get-last [] y = refl
+slice_get-last (x ∷ xs) y = slice_get-last xs y
+
+-- what is read below the length stands there
+pub slice_get-read :
+    {X : Type 0} (xs : List X) (i : ℕ) (x : X) → i < length xs → x ≡ get_or xs i x
+    → slice_get xs i ≡ Some x
+slice_get-read xs i x below is = slice_get-get_or xs i x below ∙ ap Some (sym is)
+
+pub slice_get-set_here :
+    {X : Type 0} (xs : List X) (i : ℕ) (y : X) → i < length xs → slice_get (set xs i y) i ≡ Some y
+slice_get-set_here [] i y below = absurd (omega arith)
+slice_get-set_here (x ∷ xs) zero y below = refl
+slice_get-set_here (x ∷ xs) (suc i) y below = slice_get-set_here xs i y (omega arith)
+
+pub slice_get-set_other :
+    {X : Type 0} (xs : List X) (i j : ℕ) (y : X) → j ≢ i
+    → slice_get (set xs i y) j ≡ slice_get xs j
+slice_get-set_other [] i j y other = refl
+slice_get-set_other (x ∷ xs) zero zero y other = absurd (other refl)
+slice_get-set_other (x ∷ xs) zero (suc j) y other = refl
+slice_get-set_other (x ∷ xs) (suc i) zero y other = refl
+slice_get-set_other (x ∷ xs) (suc i) (suc j) y other =
+    slice_get-set_other xs i j y (λ same. other (ap suc same))
+
+-- what is among the elements has a place
+pub Contains-place :
+    {X : Type 0} (xs : List X) (x : X) → Contains xs x → (k : ℕ) × (slice_get xs k ≡ Some x)
+Contains-place [] x among = absurd (Contains-none x among)
+Contains-place (z ∷ xs) x among = ⊎_elim
+    (λ here. (0, ap Some here))
+    (λ later. let p = Contains-place xs x later in (suc p.0, p.1))
+    (Contains-cases z xs x among)
+
+pub take-whole : {X : Type 0} (xs : List X) (i : ℕ) → i ≡ length xs → take i xs ≡ xs
+take-whole xs i end = ap (λ k. take k xs) end ∙ take-length xs
+
+-- ---- each element
+
+pub AllByRecursion-append :
+    {X : Type 0} (P : X → Type 0) (xs ys : List X) → AllByRecursion P xs → AllByRecursion P ys
+    → AllByRecursion P (xs ++ ys)
+AllByRecursion-append P [] ys h k = k
+AllByRecursion-append P (x ∷ xs) ys h k = (h.0, AllByRecursion-append P xs ys h.1 k)
+
+pub AllByRecursion-filter :
+    {X : Type 0} (P : X → Type 0) (p : X → Bool) (xs : List X) → AllByRecursion P xs
+    → AllByRecursion P (filter p xs)
+AllByRecursion-filter P p [] h = tt
+AllByRecursion-filter P p (x ∷ xs) h = by_test (p x) (AllByRecursion-filter P p xs h.1) where
+  by_test :
+      (b : Bool) → AllByRecursion P (filter p xs)
+      → AllByRecursion P (cond b (x ∷ filter p xs) (filter p xs))
+  by_test true rest = (h.0, rest)
+  by_test false rest = rest
+
+pub AllByRecursion-Contains :
+    {X : Type 0} (P : X → Type 0) (xs : List X) (x : X) → AllByRecursion P xs → Contains xs x
+    → P x
+AllByRecursion-Contains P [] x h among = absurd (Contains-none x among)
+AllByRecursion-Contains P (y ∷ ys) x h among = ⊎_elim
+    (λ here. subst P here h.0)
+    (λ later. AllByRecursion-Contains P ys x h.1 later)
+    (Contains-cases y ys x among)
+
+pub AllZip-length :
+    {A B : Type 0} (R : A → B → Type 0) (xs : List A) (ys : List B) → AllZip R xs ys
+    → length xs ≡ length ys
+AllZip-length R [] [] all = refl
+AllZip-length R [] (y ∷ ys) all = absurd all
+AllZip-length R (x ∷ xs) [] all = absurd all
+AllZip-length R (x ∷ xs) (y ∷ ys) all = ap suc (AllZip-length R xs ys all.1)
+
+-- ---- a test
+
+-- what is of the list and passes is kept
+pub Contains-filter :
+    {X : Type 0} (p : X → Bool) (xs : List X) (x : X) → Contains xs x → p x ≡ true
+    → Contains (filter p xs) x
+Contains-filter p [] x (k, within, at) passes = absurd (omega (arith, within))
+Contains-filter p (y ∷ ys) x (zero, within, at) passes =
+    subst (λ z. Contains (filter p (z ∷ ys)) x) (sym at)
+    (subst (λ b. Contains (cond b (x ∷ filter p ys) (filter p ys)) x) (sym passes)
+    (0, omega arith, refl))
+Contains-filter p (y ∷ ys) x (suc k, within, at) passes =
+    by (p y) (Contains-filter p ys x (k, omega (arith, within), at) passes) where
+      by : (b : Bool) → Contains (filter p ys) x → Contains (cond b (y ∷ filter p ys) (filter p ys)) x
+      by true (i, inside, is) = (suc i, omega (arith, inside), is)
+      by false rest = rest
