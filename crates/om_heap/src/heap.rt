@@ -73,7 +73,15 @@ impl Heap {
         self.region.len() as u64
     }
 
+    /// Takes memory for so many more words at once, where there is so much.
+    pub fn make_room(&mut self, words: u64)
+        ensures { self.new ≡ self.old }
+    {
+        let _room = self.region.reserve(words as usize);
+    }
+
     /// Appends a block whose fields are 0.
+    #[inline(always)]
     pub fn add_block(&mut self, tag: u8, size: u64) -> Result<u64, Memory>
         requires tag { tag ≤ 243 }
         requires nonempty { 0 < size }
@@ -169,6 +177,7 @@ impl Heap {
     }
 
     /// Appends a string of these bytes.
+    #[inline(always)]
     pub fn add_bytes_of(&mut self, content: &[u8]) -> Result<u64, Memory>
         requires small { words64 (measures.Bytes (length content.now)) < 2 ^ 54 }
         ensures { Appends self.old self.new (objects.Bytes content.now) result }
@@ -181,6 +190,7 @@ impl Heap {
     }
 
     /// Appends a double, by its bits.
+    #[inline(always)]
     pub fn add_double(&mut self, bits: u64) -> Result<u64, Memory>
         ensures { Appends self.old self.new (objects.Double bits) result }
     {
@@ -306,6 +316,7 @@ impl Heap {
     }
 
     /// The word of a value.
+    #[inline(always)]
     pub fn word(&self, v: Val) -> u64
         requires { IsValue (length self.now) v }
         ensures { result ≡ word_of self.now v }
@@ -357,6 +368,7 @@ impl Heap {
 
     /// Puts v into field i of a block. A reference may name any object, also one that is still
     /// being filled.
+    #[inline(always)]
     pub fn set(&mut self, o: u64, i: u64, v: Val)
         requires place { i < length (fields_of (object_at self.old o)) }
         requires valid { IsValue (length self.old) v }
@@ -366,6 +378,7 @@ impl Heap {
     }
 
     /// Puts the value of this word into field i of a block.
+    #[inline(always)]
     pub fn set_word(&mut self, o: u64, i: u64, word: u64)
         requires place { i < length (fields_of (object_at self.old o)) }
         requires valid { IsFieldWord self.old word }
@@ -447,6 +460,7 @@ impl Heap {
     }
 
     /// Where the header of object o is.
+    #[inline(always)]
     fn place(&self, o: u64) -> usize
         requires { o < length self.now }
         ensures place { result ≡ place self.now o }

@@ -11,7 +11,7 @@ use om_places::places::Places;
 use om_words::region::Region;
 
 /// Makes room for an object of so many words, and notes its place: the end of the region.
-#[inline]
+#[inline(always)]
 pub fn begin(region: &mut Region, places: &mut Places, words: u64) -> Result<u64, Memory>
     requires { All (λ p. p < length region.old.words) places.old }
     ensures places { MatchResult result

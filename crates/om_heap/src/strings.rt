@@ -31,6 +31,7 @@ pub fn append_zeros(region: &mut Region, len: usize)
 }
 
 /// Word j of the whole ones.
+#[inline(always)]
 fn whole_word(content: &[u8], j: usize) -> u64
     requires { j < length content.now / 8 }
     ensures { result ≡ word_of_bytes (take 8 (drop (8 * j) content.now)) }

@@ -19,6 +19,7 @@ pub const DOUBLES: u64 = 254;
 pub const CUSTOM: u64 = 255;
 
 /// The header of an object with this tag and so many words.
+#[inline(always)]
 pub fn header_word(tag: u64, size: u64) -> u64
     requires tag { tag < 1024 }
     requires size { size < 2 ^ 54 }
@@ -28,6 +29,7 @@ pub fn header_word(tag: u64, size: u64) -> u64
 }
 
 /// The word of an integer of 63 bits.
+#[inline(always)]
 pub fn word_of_integer(z: i64) -> u64
     requires { IsInteger z }
     ensures { result ≡ integer_word z }

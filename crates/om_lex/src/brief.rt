@@ -100,6 +100,7 @@ fn brief_string(alloc: Global, text: &[u8]) -> Result<Found, LexFault>
 }
 
 /// A lexeme that was found, as a step.
+#[inline(always)]
 fn word_step(found: Result<Found, LexFault>) -> Result<Step, LexFault>
     ensures { (e : Result Found LexFault) → FindsBrief found e → StepsBrief result (word_of e) }
 {
@@ -110,6 +111,7 @@ fn word_step(found: Result<Found, LexFault>) -> Result<Step, LexFault>
 }
 
 /// The symbol of a byte that begins no longer one.
+#[inline(always)]
 fn lone_symbol(byte: u8) -> Option<Symbol>
     ensures { result ≡ lone_symbol byte }
 {
@@ -124,6 +126,7 @@ fn lone_symbol(byte: u8) -> Option<Symbol>
 }
 
 /// The separator, comment or lexeme at the front. What stands most often in literals comes first.
+#[inline(always)]
 fn brief_step(alloc: Global, text: &[u8]) -> Result<Step, LexFault>
     ensures { StepsBrief result (step_at text.now) }
 {
@@ -150,6 +153,7 @@ fn brief_step(alloc: Global, text: &[u8]) -> Result<Step, LexFault>
 
 /// The next lexeme of a text, from this place on, or none where there is no other. Where it is a
 /// name or a string, it may stand without what it is.
+#[inline(always)]
 pub fn next_brief(alloc: Global, text: &[u8], from: usize) -> Result<Option<Lexeme>, LexFault>
     requires { from ≤ length text.now }
 

@@ -6,6 +6,7 @@ ghost use Rattle.std.specs.List.{prefix_len};
 ghost use Rattle.om_lex.specs.Lexeme.{is_separator, starts_lower, starts_name, is_name_byte, value_of_digit, is_plain};
 
 /// Space, tab, line feed, form feed or carriage return.
+#[inline(always)]
 pub fn is_separator(b: u8) -> bool
     ensures { result ≡ is_separator b }
 {
@@ -13,6 +14,7 @@ pub fn is_separator(b: u8) -> bool
 }
 
 /// Whether a name in lower case may begin so.
+#[inline(always)]
 pub fn starts_lower(b: u8) -> bool
     ensures { result ≡ starts_lower b }
 {
@@ -20,6 +22,7 @@ pub fn starts_lower(b: u8) -> bool
 }
 
 /// Whether a name may begin so.
+#[inline(always)]
 pub fn starts_name(b: u8) -> bool
     ensures { result ≡ starts_name b }
 {
@@ -27,6 +30,7 @@ pub fn starts_name(b: u8) -> bool
 }
 
 /// Whether a name may go on so.
+#[inline(always)]
 pub fn is_name_byte(b: u8) -> bool
     ensures { result ≡ is_name_byte b }
 {

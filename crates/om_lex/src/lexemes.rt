@@ -15,6 +15,7 @@ use std::alloc::Global;
 use std::marker::Model;
 
 /// The kind of the lexeme at this place of a text.
+#[inline(always)]
 fn kind_from(alloc: Global, text: &[u8], place: usize) -> Result<LexemeKind, Memory>
     ensures { IfOk result (λ kind. kind ≡ (lexeme_from text.now place).kind) }
 {
@@ -29,6 +30,7 @@ fn kind_from(alloc: Global, text: &[u8], place: usize) -> Result<LexemeKind, Mem
 }
 
 /// The name in lower case at this place of a text, or none.
+#[inline(always)]
 fn lower_from(text: &[u8], place: usize) -> &[u8]
     ensures { result.now ≡ lower_name (Some (lexeme_from text.now place).kind) }
 {
@@ -39,6 +41,7 @@ fn lower_from(text: &[u8], place: usize) -> &[u8]
 }
 
 /// The name in lower case at the front, or none.
+#[inline(always)]
 fn lower_at(text: &[u8]) -> &[u8]
     ensures { result.now ≡ lower_name (Some (lexeme_from text.now 0).kind) }
 {
@@ -144,6 +147,7 @@ impl<'a> Lexemes<'a> {
     }
 
     /// The first byte of lexeme number k.
+    #[inline(always)]
     pub fn first(&self, k: usize) -> Option<usize>
         ensures { result ≡ option_map (λ (l : Lexeme). l.span.first) (slice_get self.now k) }
     {
@@ -177,6 +181,7 @@ impl<'a> Lexemes<'a> {
     }
 
     /// The kind of lexeme number k.
+    #[inline(always)]
     pub fn kind(&self, alloc: Global, k: usize) -> Result<Option<LexemeKind>, Memory>
         ensures { IfOk result
             (λ kind. kind ≡ option_map (λ (l : Lexeme). l.kind) (slice_get self.now k)) }

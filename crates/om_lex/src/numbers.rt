@@ -12,6 +12,7 @@ use crate::found::Found;
 use crate::lexeme::{Integer, LexFault, LexemeKind, Suffix};
 
 /// How many decimal digits stand at the front.
+#[inline(always)]
 fn digits_len(text: &[u8]) -> usize
     ensures { result ≡ prefix_len is_ascii_digit text.now }
 {
@@ -26,6 +27,7 @@ fn all_hexadecimal(bytes: &[u8]) -> bool
 }
 
 /// What the digits stand for, or the greatest number of 64 bits where it is less.
+#[inline(always)]
 fn number_in(base: u64, digits: &[u8]) -> u64
     requires { IsTrue (list_all is_ascii_hexdigit digits.now) }
     ensures { result ≡ min (number_in base digits.now) (2 ^ 64 - 1) }
@@ -40,6 +42,7 @@ fn number_in(base: u64, digits: &[u8]) -> u64
 }
 
 /// The number with its sign, where 64 bits have it.
+#[inline(always)]
 fn signed(minus: bool, number: u64) -> Option<i64>
     ensures { result
         ≡ (if nat_le number (greatest minus) then Some (signed minus number) else None) }
@@ -61,6 +64,7 @@ fn signed(minus: bool, number: u64) -> Option<i64>
 
 /// The suffix at the front, and how many bytes it takes.
 #[tactic(auto, unfolding(crate::specs::Scan::suffix_at))]
+#[inline(always)]
 fn suffix_at(text: &[u8]) -> (Suffix, usize)
     ensures suffix { result.0 ≡ suffix_at text.now }
     ensures len { result.1 ≡ length (suffix_text (suffix_at text.now)) }
@@ -75,6 +79,7 @@ fn suffix_at(text: &[u8]) -> (Suffix, usize)
 
 /// The integer at the front, after its minus where there is one.
 #[tactic(auto, unfolding(crate::specs::Scan::number_form))]
+#[inline(always)]
 pub fn integer(minus: bool, text: &[u8]) -> Result<Found, LexFault>
     ensures { Answers (λ w. w) result (found_at (number_form minus text.now)) }
 {

@@ -18,6 +18,7 @@ use std::alloc::Global;
 
 /// The lexeme at the front.
 #[tactic(auto, unfolding(crate::specs::Scan::lexeme_at, crate::specs::Scan::form_at))]
+#[inline(always)]
 fn lexeme_at(alloc: Global, text: &[u8]) -> Result<Found, LexFault>
     ensures { Answers (λ w. w) result (lexeme_at text.now) }
 {
@@ -44,6 +45,7 @@ fn lexeme_at(alloc: Global, text: &[u8]) -> Result<Found, LexFault>
 
 /// The separator, comment or lexeme at the front.
 #[tactic(auto, unfolding(crate::specs::Scan::step_at))]
+#[inline(always)]
 pub fn step_at(alloc: Global, text: &[u8]) -> Result<Step, LexFault>
     ensures { Answers (λ s. s) result (step_at text.now) }
 {

@@ -9,6 +9,7 @@ use crate::lexeme::{LexFault, LexemeKind, Symbol};
 
 /// The symbol of two bytes.
 #[tactic(auto, unfolding(crate::specs::Scan::pair_symbol))]
+#[inline(always)]
 fn pair_symbol(first: u8, second: u8) -> Option<Symbol>
     ensures { result ≡ pair_symbol first second }
 {
@@ -27,6 +28,7 @@ fn pair_symbol(first: u8, second: u8) -> Option<Symbol>
 
 /// The symbol of one byte.
 #[tactic(auto, unfolding(crate::specs::Scan::single_symbol))]
+#[inline(always)]
 fn single_symbol(byte: u8) -> Option<Symbol>
     ensures { result ≡ single_symbol byte }
 {
@@ -51,6 +53,7 @@ fn single_symbol(byte: u8) -> Option<Symbol>
 
 /// The symbol of two bytes, where there are two.
 #[tactic(auto, unfolding(crate::specs::Scan::pair_at))]
+#[inline(always)]
 fn pair_at(first: u8, rest: &[u8]) -> Option<Symbol>
     ensures { result ≡ pair_at first rest.now }
 {
@@ -62,6 +65,7 @@ fn pair_at(first: u8, rest: &[u8]) -> Option<Symbol>
 
 /// The symbol at the front, a byte and what follows it: the longer one first.
 #[tactic(auto, unfolding(crate::specs::Scan::symbol_form))]
+#[inline(always)]
 pub fn symbol(first: u8, rest: &[u8]) -> Result<Found, LexFault>
     ensures { Answers (λ w. w) result (found_at (symbol_form first rest.now)) }
 {

@@ -31,6 +31,7 @@ pub enum Leaf<'a> {
 }
 
 /// An integer of 63 bits.
+#[inline(always)]
 fn int_leaf(value: i64) -> Leaf<'static>
     ensures sound { IsSound result }
     ensures leaf { leaf_in result ≡ if_in_range (is_in_bits 62 value) (small (vals.Int value)) }
@@ -55,6 +56,7 @@ fn int32_leaf(value: i64) -> Leaf<'static>
 }
 
 /// An integer at a shape.
+#[inline(always)]
 fn integer_leaf(shape: &ShapeOf<usize>, i: Integer) -> Leaf<'static>
     ensures leaf { (t : ℕ) (names : Names)
         → leaf_in result ≡ start_at t shape.now names (integer i) }
@@ -106,6 +108,7 @@ fn unit_leaf(shape: &ShapeOf<usize>) -> Leaf<'static>
 }
 
 /// A string at a shape.
+#[inline(always)]
 fn text_leaf<'a>(shape: &ShapeOf<usize>, bytes: &'a List<u8>) -> Leaf<'a>
     ensures leaf { (t : ℕ) (names : Names)
         → leaf_in result ≡ start_at t shape.now names (string bytes.now) }
@@ -118,6 +121,7 @@ fn text_leaf<'a>(shape: &ShapeOf<usize>, bytes: &'a List<u8>) -> Leaf<'a>
 }
 
 /// A double at a shape.
+#[inline(always)]
 fn double_leaf(shape: &ShapeOf<usize>, bits: u64) -> Leaf<'static>
     ensures leaf { (t : ℕ) (names : Names)
         → leaf_in result ≡ start_at t shape.now names (double bits) }
@@ -159,6 +163,7 @@ fn word_leaf(shape: &ShapeOf<usize>, names: &Names, kind: &LexemeKind, word: &[u
 }
 
 /// A literal without parts at a shape, by its first lexeme.
+#[inline(always)]
 pub fn leaf_of<'a>(shape: &ShapeOf<usize>, names: &Names, kind: &'a LexemeKind) -> Leaf<'a>
     ensures leaf { (t k : ℕ) (p : Plain) → kind.now ≡ lead_of_plain p → length (parts_of k p) ≡ 0
         → leaf_in result ≡ start_at t shape.now names.now p }

@@ -17,6 +17,7 @@ use om_types::names::{Names, TagName};
 use om_types::shape::{PolyTag, ShapeOf};
 
 /// The name of a constructor, by its first lexeme.
+#[inline(always)]
 pub(crate) fn name_of_constructor(kind: &LexemeKind) -> Option<&[u8]>
     ensures { (h : Head) → kind.now ≡ lead_of h
         → option_map (λ name. name.now) result ≡ constructor_name h }
@@ -41,6 +42,7 @@ pub(crate) fn tag_name(kind: &LexemeKind) -> Option<&[u8]>
 }
 
 /// The place of a name.
+#[inline(always)]
 fn place(all: &[List<u8>], name: &[u8]) -> Option<usize>
     ensures bounded { (i : ℕ) → result ≡ Some i → i < 2 ^ 62 }
     ensures place { result ≡ position (bytes_eq name.now) all.now }
@@ -49,6 +51,7 @@ fn place(all: &[List<u8>], name: &[u8]) -> Option<usize>
 }
 
 /// The place of a constant constructor.
+#[inline(always)]
 fn place_of_constant(names: &Names, kind: &LexemeKind) -> Option<usize>
     ensures bounded { (i : ℕ) → result ≡ Some i → i < 2 ^ 62 }
     ensures place { (h : Head) → kind.now ≡ lead_of h → result ≡ constant_of_name names.now h }
@@ -60,6 +63,7 @@ fn place_of_constant(names: &Names, kind: &LexemeKind) -> Option<usize>
 }
 
 /// A constant constructor by its place.
+#[inline(always)]
 fn constant_of(constants: u64, place: Option<usize>) -> Leaf<'static>
     requires { (i : ℕ) → place ≡ Some i → i < 2 ^ 62 }
     ensures sound { IsSound result }
@@ -130,6 +134,7 @@ pub(crate) fn is_integer(z: i64) -> bool
 }
 
 /// A name without parts at a shape, by its first lexeme.
+#[inline(always)]
 pub fn constant_leaf(shape: &ShapeOf<usize>, names: &Names, kind: &LexemeKind) -> Leaf<'static>
     ensures sound { IsSound result }
     ensures leaf { (t : ℕ) (h : Head) → kind.now ≡ lead_of h

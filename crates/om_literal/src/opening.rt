@@ -36,6 +36,7 @@ pub enum Opening<'a> {
 }
 
 /// Whether no field has a name.
+#[inline(always)]
 fn is_unnamed(fields: &[List<u8>]) -> bool
     ensures { result ≡ starts.same_names fields.now [] }
 {
@@ -43,6 +44,7 @@ fn is_unnamed(fields: &[List<u8>]) -> bool
 }
 
 /// Whether a constructor has the name, and no inline record.
+#[inline(always)]
 fn is_plain(constr: &ConstrNames, name: &[u8]) -> bool
     ensures { result ≡ is_constr name.now [] constr.now }
 {
@@ -50,6 +52,7 @@ fn is_plain(constr: &ConstrNames, name: &[u8]) -> bool
 }
 
 /// The place of a constructor of this name without inline record.
+#[inline(always)]
 fn place(all: &[ConstrNames], name: &[u8]) -> Option<usize>
     ensures { result ≡ position (is_constr name.now []) all.now }
 {
@@ -57,6 +60,7 @@ fn place(all: &[ConstrNames], name: &[u8]) -> Option<usize>
 }
 
 /// The tag of a constructor without inline record.
+#[inline(always)]
 fn plain_tag(names: &Names, kind: &LexemeKind) -> Option<usize>
     ensures { (h : Head) → kind.now ≡ lead_of h → result ≡ tag_of_name names.now [] h }
 {
@@ -67,6 +71,7 @@ fn plain_tag(names: &Names, kind: &LexemeKind) -> Option<usize>
 }
 
 /// A constructor by its tag, where it has so many fields.
+#[inline(always)]
 fn carrying<'a>(blocks: &'a [Constr<usize>], parts: usize, tag: Option<usize>) -> Opening<'a>
     ensures sound { IsSound result }
     ensures opening { (t : ℕ) → opening_in t result ≡ carrying_start t blocks.now parts tag }
@@ -127,6 +132,7 @@ pub fn array_opening(shape: &ShapeOf<usize>) -> Opening<'static>
 }
 
 /// A name with so many parts in parentheses.
+#[inline(always)]
 pub fn applied_opening<'a>(
     shape: &'a ShapeOf<usize>,
     names: &Names,

@@ -51,6 +51,7 @@ pub enum Made<'a> {
 }
 
 /// Whether the label has the next number, where there is one.
+#[inline(always)]
 fn has_next_number(labels: &[u64], label: Option<u64>) -> bool
     ensures { result ≡ is_next labels.now label }
 {
@@ -86,6 +87,7 @@ fn again<'a>(text: &Text, labels: &[u64], node: &Node) -> Result<Begun<'a>, Lite
 }
 
 /// The reference to an object, which has the label where there is one.
+#[inline(always)]
 fn reference(labels: &mut Vec<u64>, label: Option<u64>, o: u64) -> Result<Val, Memory>
     ensures value { IfOk result (λ value. value ≡ vals.Ref o) }
     ensures labels { OnOk result (labels.new.items ≡ with_label labels.old.items label o) }
@@ -98,6 +100,7 @@ fn reference(labels: &mut Vec<u64>, label: Option<u64>, o: u64) -> Result<Val, M
 }
 
 /// Appends a string; `Memory` where it would be too large for an object.
+#[inline(always)]
 fn add_text(heap: &mut Heap, bytes: &[u8]) -> Result<u64, Memory>
     ensures { Appends heap.old heap.new (objects.Bytes bytes.now) result }
 {
@@ -125,6 +128,7 @@ fn add_doubles(heap: &mut Heap, all: Vec<u64>) -> Result<u64, Memory>
 }
 
 /// Appends a block with room for so many parts, and with the hash of a tag before them.
+#[inline(always)]
 fn add_parts(heap: &mut Heap, tag: u8, hash: Option<i64>, parts: usize) -> Result<u64, Memory>
     requires tag { tag ≤ 243 }
     requires hash { IfSome hash IsInteger }
@@ -147,6 +151,7 @@ fn add_parts(heap: &mut Heap, tag: u8, hash: Option<i64>, parts: usize) -> Resul
 }
 
 /// How many fields stand before the parts.
+#[inline(always)]
 fn front_len(hash: Option<i64>) -> u64
     ensures len { result ≡ length (front_of hash) }
     ensures few { result ≤ 1 }
@@ -158,6 +163,7 @@ fn front_len(hash: Option<i64>) -> u64
 }
 
 /// A string, a double or a custom as an object; an integer and an atom need none.
+#[inline(always)]
 fn make_leaf<'a>(heap: &mut Heap, leaf: Leaf) -> Result<Made<'a>, Memory>
     requires { leaves.IsSound leaf }
     ensures made { (parts : ℕ) → IfOk result (IsMade parts (leaf_in leaf.entry) heap.old heap.new) }
@@ -174,6 +180,7 @@ fn make_leaf<'a>(heap: &mut Heap, leaf: Leaf) -> Result<Made<'a>, Memory>
 }
 
 /// A block, whose parts are to come.
+#[inline(always)]
 fn make_block<'a>(
     heap: &mut Heap,
     opening: Opening<'a>,
@@ -199,6 +206,7 @@ fn make_block<'a>(
 }
 
 /// The object of a literal of so many parts, by its start at a type.
+#[inline(always)]
 fn make<'a>(heap: &mut Heap, start: Start<'a>, parts: usize, t: usize) -> Result<Made<'a>, Memory>
     requires { started.IsSound start }
     ensures made { IfOk result (IsMade parts (start_in t start.entry) heap.old heap.new) }
@@ -212,6 +220,7 @@ fn make<'a>(heap: &mut Heap, start: Start<'a>, parts: usize, t: usize) -> Result
 }
 
 /// What was made, with its label.
+#[inline(always)]
 fn placed<'a>(
     text: &Text,
     labels: &mut Vec<u64>,
@@ -260,6 +269,7 @@ fn placed<'a>(
 
 /// The object of the literal at node j, which is this one and has this first lexeme behind its
 /// label, at a type.
+#[inline(always)]
 fn make_plain<'a>(
     alloc: Global,
     text: &Text<'a>,
@@ -289,6 +299,7 @@ fn make_plain<'a>(
 }
 
 /// The literal at node j is begun at a type.
+#[inline(always)]
 pub fn begin<'a>(
     alloc: Global,
     text: &Text<'a>,

@@ -13,6 +13,7 @@ use om_heap::Heap;
 use std::alloc::Global;
 
 /// Reads the part of a block that is the literal at node j: the node that comes next.
+#[inline(always)]
 fn read_part<'a>(
     alloc: Global,
     text: &Text<'a>,

@@ -23,6 +23,10 @@ use om_model::value::Val;
 use om_type_table::TypeTable;
 use std::alloc::Global;
 
+/// Few values have more words than a third of the bytes of their texts. Memory that is taken at
+/// once is not held twice as it grows, and what is not used of it is no burden.
+const BYTES_A_WORD: u64 = 3;
+
 /// Reads the literal of a text at a type. After a fault new objects may stay.
 fn read_tree(alloc: Global, text: &Text, heap: &mut Heap, at: usize) -> Result<Val, LiteralFault>
     requires text { IsText text.now }
@@ -65,6 +69,24 @@ fn read_nodes(
         end,
     };
     read_tree(alloc, &text, heap, at)
+}
+
+/// The same, with memory for the value's objects taken at once.
+fn read_in_room(
+    alloc: Global,
+    heap: &mut Heap,
+    table: &TypeTable,
+    at: usize,
+    lexemes: &Lexemes,
+    tree: &Nodes,
+    end: usize,
+) -> Result<Val, LiteralFault>
+    requires named { length table.now.names ≡ length table.now.nodes }
+    requires tree { IsTreeOf lexemes.now tree.now }
+    ensures { Reads table.now at lexemes.now end heap.old heap.new result }
+{
+    heap.make_room(end as u64 / BYTES_A_WORD);
+    read_nodes(alloc, heap, table, at, lexemes, tree, end)
 }
 
 /// Reads lexemes as a literal at a type. After a fault new objects may stay.
@@ -150,7 +172,7 @@ pub fn read_placed(
 {
     let count = heap.count();
     let lexemes = Lexemes::of_text(text, placed.places.as_slice());
-    let result = read_nodes(alloc, heap, table, at, &lexemes, &placed.tree, text.len());
+    let result = read_in_room(alloc, heap, table, at, &lexemes, &placed.tree, text.len());
     if result.is_err() {
         heap.truncate(count);
     }

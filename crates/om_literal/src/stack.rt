@@ -25,6 +25,7 @@ pub struct Opened<'a> {
 
 impl<'a> Opened<'a> {
     /// The block when that part has begun.
+    #[inline(always)]
     pub fn advanced(self) -> Opened<'a>
         requires left { 0 < self.left }
         requires few { self.field + self.left < 2 ^ 54 }
@@ -42,6 +43,7 @@ impl<'a> Opened<'a> {
     }
 
     /// The type of the part that comes next.
+    #[inline(always)]
     pub fn next_type(&self) -> usize
         ensures { result ≡ types_in self.now.at self.now.types self.now.part }
     {
@@ -79,14 +81,17 @@ impl<'a> Stack<'a> {
         }
     }
 
+    #[inline(always)]
     pub fn push(&mut self, block: Opened<'a>) -> Result<(), Memory>
         ensures { IfOk result (λ _. self.new ≡ block.entry ∷ self.old) }
     {
-        self.items.push(block)?;
+        self.items.reserve(1)?;
+        self.items.push_reserved(block);
         Ok(())
     }
 
     /// Puts a block back if parts of it are to come.
+    #[inline(always)]
     pub fn put_back(&mut self, block: Opened<'a>) -> Result<(), Memory>
         ensures { IfOk result (λ _. self.new ≡ if_open block.entry self.old) }
     {
@@ -96,6 +101,7 @@ impl<'a> Stack<'a> {
         Ok(())
     }
 
+    #[inline(always)]
     pub fn pop(&mut self) -> Option<Opened<'a>>
         ensures { Popped self.old self.new result }
     {

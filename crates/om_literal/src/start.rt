@@ -161,6 +161,7 @@ fn fields_start<'a>(
 }
 
 /// A literal with parts, by its node and its first lexeme.
+#[inline(always)]
 fn opening_start<'a>(
     alloc: Global,
     text: &Text<'a>,
@@ -189,6 +190,7 @@ fn opening_start<'a>(
 }
 
 /// The shape of a type, where the table has it.
+#[inline(always)]
 fn shape_of(table: &TypeTable, t: usize) -> Option<&ShapeOf<usize>>
     ensures { option_map (λ shape. shape.now) result ≡ slice_get table.now.nodes t }
 {
@@ -196,6 +198,7 @@ fn shape_of(table: &TypeTable, t: usize) -> Option<&ShapeOf<usize>>
 }
 
 /// A literal without parts, by its first lexeme behind its label, at a type.
+#[inline(always)]
 pub fn leaf_at<'k>(table: &TypeTable, kind: &'k LexemeKind, t: usize) -> Leaf<'k>
     requires { length table.now.names ≡ length table.now.nodes }
     ensures leaf { (k : ℕ) (p : Plain) → kind.now ≡ lead_of_plain p → length (parts_of k p) ≡ 0
@@ -210,6 +213,7 @@ pub fn leaf_at<'k>(table: &TypeTable, kind: &'k LexemeKind, t: usize) -> Leaf<'k
 
 /// The literal with parts at node j, which is this one and has this first lexeme behind its label,
 /// at a type.
+#[inline(always)]
 pub fn start_of<'a>(
     alloc: Global,
     text: &Text<'a>,

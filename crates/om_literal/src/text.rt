@@ -31,6 +31,7 @@ pub fn byte_of(lexemes: &Lexemes, end: usize, k: usize) -> u64
 }
 
 /// The first lexeme of a literal behind its label.
+#[inline(always)]
 pub fn plain_first(node: &Node) -> usize
     requires { node.now.first < 2 ^ 63 }
     ensures { result ≡ node.now.first + length (label_kinds node.now.label) }

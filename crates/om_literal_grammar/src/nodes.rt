@@ -127,7 +127,8 @@ impl Nodes {
         ensures { IfOk result (λ _. self.new ≡ self.old ++ node ∷ []) }
     {
         let small = hold(&mut self.others, node)?;
-        self.small.push(small)?;
+        self.small.reserve(1)?;
+        self.small.push_reserved(small);
         Ok(())
     }
 

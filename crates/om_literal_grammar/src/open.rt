@@ -139,7 +139,10 @@ impl Opens {
         ensures { IfOk result (λ _. self.new ≡ outer ∷ self.old) }
     {
         match small_of(&outer) {
-            Some(small) => self.small.push(small)?,
+            Some(small) => {
+                self.small.reserve(1)?;
+                self.small.push_reserved(small);
+            }
             None => {
                 self.others.push(outer)?;
                 self.small.push(other())?;

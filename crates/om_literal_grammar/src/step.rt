@@ -525,6 +525,7 @@ fn take_name(
 }
 
 /// Lexeme number `place`.
+#[inline(always)]
 pub fn step(
     nodes: &mut Nodes,
     opens: &mut Opens,

@@ -7,12 +7,12 @@ use Rattle.om_literal.proofs.read.read_placed.Goals as goal
 
 pub returns-then-is_err-clause-only : goal.returns-then-is_err-clause-only
 returns-then-is_err-clause-only c answer a =
-    only_answer c.args.table.now c.args.at (lexemes_at c.args.text.now c.args.placed.now.places.items) (length c.args.text.now) c.args.heap.now c.truncate.new.self c.read_nodes-result.result answer
-    (answered_back c.args.table.now c.args.at (lexemes_at c.args.text.now c.args.placed.now.places.items) (length c.args.text.now) c.args.heap.now c.read_nodes-result.new.heap c.read_nodes-result.result c.truncate.new.self
-    (sym c.is_err.ensures.value ∙ c.if-is_err.true) (subst (λ (xs : List Lexeme). Reads c.args.table.now c.args.at xs (length c.args.text.now) c.args.heap.now c.read_nodes-result.new.heap c.read_nodes-result.result) (c.of_text-lexemes.ensures ∙ ap (lexemes_at c.args.text.now) c.as_slice.ensures.value) c.read_nodes-result.ensures) (c.truncate.ensures ∙ ap (λ n. take n c.read_nodes-result.new.heap) c.count-count.ensures.count)) a
+    only_answer c.args.table.now c.args.at (lexemes_at c.args.text.now c.args.placed.now.places.items) (length c.args.text.now) c.args.heap.now c.truncate.new.self c.read_in_room-result.result answer
+    (answered_back c.args.table.now c.args.at (lexemes_at c.args.text.now c.args.placed.now.places.items) (length c.args.text.now) c.args.heap.now c.read_in_room-result.new.heap c.read_in_room-result.result c.truncate.new.self
+    (sym c.is_err.ensures.value ∙ c.if-is_err.true) (subst (λ (xs : List Lexeme). Reads c.args.table.now c.args.at xs (length c.args.text.now) c.args.heap.now c.read_in_room-result.new.heap c.read_in_room-result.result) (c.of_text-lexemes.ensures ∙ ap (lexemes_at c.args.text.now) c.as_slice.ensures.value) c.read_in_room-result.ensures) (c.truncate.ensures ∙ ap (λ n. take n c.read_in_room-result.new.heap) c.count-count.ensures.count)) a
 
 pub returns-else-is_err-clause-only : goal.returns-else-is_err-clause-only
 returns-else-is_err-clause-only c answer a =
-    only_answer c.args.table.now c.args.at (lexemes_at c.args.text.now c.args.placed.now.places.items) (length c.args.text.now) c.args.heap.now c.read_nodes-result.new.heap c.read_nodes-result.result answer
-    (answered_there c.args.table.now c.args.at (lexemes_at c.args.text.now c.args.placed.now.places.items) (length c.args.text.now) c.args.heap.now c.read_nodes-result.new.heap c.read_nodes-result.result
-    (sym c.is_err.ensures.value ∙ c.if-is_err.false) (subst (λ (xs : List Lexeme). Reads c.args.table.now c.args.at xs (length c.args.text.now) c.args.heap.now c.read_nodes-result.new.heap c.read_nodes-result.result) (c.of_text-lexemes.ensures ∙ ap (lexemes_at c.args.text.now) c.as_slice.ensures.value) c.read_nodes-result.ensures)) a
+    only_answer c.args.table.now c.args.at (lexemes_at c.args.text.now c.args.placed.now.places.items) (length c.args.text.now) c.args.heap.now c.read_in_room-result.new.heap c.read_in_room-result.result answer
+    (answered_there c.args.table.now c.args.at (lexemes_at c.args.text.now c.args.placed.now.places.items) (length c.args.text.now) c.args.heap.now c.read_in_room-result.new.heap c.read_in_room-result.result
+    (sym c.is_err.ensures.value ∙ c.if-is_err.false) (subst (λ (xs : List Lexeme). Reads c.args.table.now c.args.at xs (length c.args.text.now) c.args.heap.now c.read_in_room-result.new.heap c.read_in_room-result.result) (c.of_text-lexemes.ensures ∙ ap (lexemes_at c.args.text.now) c.as_slice.ensures.value) c.read_in_room-result.ensures)) a
