@@ -1,6 +1,5 @@
 -- What the pairs of one object tell, where there are many of them too.
 use Rattle.std.proofs.Common.{ℕ, zero, suc, ◌<◌, ◌≤◌, ◌+◌, ◌-◌, ◌%◌, ◌≡◌, ◌∙◌, ◌⊎◌, ⊎_elim, inl, inr, Bool, true, false, cond, List, length, Some, refl, sym, ap, subst, arith}
-use Rattle.om_scan.proofs.PlaceLemmas.{place_of as place_in}
 use Rattle.std.specs.Prelude.{Contains, slice_get, IsTrue, ◌↔◌, ◌==◌, not}
 use Rattle.std.proofs.lemmas.Bool.Decides.{Decides-eqb}
 use Rattle.std.specs.BTreeMap.{is_at}
@@ -19,11 +18,12 @@ use Rattle.om_model.specs.declared.value.Val.TheVariants as vals
 use Rattle.om_model.specs.declared.value.Obj.{Obj}
 use Rattle.om_heap.specs.Heap.{word_of}
 use Rattle.om_heap.proofs.ReadLemmas.{word_of-inj}
+use Rattle.om_model.proofs.Lists.{Contains-place as place_in}
 use Rattle.om_types.specs.Table.{Table, table_shapes}
 use Rattle.om_types.specs.Typing.{IsHeld, IsListed}
 use Rattle.om_section.specs.Increasing.{AreIncreasing}
 use Rattle.om_scan.proofs.SetLemmas.{cond_true, cond_kept}
-use Rattle.om_cert.specs.Testing.{IsStart, IsPassing, IsSame, pair_cmp, AreCrowded, is_in, IsCrowd, IsAmongAt, IsElsewhere, IsSettled}
+use Rattle.om_cert.specs.Testing.{IsStart, IsPassing, IsSame, pair_cmp, AreCrowded, is_in, IsCrowd, IsAmongAt, IsElsewhere, IsSettled, StandsAt}
 
 -- two numbers differ by their test
 pub differ : (a b : ℕ) → IsTrue (not (a == b)) ↔ (¬ (a ≡ b))
@@ -106,6 +106,18 @@ module _ (table : Table) (pairs : List (ℕ × ℕ)) where
   crowd_all i crowd many are = record {
     some = are.some;
     all = λ k o s t c less at_k at_next class. are.all k o s t c (omega (arith, less, many)) at_k at_next class;
+  }
+
+  -- ---- at a place
+
+  pub stands_at :
+      (graph : List Obj) (place word o s t : ℕ) → slice_get pairs place ≡ Some (o, s) → o < length graph → word_of graph (vals.Ref o) ≡ word
+      → IsSame table s t → StandsAt table graph pairs word t
+  stands_at graph place word o s t at_place inside named same = record {
+    object = o;
+    inside = inside;
+    named = sym named;
+    among = (s, slice_get-Contains pairs place (o, s) at_place, same);
   }
 
   -- ---- among
@@ -215,6 +227,13 @@ module _ (table : Table) (graph : List Obj) (pairs : List (ℕ × ℕ)) (t : ℕ
   ) where
     same : v ≡ vals.Ref o
     same = word_of-inj graph v (vals.Ref o) graph' valid inside (sym is ∙ named)
+
+  -- it is an object that stands at an equal type, and fits
+  pub stands_held :
+      (word : ℕ) → IsGraph graph → IsValue (length graph) v → word ≡ word_of graph v → (table_shapes table).fits graph v t
+      → StandsAt table graph pairs word t → IsHeld (table_shapes table) graph pairs v t
+  stands_held word graph' valid is fits at =
+      (object_held word at.object true graph' valid is at.inside at.named fits (λ yes'. at.among, λ among. refl)).0 refl
 
   -- it does not fit
   pub unfit_not_held : (fits : Bool) → (IsTrue fits ↔ (table_shapes table).fits graph v t) → fits ≡ false → ¬ IsHeld (table_shapes table) graph pairs v t

@@ -12,7 +12,7 @@ use Rattle.om_types.specs.declared.fault.Fault.TheVariants.{Misfit, Clash}
 use Rattle.om_types.specs.Fault.{IsFault, IsLexicallyBefore}
 use Rattle.om_types.specs.Table.{Table, table_shapes}
 use Rattle.om_types.specs.Typing.{field_at, IsHeld}
-use Rattle.om_scan.proofs.PlaceLemmas.{place_of as place_in}
+use Rattle.om_model.proofs.Lists.{Contains-place as place_in}
 use Rattle.om_section.specs.declared.section.Section.TheVariants as sections
 use Rattle.om_cert.specs.declared.verified.Why.{Why}
 use Rattle.om_cert.specs.declared.verified.Why.TheVariants.{Range, Unfit, Need, TwoTypes, Root, NotFault}

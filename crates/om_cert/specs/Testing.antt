@@ -6,6 +6,7 @@ use Rattle.std.specs.Ordering.{nat_cmp, ordering_then}
 use Rattle.std.specs.declared.cmp.Ordering.{Ordering}
 use Rattle.om_model.specs.declared.value.Val.TheVariants as vals
 use Rattle.om_model.specs.declared.value.Obj.{Obj}
+use Rattle.om_heap.specs.Heap.{word_of}
 use Rattle.om_types.specs.Fault.{IsLexicallyBefore}
 use Rattle.om_types.specs.Table.{Table, table_shapes}
 use Rattle.om_types.specs.Typing.{field_at, IsHeld}
@@ -64,6 +65,14 @@ IsSame table t u = (table_shapes table).equal t u
 -- some pair has the object at an equal type
 abbrev pub IsAmongAt : Table → List (ℕ × ℕ) → ℕ → ℕ → Type 0
 IsAmongAt table pairs o t = (u : ℕ) × Contains pairs (o, u) × (table_shapes table).equal u t
+
+-- some pair has the object of the word at an equal type
+pub record StandsAt (table : Table) (graph : List Obj) (pairs : List (ℕ × ℕ)) (word t : ℕ)
+    : Type 0 where
+  pub object : ℕ
+  pub inside : object < length graph
+  pub named : word ≡ word_of graph (vals.Ref object)
+  pub among : IsAmongAt table pairs object t
 
 -- some pair has it at an unequal one
 abbrev pub IsElsewhere : Table → List (ℕ × ℕ) → ℕ → ℕ → Type 0

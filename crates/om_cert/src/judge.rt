@@ -144,6 +144,7 @@ fn verify_pairs(
         rows,
         pairs,
         &crowd,
+        0,
         heap.word(root),
         table.root(),
     ) {

@@ -1,9 +1,12 @@
 //! What is wrong with a pair.
 
-ghost use Rattle.std.specs.Prelude.{◌≡◌, ◌<◌, length, Some, MatchOption};
+ghost use Rattle.std.specs.Prelude.{ℕ, ◌≡◌, ◌<◌, false, length, slice_get, Some, MatchOption};
+ghost use Rattle.std.specs.Bool.{OnTrue};
 ghost use Rattle.om_model.specs.Graph.{IsGraph};
 ghost use Rattle.om_model.specs.declared.value.Val.TheVariants as vals;
+ghost use Rattle.om_types.specs.Fitting as fitting;
 ghost use Rattle.om_types.specs.Table.{table_shapes};
+ghost use Rattle.om_heap.specs.Heap.{word_of};
 ghost use Rattle.om_type_table.specs.Made.{table_of, IsLawful};
 ghost use Rattle.om_fits.specs.Needs.{needs_in};
 ghost use Rattle.om_scan.specs.FittingRows.{AreRows};
@@ -12,47 +15,77 @@ ghost use Rattle.om_cert.specs.Testing.{AreAllThere, IsCrowd, HoldsAll, IsFirstL
 
 use crate::held::{is_elsewhere, is_held};
 use crate::verified::Why;
-use om_fits::{Needs, Row, is_mutable, needs_of};
+use om_fits::{Needs, Row, is_mutable, known_needs};
 use om_heap::Heap;
 use om_model::value::Val;
+use om_scan::fits_type;
 use om_type_table::TypeTable;
+use om_types::shape::{Constr, ShapeOf};
 use std::collections::BTreeSet;
 
-/// The first field of an object, by its number, that is needed and not held.
+/// The first field of an object, which has this word, by its number, that is needed and not held.
+/// It is the object of pair i: the next pair is mostly that of its last field.
+#[inline(always)]
 fn first_lack(
     heap: &Heap,
     table: &TypeTable,
     rows: &[Row],
     pairs: &[(u64, u64)],
     crowd: &BTreeSet<(u64, usize)>,
-    object: u64,
+    i: usize,
+    _object: u64,
+    word: u64,
     _ty: usize,
     needs: Needs<'_>,
 ) -> Option<u64>
     requires graph { IsGraph heap.now }
     requires rows { AreRows table.now.nodes rows.now }
-    requires object { object < length heap.now }
+    requires in_range { i < length pairs.now }
+    requires object { _object < length heap.now }
+    requires word { word ≡ word_of heap.now (vals.Ref _object) }
     requires ty { _ty < length table.now.nodes }
     requires lawful { IsLawful (table_of table.now) }
     requires increasing { AreIncreasing pairs.now }
     requires there { AreAllThere (table_of table.now) heap.now pairs.now }
     requires crowd { IsCrowd (table_of table.now) pairs.now crowd.now }
     requires needs { (table_shapes (table_of table.now)).needs heap.now
-        (vals.Ref object) _ty ≡ needs_in needs }
-    ensures { MatchOption result (HoldsAll (table_of table.now) heap.now pairs.now object _ty)
-        (IsFirstLack (table_of table.now) heap.now pairs.now object _ty) }
+        (vals.Ref _object) _ty ≡ needs_in needs }
+    ensures { MatchOption result (HoldsAll (table_of table.now) heap.now pairs.now _object _ty)
+        (IsFirstLack (table_of table.now) heap.now pairs.now _object _ty) }
 {
     if needs.len() == 0 {
         return None;
     }
-    let words = heap.fields(object);
+    let words = heap.fields_at(word);
     for k in 0..needs.len() {
         let (field, ty) = needs.get(k);
-        if !is_held(heap, table, rows, pairs, crowd, words[field as usize], ty) {
+        let value = words[field as usize];
+        if !is_held(heap, table, rows, pairs, crowd, i + 1, value, ty) {
             return Some(field);
         }
     }
     None
+}
+
+/// Whether the object, which fits the shape, may be changed: often one constructor tells it.
+#[inline(always)]
+fn is_changing(heap: &Heap, object: u64, shape: &ShapeOf<usize>) -> bool
+    requires { object < length heap.now }
+    ensures { result ≡ fitting.is_mutable shape.now (slice_get heap.now object) }
+{
+    match shape {
+        ShapeOf::Sum(_, blocks) if is_one_constant(blocks.as_slice()) => false,
+        _ => is_mutable(heap, object, shape),
+    }
+}
+
+/// Whether there is one constructor with arguments, whose blocks cannot be changed.
+#[inline(always)]
+fn is_one_constant(blocks: &[Constr<usize>]) -> bool
+    ensures { OnTrue result
+        ((tag : ℕ) → fitting.is_mutable_block (slice_get blocks.now tag) ≡ false) }
+{
+    blocks.len() == 1 && !blocks[0].mutable
 }
 
 /// What is first wrong with pair i, where the objects and types of all pairs are there, and those
@@ -78,13 +111,17 @@ pub fn test_pair(
 {
     let (object, number) = pairs[i];
     let ty = number as usize;
-    let Some(needs) = needs_of(heap, Val::Ref(object), table.shape(ty)) else {
+    let word = heap.word(Val::Ref(object));
+    if !fits_type(heap, table, rows, ty, word) {
+        return Some(Why::Unfit(i as u64));
+    }
+    let Some(needs) = known_needs(heap, object, table.shape(ty)) else {
         return Some(Why::Unfit(i as u64));
     };
-    if let Some(field) = first_lack(heap, table, rows, pairs, crowd, object, ty, needs) {
+    if let Some(field) = first_lack(heap, table, rows, pairs, crowd, i, object, word, ty, needs) {
         return Some(Why::Need(i as u64, field));
     }
-    if is_mutable(heap, object, table.shape(ty)) && is_elsewhere(table, pairs, i, object, ty) {
+    if is_changing(heap, object, table.shape(ty)) && is_elsewhere(table, pairs, i, object, ty) {
         return Some(Why::TwoTypes(i as u64));
     }
     None

@@ -8,3 +8,4 @@ pub mod HeadLemmas
 pub mod ReadLemmas
 pub mod RunLemmas
 pub mod PutLemmas
+pub mod SinkLemmas

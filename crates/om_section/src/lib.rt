@@ -5,6 +5,7 @@
 mod cuts;
 mod heads;
 mod laws;
+mod lines;
 mod number;
 mod put;
 mod read;

@@ -75,7 +75,12 @@ fn put_verdict(text: &mut Vec<u8>, alloc: Global, section: &Section) -> Result<(
 }
 
 /// Puts the first line of a section.
-fn put_head(text: &mut Vec<u8>, alloc: Global, number: u64, section: &Section) -> Result<(), Memory>
+pub fn put_head(
+    text: &mut Vec<u8>,
+    alloc: Global,
+    number: u64,
+    section: &Section,
+) -> Result<(), Memory>
     ensures { OnOk result
         (text.new.items ≡ text.old.items ++ (head_line number section.now ++ 10 ∷ [])) }
 {

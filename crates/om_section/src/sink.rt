@@ -1,17 +1,24 @@
 //! A section put to a sink.
 
-ghost use Rattle.std.specs.Prelude.{◌≡◌, IsErrOf};
+ghost use Rattle.std.specs.Prelude.{◌≡◌, ◌≤◌, ◌++◌, ◌∷◌, [], IfOk, IsErrOf, OnOk, vec_capacity};
 ghost use Rattle.om_edge.specs.Sink.{Writes};
 ghost use Rattle.om_edge.specs.State.{change};
-ghost use Rattle.om_section.specs.Format.{section_text};
+ghost use Rattle.om_section.specs.Format.{section_text, head_line, pair_lines, text_of};
+ghost use Rattle.om_section.specs.Putting.{PutsFront, PutsAll};
 
-use crate::put::put_section;
+use crate::lines::{append, make_room, put_lines};
+use crate::put::put_head;
 use crate::section::Section;
-use om_edge::{Sink, WriteError, put_all};
+use om_edge::{Failed, Sink, WriteError, put_all};
+use om_model::Memory;
 use std::alloc::Global;
 
-/// Puts the section of a value of this number to a sink. All memory is taken first: after a fault
-/// a proper prefix was put, out of memory nothing.
+/// So many bytes are put at once.
+const BUFFER: usize = 65536;
+
+/// Puts the section of a value of this number to a sink. All memory is taken first, and it is
+/// little, however many pairs there are: after a fault a proper prefix was put, out of memory
+/// nothing.
 pub fn put_cert<K: Sink>(
     alloc: Global,
     number: u64,
@@ -22,8 +29,51 @@ pub fn put_cert<K: Sink>(
         (section_text number section.now) result }
     ensures untouched { IsErrOf result WriteError.Memory → out.new ≡ out.old }
 {
-    let mut text = Vec::new(alloc);
-    put_section(&mut text, alloc, number, section)?;
-    put_all(out, text.as_slice())?;
+    let mut text = begun(alloc, number, section)?;
+    put_begun(&mut text, number, section, out)?;
     Ok(())
+}
+
+/// The first line of a section, with room for a line more.
+fn begun(alloc: Global, number: u64, section: &Section) -> Result<Vec<u8>, Memory>
+    ensures text { IfOk result (λ text. text.items ≡ head_line number section.now ++ 10 ∷ []) }
+    ensures room { IfOk result (λ text. 64 ≤ vec_capacity text) }
+{
+    let mut text = Vec::with_capacity(alloc, BUFFER)?;
+    put_head(&mut text, alloc, number, section)?;
+    text.reserve(64)?;
+    Ok(text)
+}
+
+/// Puts the section of which the text has the first line.
+fn put_begun<K: Sink>(
+    text: &mut Vec<u8>,
+    _number: u64,
+    section: &Section,
+    out: &mut K,
+) -> Result<(), Failed>
+    requires begun { text.old.items ≡ head_line _number section.now ++ 10 ∷ [] }
+    requires room { 64 ≤ vec_capacity text.old }
+    ensures { PutsAll (change (K.state out.old) (K.state out.new))
+        (section_text _number section.now) result }
+{
+    put_body(text, section, out)?;
+    make_room(text, out)?;
+    append(text, b"end\n");
+    put_all(out, text.as_slice())
+}
+
+/// Puts the text and the lines of the section's pairs behind it, if it has such, but for the last
+/// of them, which the text has then.
+fn put_body<K: Sink>(text: &mut Vec<u8>, section: &Section, out: &mut K) -> Result<(), Failed>
+    requires { 64 ≤ vec_capacity text.old }
+    ensures puts { PutsFront (change (K.state out.old) (K.state out.new))
+        (text.old.items ++ text_of (pair_lines section.now)) text.new.items result }
+    ensures room { OnOk result (64 ≤ vec_capacity text.new) }
+{
+    match section {
+        Section::Pairs(pairs) => put_lines(text, pairs.as_slice(), out),
+        Section::Misfit(_) => Ok(()),
+        Section::Clash(_, _) => Ok(()),
+    }
 }

@@ -1,25 +1,50 @@
-use Rattle.std.proofs.Common.{◌∙◌, sym, arith, slice_index_or}
-use Rattle.std.specs.Prelude.{ℕ, Contains}
+use Rattle.std.proofs.Common.{◌∙◌, sym, ap, subst, arith, slice_index_or}
+use Rattle.std.specs.Prelude.{ℕ, Contains, IsSome}
 use Rattle.std.proofs.lemmas.Bool.{false≢true}
 use Rattle.std.proofs.lemmas.Option.{slice_get-get_or}
 use Rattle.om_type_table.specs.Made.{table_of}
-use Rattle.om_types.specs.Table.{table_shapes}
+use Rattle.om_model.specs.declared.value.Val.TheVariants as vals
+use Rattle.om_types.specs.Fitting.{fields_of}
+use Rattle.om_types.specs.Table.{table_shapes, node_or_none}
 use Rattle.om_scan.proofs.NeedLemmas.{never_unfit}
 use Rattle.om_cert.proofs.TestLemmas.{settled, does_fit, not_elsewhere, mutable_is, right_is, unfit_is_first, lack_is_first, two_is_first}
 use Rattle.om_cert.proofs.test.test_pair.Goals as goal
-use Rattle.om_cert.proofs.test.test_pair.Goals.{else-is_mutable-via-then-is_mutable+else-is_elsewhere, else-is_mutable-via-else-is_mutable}
+use Rattle.om_cert.proofs.test.test_pair.Goals.{else-is_changing-via-then-is_changing+else-is_elsewhere, else-is_changing-via-else-is_changing}
 
 pub shape-requires : goal.shape-requires
 shape-requires c = (c.requires.there c.args.i _ (slice_get-get_or c.args.pairs.now c.args.i (0, 0) c.requires.in_range)).1
 
-pub needs_of-requires : goal.needs_of-requires
-needs_of-requires c = (c.requires.there c.args.i _ (slice_get-get_or c.args.pairs.now c.args.i (0, 0) c.requires.in_range)).0
+pub known_needs-requires-clause-object : goal.known_needs-requires-clause-object
+known_needs-requires-clause-object c = (c.requires.there c.args.i _ (slice_get-get_or c.args.pairs.now c.args.i (0, 0) c.requires.in_range)).0
+
+pub fits_type-requires-clause-word : goal.fits_type-requires-clause-word
+fits_type-requires-clause-word c =
+    let pair = slice_index_or c.args.pairs.now c.args.i (0, 0) in
+    (vals.Ref pair.0, (c.requires.there c.args.i _ (slice_get-get_or c.args.pairs.now c.args.i (0, 0) c.requires.in_range)).0, c.word-word.ensures)
+
+pub fits_type-requires-clause-node : goal.fits_type-requires-clause-node
+fits_type-requires-clause-node c = (c.requires.there c.args.i _ (slice_get-get_or c.args.pairs.now c.args.i (0, 0) c.requires.in_range)).1
+
+pub returns-then-not-fits_type : goal.returns-then-not-fits_type
+returns-then-not-fits_type c =
+    let pair = slice_index_or c.args.pairs.now c.args.i (0, 0) in
+    let at_i = slice_get-get_or c.args.pairs.now c.args.i (0, 0) c.requires.in_range in
+    let there = c.requires.there c.args.i _ at_i in
+    unfit_is_first (table_of c.args.table.now) c.args.heap.now c.args.pairs.now c.args.i pair at_i
+    (λ fits. false≢true (sym c.if-not-fits_type.true ∙ (c.fits_type.ensures (vals.Ref pair.0) there.0 c.word-word.ensures).1 fits))
+
+pub known_needs-requires-clause-fits : goal.known_needs-requires-clause-fits
+known_needs-requires-clause-fits c =
+    let pair = slice_index_or c.args.pairs.now c.args.i (0, 0) in
+    let there = c.requires.there c.args.i _ (slice_get-get_or c.args.pairs.now c.args.i (0, 0) c.requires.in_range) in
+    subst IsSome (ap (λ n. fields_of c.args.heap.now (vals.Ref pair.0) (node_or_none n)) c.shape.ensures)
+    ((c.fits_type.ensures (vals.Ref pair.0) there.0 c.word-word.ensures).0 c.if-not-fits_type.false)
 
 pub returns-in_default : goal.returns-in_default
 returns-in_default c =
     let pair = slice_index_or c.args.pairs.now c.args.i (0, 0) in
     unfit_is_first (table_of c.args.table.now) c.args.heap.now c.args.pairs.now c.args.i pair (slice_get-get_or c.args.pairs.now c.args.i (0, 0) c.requires.in_range)
-    (never_unfit (table_of c.args.table.now) c.args.heap.now pair.0 pair.1 c.shape.result.now c.needs_of.result c.shape.ensures c.needs_of.ensures c.in_default.is)
+    (never_unfit (table_of c.args.table.now) c.args.heap.now pair.0 pair.1 c.shape.result.now c.known_needs.result c.shape.ensures c.known_needs.ensures c.in_default.is)
 
 pub first_lack-requires-clause-object : goal.first_lack-requires-clause-object
 first_lack-requires-clause-object c = (c.requires.there c.args.i _ (slice_get-get_or c.args.pairs.now c.args.i (0, 0) c.requires.in_range)).0
@@ -32,14 +57,14 @@ returns-in-Some-first_lack c =
     let pair = slice_index_or c.args.pairs.now c.args.i (0, 0) in
     lack_is_first (table_of c.args.table.now) c.args.heap.now c.args.pairs.now c.args.i pair (slice_get-get_or c.args.pairs.now c.args.i (0, 0) c.requires.in_range)
     c.in-Some-first_lack.field
-    (does_fit (table_of c.args.table.now) c.args.heap.now c.args.pairs.now pair.0 pair.1 c.shape.result.now c.needs_of.result c.in-Some.needs c.shape.ensures c.needs_of.ensures c.in-Some.is)
+    (does_fit (table_of c.args.table.now) c.args.heap.now c.args.pairs.now pair.0 pair.1 c.shape.result.now c.known_needs.result c.in-Some.needs c.shape.ensures c.known_needs.ensures c.in-Some.is)
     c.in-Some-first_lack.ensures
 
 pub shape-requires-2 : goal.shape-requires-2
 shape-requires-2 c = (c.requires.there c.args.i _ (slice_get-get_or c.args.pairs.now c.args.i (0, 0) c.requires.in_range)).1
 
-pub is_mutable-requires : goal.is_mutable-requires
-is_mutable-requires c = (c.requires.there c.args.i _ (slice_get-get_or c.args.pairs.now c.args.i (0, 0) c.requires.in_range)).0
+pub is_changing-requires : goal.is_changing-requires
+is_changing-requires c = (c.requires.there c.args.i _ (slice_get-get_or c.args.pairs.now c.args.i (0, 0) c.requires.in_range)).0
 
 pub is_elsewhere-requires-clause-there : goal.is_elsewhere-requires-clause-there
 is_elsewhere-requires-clause-there c = λ k o t at. let there = (c.requires.there k (o, t) at).1 in omega (arith, there, c.requires.lawful.classed)
@@ -52,8 +77,8 @@ is_elsewhere-requires-clause-settled c =
     let t = table_of c.args.table.now in
     let pair = slice_index_or c.args.pairs.now c.args.i (0, 0) in
     settled t c.args.heap.now c.args.pairs.now c.requires.lawful.lawful c.args.i pair.0 pair.1 c.requires.before (
-      does_fit t c.args.heap.now c.args.pairs.now pair.0 pair.1 c.shape.result.now c.needs_of.result c.in-Some.needs c.shape.ensures c.needs_of.ensures c.in-Some.is,
-      sym (mutable_is t c.args.heap.now c.args.pairs.now pair.0 pair.1 c.shape-2.result.now c.is_mutable.result c.shape-2.ensures c.is_mutable.ensures) ∙ c.if-is_mutable.true,
+      does_fit t c.args.heap.now c.args.pairs.now pair.0 pair.1 c.shape.result.now c.known_needs.result c.in-Some.needs c.shape.ensures c.known_needs.ensures c.in-Some.is,
+      sym (mutable_is t c.args.heap.now c.args.pairs.now pair.0 pair.1 c.shape-2.result.now c.is_changing.result c.shape-2.ensures c.is_changing.ensures) ∙ c.if-is_changing.true,
     )
     (slice_get-get_or c.args.pairs.now c.args.i (0, 0) c.requires.in_range)
 
@@ -61,9 +86,9 @@ pub returns-then-is_elsewhere : goal.returns-then-is_elsewhere
 returns-then-is_elsewhere c =
     let pair = slice_index_or c.args.pairs.now c.args.i (0, 0) in
     two_is_first (table_of c.args.table.now) c.args.heap.now c.args.pairs.now c.args.i pair (slice_get-get_or c.args.pairs.now c.args.i (0, 0) c.requires.in_range)
-    (does_fit (table_of c.args.table.now) c.args.heap.now c.args.pairs.now pair.0 pair.1 c.shape.result.now c.needs_of.result c.in-Some.needs c.shape.ensures c.needs_of.ensures c.in-Some.is)
+    (does_fit (table_of c.args.table.now) c.args.heap.now c.args.pairs.now pair.0 pair.1 c.shape.result.now c.known_needs.result c.in-Some.needs c.shape.ensures c.known_needs.ensures c.in-Some.is)
     c.in_default-first_lack.ensures
-    (sym (mutable_is (table_of c.args.table.now) c.args.heap.now c.args.pairs.now pair.0 pair.1 c.shape-2.result.now c.is_mutable.result c.shape-2.ensures c.is_mutable.ensures) ∙ c.if-is_mutable.true)
+    (sym (mutable_is (table_of c.args.table.now) c.args.heap.now c.args.pairs.now pair.0 pair.1 c.shape-2.result.now c.is_changing.result c.shape-2.ensures c.is_changing.ensures) ∙ c.if-is_changing.true)
     (c.is_elsewhere.ensures.0 c.if-is_elsewhere.true)
 
 pub returns : goal.returns
@@ -71,14 +96,14 @@ returns c =
     let pair = slice_index_or c.args.pairs.now c.args.i (0, 0) in
     let t = table_of c.args.table.now in
     let one_type : (u : ℕ) → Contains c.args.pairs.now (pair.0, u) → (table_shapes t).mutable c.args.heap.now pair.0 pair.1 → (table_shapes t).equal pair.1 u =
-    elim c.else-is_mutable.branch [
-      | else-is_mutable-via-then-is_mutable+else-is_elsewhere w ↦
+    elim c.else-is_changing.branch [
+      | else-is_changing-via-then-is_changing+else-is_elsewhere w ↦
           λ u among mutable. not_elsewhere t c.args.heap.now c.args.pairs.now pair.0 pair.1
           (λ elsewhere. false≢true (sym w.if-is_elsewhere.false ∙ w.is_elsewhere.ensures.1 elsewhere)) u among
-      | else-is_mutable-via-else-is_mutable w ↦
-          λ u among mutable. absurd (false≢true (sym w.if-is_mutable.false
-          ∙ (mutable_is t c.args.heap.now c.args.pairs.now pair.0 pair.1 c.shape-2.result.now c.is_mutable.result c.shape-2.ensures c.is_mutable.ensures ∙ mutable.1)))
+      | else-is_changing-via-else-is_changing w ↦
+          λ u among mutable. absurd (false≢true (sym w.if-is_changing.false
+          ∙ (mutable_is t c.args.heap.now c.args.pairs.now pair.0 pair.1 c.shape-2.result.now c.is_changing.result c.shape-2.ensures c.is_changing.ensures ∙ mutable.1)))
     ] in
     right_is t c.args.heap.now c.args.pairs.now c.args.i pair (slice_get-get_or c.args.pairs.now c.args.i (0, 0) c.requires.in_range)
-    (does_fit t c.args.heap.now c.args.pairs.now pair.0 pair.1 c.shape.result.now c.needs_of.result c.in-Some.needs c.shape.ensures c.needs_of.ensures c.in-Some.is)
+    (does_fit t c.args.heap.now c.args.pairs.now pair.0 pair.1 c.shape.result.now c.known_needs.result c.in-Some.needs c.shape.ensures c.known_needs.ensures c.in-Some.is)
     c.in_default-first_lack.ensures one_type

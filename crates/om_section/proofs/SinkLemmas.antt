@@ -1,0 +1,159 @@
+-- A text that goes to a sink through a buffer.
+use Rattle.std.proofs.Common.{ℕ, suc, ◌≡◌, ◌+◌, ◌<◌, ◌≤◌, ◌∙◌, true, false, List, [], ◌∷◌, ◌++◌, length, take, drop, get_or, Option, Some, None, Result, Ok, Err, refl, sym, ap, subst, arith, append_assoc, append-nil, length-append}
+use Rattle.std.specs.Prelude.{IfSome, IsErr, map, codes}
+use Rattle.std.proofs.lemmas.List.{take-append-le, take-append-drop, take_more, map-append}
+use Rattle.std.proofs.lemmas.Result.{MatchResult-from_err}
+use Rattle.std.proofs.lemmas.List.Concat.{flat_map-append}
+use Rattle.om_edge.specs.State.{ByteState, change}
+use Rattle.om_edge.specs.Faults.{HasCause}
+use Rattle.om_edge.specs.Sink.{Puts, PutsPart, AppendsPart}
+use Rattle.om_section.specs.Format.{pair_line, text_of, head_line, pair_lines, section_text}
+use Rattle.om_section.specs.declared.section.Section.{Section}
+use Rattle.om_section.specs.Putting.{Leaves, PutsFront, PutsAll}
+
+-- ---- puts one after another
+
+appended_twice : (x y z : Option (List ℕ)) (p q : List ℕ) → IfSome x (λ b. y ≡ Some (b ++ p)) → IfSome y (λ b. z ≡ Some (b ++ q)) → IfSome x (λ b. z ≡ Some (b ++ (p ++ q)))
+appended_twice None y z p q first second = tt
+appended_twice (Some b) y z p q first second =
+    let r : z ≡ Some ((b ++ p) ++ q) = subst (λ o. IfSome o (λ b. z ≡ Some (b ++ q))) first second in
+    r ∙ ap Some (append_assoc b p q)
+
+take_over : (p q : List ℕ) (n : ℕ) → take (length p + n) (p ++ q) ≡ p ++ take n q
+take_over [] q n = ap (λ m. take m q) (omega arith)
+take_over (x ∷ p) q n = let place : suc (length p) + n ≡ suc (length p + n) = omega arith in rw place (ap (λ t. x ∷ t) (take_over p q n))
+
+part_after : (x y z : Option (List ℕ)) (p q : List ℕ) → IfSome x (λ b. y ≡ Some (b ++ p)) → IfSome y (λ b. AppendsPart b q z) → IfSome x (λ b. AppendsPart b (p ++ q) z)
+part_after None y z p q first second = tt
+part_after (Some b) y z p q first second =
+    let r : AppendsPart (b ++ p) q z = subst (λ o. IfSome o (λ b. AppendsPart b q z)) first second in
+    let front : take (length p + r.0) (p ++ q) ≡ p ++ take r.0 q = take_over p q r.0 in
+    (length p + r.0, omega (arith, length-append p q, r.1), r.2 ∙ ap Some (append_assoc b p (take r.0 q) ∙ ap (λ t. b ++ t) (sym front)))
+
+part_longer : (x z : Option (List ℕ)) (p q : List ℕ) → IfSome x (λ b. AppendsPart b p z) → IfSome x (λ b. AppendsPart b (p ++ q) z)
+part_longer None z p q part = tt
+part_longer (Some b) z p q part =
+    let few : part.0 ≤ length p = omega (arith, part.1) in
+    let front : take part.0 (p ++ q) ≡ take part.0 p = take-append-le part.0 p q few in
+    (part.0, omega (arith, length-append p q, part.1), part.2 ∙ ap (λ t. Some (b ++ t)) (sym front))
+
+pub puts_puts : (a b c : ByteState) (p q : List ℕ) → Puts (change a b) p → Puts (change b c) q → Puts (change a c) (p ++ q)
+puts_puts a b c p q first second = record {
+  appended = appended_twice a.bytes b.bytes c.bytes p q first.appended second.appended;
+  told = second.told ∙ first.told;
+  cause = subst (λ n. HasCause n c.faults false) first.cause.kept second.cause;
+}
+
+puts_part : (a b c : ByteState) (p q : List ℕ) → Puts (change a b) p → PutsPart (change b c) q → PutsPart (change a c) (p ++ q)
+puts_part a b c p q first second = record {
+  appended = part_after a.bytes b.bytes c.bytes p q first.appended second.appended;
+  told = second.told ∙ first.told;
+  cause = subst (λ n. HasCause n c.faults true) first.cause.kept second.cause;
+}
+
+-- a part of a text is a part of each longer one
+pub part_more : (a c : ByteState) (p q : List ℕ) → PutsPart (change a c) p → PutsPart (change a c) (p ++ q)
+part_more a c p q part = record { appended = part_longer a.bytes c.bytes p q part.appended; told = part.told; cause = part.cause }
+
+-- ---- what a buffer has
+
+starts_at : (x : Option (List ℕ)) → IfSome x (λ b. x ≡ Some (b ++ []))
+starts_at None = tt
+starts_at (Some b) = ap Some (sym (append-nil b))
+
+-- no call was made
+pub leaves_all : (s : ByteState) (text : List ℕ) → Leaves (change s s) text text
+leaves_all s text = record {
+  front = [];
+  whole = refl;
+  put = record {
+    appended = starts_at s.bytes;
+    told = refl;
+    cause = record { never_falls = omega arith; rose = tt; kept = refl; at_last = λ e. e };
+  };
+}
+
+-- all was put
+pub leaves_none : (a b : ByteState) (text rest : List ℕ) → rest ≡ [] → Puts (change a b) text → Leaves (change a b) text rest
+leaves_none a b text rest none put = record {
+  front = text;
+  whole = sym (append-nil text) ∙ ap (λ (r : List ℕ). text ++ r) (sym none);
+  put = put;
+}
+
+module _ (a b c : ByteState) (text rest : List ℕ) (left : Leaves (change a b) text rest) where
+  pub leaves_then : (last : List ℕ) → Leaves (change b c) rest last → Leaves (change a c) text last
+  leaves_then last then = record {
+    front = left.front ++ then.front;
+    whole = left.whole ∙ (ap (λ (r : List ℕ). left.front ++ r) then.whole ∙ sym (append_assoc left.front then.front last));
+    put = puts_puts a b c left.front then.front left.put then.put;
+  }
+
+  pub part_then : PutsPart (change b c) rest → PutsPart (change a c) text
+  part_then part =
+      subst (λ (t : List ℕ). PutsPart (change a c) t) (sym left.whole) (puts_part a b c left.front rest left.put part)
+
+  pub puts_then : Puts (change b c) rest → Puts (change a c) text
+  puts_then put =
+      subst (λ (t : List ℕ). Puts (change a c) t) (sym left.whole) (puts_puts a b c left.front rest left.put put)
+
+pub leaves_more : (a b : ByteState) (text rest more longer : List ℕ) → Leaves (change a b) text rest → longer ≡ rest ++ more
+    → Leaves (change a b) (text ++ more) longer
+leaves_more a b text rest more longer left is = record {
+  front = left.front;
+  whole = ap (λ (t : List ℕ). t ++ more) left.whole
+      ∙ (append_assoc left.front rest more ∙ ap (λ (r : List ℕ). left.front ++ r) (sym is));
+  put = left.put;
+}
+
+-- where a call failed
+pub front_fails : {A E : Type 0} (a b : ByteState) (text rest : List ℕ) (result : Result A E) → IsErr result → PutsPart (change a b) text
+    → PutsFront (change a b) text rest result
+front_fails a b text rest result is part =
+    MatchResult-from_err result (λ _. Leaves (change a b) text rest) (λ _. PutsPart (change a b) text) is (λ _. part)
+
+pub all_fails : {A E : Type 0} (a b : ByteState) (text : List ℕ) (result : Result A E) → IsErr result → PutsPart (change a b) text
+    → PutsAll (change a b) text result
+all_fails a b text result is part = MatchResult-from_err result (λ _. Puts (change a b) text) (λ _. PutsPart (change a b) text) is (λ _. part)
+
+-- what is put of the rest is what is put of the text
+pub all_then : {A E : Type 0} (a b c : ByteState) (text rest : List ℕ) (result : Result A E) → Leaves (change a b) text rest
+    → PutsAll (change b c) rest result → PutsAll (change a c) text result
+all_then a b c text rest (Ok done) left all = puts_then a b c text rest left all
+all_then a b c text rest (Err failed) left all = part_then a b c text rest left all
+
+-- ---- lines of pairs
+
+abbrev lines_of : List (ℕ × ℕ) → List ℕ
+lines_of pairs = text_of (map pair_line pairs)
+
+lines_both : (one other : List (ℕ × ℕ)) → lines_of (one ++ other) ≡ lines_of one ++ lines_of other
+lines_both one other =
+    ap text_of (map-append pair_line one other) ∙ flat_map-append (λ (l : List ℕ). l ++ 10 ∷ []) (map pair_line one) (map pair_line other)
+
+pub lines_more :
+    (text : List ℕ) (pairs : List (ℕ × ℕ)) (i : ℕ) (d : ℕ × ℕ) → i < length pairs
+    → (text ++ lines_of (take i pairs)) ++ (pair_line (get_or pairs i d) ++ 10 ∷ []) ≡ text ++ lines_of (take (i + 1) pairs)
+lines_more text pairs i d inside =
+    append_assoc text (lines_of (take i pairs)) (pair_line (get_or pairs i d) ++ 10 ∷ [])
+    ∙ ap (λ (t : List ℕ). text ++ t)
+    (ap (λ (t : List ℕ). lines_of (take i pairs) ++ t) (sym (append-nil (pair_line (get_or pairs i d) ++ 10 ∷ [])))
+    ∙ (sym (lines_both (take i pairs) (get_or pairs i d ∷ [])) ∙ ap lines_of (sym (take_more pairs i d inside))))
+
+-- a part of the first lines is one of all
+pub part_of_lines : (a b : ByteState) (text : List ℕ) (pairs : List (ℕ × ℕ)) (i : ℕ) → PutsPart (change a b) (text ++ lines_of (take i pairs))
+    → PutsPart (change a b) (text ++ lines_of pairs)
+part_of_lines a b text pairs i part =
+    subst (λ (t : List ℕ). PutsPart (change a b) t)
+    (append_assoc text (lines_of (take i pairs)) (lines_of (drop i pairs))
+    ∙ ap (λ (t : List ℕ). text ++ t) (sym (lines_both (take i pairs) (drop i pairs)) ∙ ap lines_of (take-append-drop i pairs)))
+    (part_more a b (text ++ lines_of (take i pairs)) (lines_of (drop i pairs)) part)
+
+-- a section is its first line, the lines of its pairs, and the last one
+pub whole_text : (k : ℕ) (section : Section) (text : List ℕ) → text ≡ head_line k section ++ 10 ∷ []
+    → (text ++ text_of (pair_lines section)) ++ codes "end\n" ≡ section_text k section
+whole_text k section text is =
+    append_assoc text (text_of (pair_lines section)) (codes "end\n")
+    ∙ (ap (λ (t : List ℕ). t ++ (text_of (pair_lines section) ++ codes "end\n")) is
+    ∙ ap (λ (t : List ℕ). (head_line k section ++ 10 ∷ []) ++ t)
+    (sym (flat_map-append (λ (l : List ℕ). l ++ 10 ∷ []) (pair_lines section) (codes "end" ∷ []))))

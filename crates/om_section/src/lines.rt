@@ -1,0 +1,81 @@
+//! The lines of pairs, put to a sink through a buffer, so that no memory holds them all.
+
+ghost use Rattle.std.specs.Prelude.{◌≡◌, ◌+◌, ◌≤◌, ◌++◌, ◌∷◌, [], length, map, decimal, OnOk, vec_len, vec_capacity};
+ghost use Rattle.om_edge.specs.State.{change};
+ghost use Rattle.om_section.specs.Format.{pair_line, text_of};
+ghost use Rattle.om_section.specs.Putting.{PutsFront};
+
+use itoa::Buffer;
+use om_edge::{Failed, Sink, put_all};
+
+/// Puts bytes at the end, for which there is room.
+#[inline(always)]
+pub fn append(text: &mut Vec<u8>, bytes: &[u8])
+    requires { vec_len text.old + length bytes.now ≤ vec_capacity text.old }
+    ensures text { text.new.items ≡ text.old.items ++ bytes.now }
+    ensures len { vec_len text.new ≡ vec_len text.old + length bytes.now }
+    ensures room { vec_capacity text.old ≤ vec_capacity text.new }
+{
+    text.extend_from_slice(bytes).unwrap();
+}
+
+/// Puts a number at the end, for which there is room.
+#[inline(always)]
+fn append_number(text: &mut Vec<u8>, n: u64)
+    requires { vec_len text.old + 20 ≤ vec_capacity text.old }
+    ensures text { text.new.items ≡ text.old.items ++ decimal n }
+    ensures len { vec_len text.new ≤ vec_len text.old + 20 }
+    ensures room { vec_capacity text.old ≤ vec_capacity text.new }
+{
+    append(text, Buffer::new().format(n).as_bytes());
+}
+
+/// Puts the line of a pair at the end, for which there is room.
+#[inline(always)]
+fn append_pair(text: &mut Vec<u8>, object: u64, ty: u64)
+    requires { vec_len text.old + 64 ≤ vec_capacity text.old }
+    ensures text { text.new.items ≡ text.old.items ++ (pair_line (object, ty) ++ 10 ∷ []) }
+    ensures room { vec_capacity text.old ≤ vec_capacity text.new }
+{
+    append(text, b"pair ");
+    append_number(text, object);
+    append(text, b" ");
+    append_number(text, ty);
+    append(text, b"\n");
+}
+
+/// Puts the text where it has no room for a line more.
+#[inline(always)]
+pub fn make_room<K: Sink>(text: &mut Vec<u8>, out: &mut K) -> Result<(), Failed>
+    requires { 64 ≤ vec_capacity text.old }
+    ensures puts { PutsFront (change (K.state out.old) (K.state out.new)) text.old.items
+        text.new.items result }
+    ensures room { OnOk result (vec_len text.new + 64 ≤ vec_capacity text.new) }
+{
+    if text.capacity() - text.len() >= 64 {
+        return Ok(());
+    }
+    put_all(out, text.as_slice())?;
+    text.clear();
+    Ok(())
+}
+
+/// Puts the text and the lines of pairs behind it, but for the last of them, which the text has
+/// then.
+pub fn put_lines<K: Sink>(
+    text: &mut Vec<u8>,
+    pairs: &[(u64, u64)],
+    out: &mut K,
+) -> Result<(), Failed>
+    requires { 64 ≤ vec_capacity text.old }
+    ensures puts { PutsFront (change (K.state out.old) (K.state out.new))
+        (text.old.items ++ text_of (map pair_line pairs.now)) text.new.items result }
+    ensures room { OnOk result (64 ≤ vec_capacity text.new) }
+{
+    for i in 0..pairs.len() {
+        make_room(text, out)?;
+        let (object, ty) = pairs[i];
+        append_pair(text, object, ty);
+    }
+    Ok(())
+}
