@@ -1,5 +1,5 @@
 -- From a pass to a front.
-use Rattle.std.proofs.Common.{ℕ, suc, ◌+◌, ◌<◌, ◌≤◌, ◌^◌, ◌≡◌, ◌∙◌, List, [], ◌∷◌, ◌++◌, length, drop, map, Option, refl, sym, ap, subst, subst₂, arith}
+use Rattle.std.proofs.Common.{ℕ, ◌+◌, ◌<◌, ◌≤◌, ◌^◌, ◌≡◌, ◌∙◌, List, ◌++◌, length, drop, map, Option, sym, ap, subst, subst₂, arith}
 use Rattle.std.specs.List.{concat}
 use Rattle.std.proofs.lemmas.List.{append_assoc, length-append, length-take-le, take-append-drop}
 use Rattle.om_model.specs.declared.header.Head.{Head}
@@ -13,16 +13,10 @@ use Rattle.om_format.proofs.SpellValues.{raw_measures-spelled}
 use Rattle.om_cut.specs.Cut.{HasRoom}
 use Rattle.om_cut.specs.Laws.{IsUnderway}
 use Rattle.om_cut.proofs.FrontLemmas.{underway_is_front}
-use Rattle.om_pass_law.specs.Asked.{Need, of_type, hash_of}
+use Rattle.om_pass_law.specs.Asked.{Need, values_in}
 use Rattle.om_pass_law.specs.OnePass.{IsPassing}
-use Rattle.om_pass_law.proofs.BlockLemmas.{fields_in}
 use Rattle.om_pass_law.proofs.EndLemmas.{passed_many, passed_open}
-use Rattle.om_glance.specs.Laws.{values_in, HasRoomAt, PassingIsFront}
-
-values_are_fields : (needs : List Need) → fields_in needs ≡ values_in needs
-values_are_fields [] = refl
-values_are_fields (of_type t ∷ needs) = ap suc (values_are_fields needs)
-values_are_fields (hash_of tags ∷ needs) = ap (λ n. suc (suc n)) (values_are_fields needs)
+use Rattle.om_glance.specs.Laws.{HasRoomAt, PassingIsFront}
 
 -- where tokens of these measures stand
 abbrev place_at : Head → ℕ → ℕ → List (Option Measure) → Context
@@ -52,7 +46,7 @@ module _ (noted : List (ℕ × ℕ)) (table : Table) (limit : ℕ) (bytes : List
 
   room_there : (long few32 few64 : ℕ) → HasRoomAt head start n tokens needs long few32 few64 → HasRoom (context p.header p.pieces) long few32 few64
   room_there long few32 few64 r =
-      let many : pending (map measure_of tokens) ≡ values_in needs = passed_many noted table tokens types needs p.passed ∙ values_are_fields needs in
+      let many : pending (map measure_of tokens) ≡ values_in needs = passed_many noted table tokens types needs p.passed in
       let o = r.open_before in
       let room' = r.room in
       let here : HasRoom (place_at head (length p.header) (length (concat p.pieces)) (map measure_of tokens)) long few32 few64 = record {

@@ -1,19 +1,13 @@
 -- Bytes that were passed up to a part of a token are a front of a value.
-use Rattle.std.specs.Prelude.{ℕ, suc, ◌+◌, ◌<◌, ◌≤◌, ◌≡◌, false, List, [], ◌∷◌, drop, map}
+use Rattle.std.specs.Prelude.{ℕ, ◌+◌, ◌<◌, ◌≤◌, ◌≡◌, false, List, drop, map}
 use Rattle.om_model.specs.declared.header.Head.{Head}
 use Rattle.om_types.specs.Table.{Table}
 use Rattle.om_format.specs.Front.{IsFront}
 use Rattle.om_format.specs.Token.{Token, measure_of}
 use Rattle.om_format.specs.Words.{all_words32, all_words64}
 use Rattle.om_cut.specs.Cut.{IsCut}
-use Rattle.om_pass_law.specs.Asked.{Need, of_type, hash_of}
+use Rattle.om_pass_law.specs.Asked.{Need, values_in}
 use Rattle.om_pass_law.specs.OnePass.{IsPassing}
-
--- the values to come that fill the open places: a hash, and then its argument, fill one
-abbrev pub values_in : List Need → ℕ
-values_in [] = 0
-values_in (of_type t ∷ needs) = suc (values_in needs)
-values_in (hash_of tags ∷ needs) = suc (suc (values_in needs))
 
 -- after n bytes a value is to come, and the header has room for a token of so many bytes, for a
 -- byte of each other value to come, and for so many words

@@ -1,8 +1,10 @@
 -- Open places, block by block.
-use Rattle.std.proofs.Common.{ℕ, zero, suc, ◌-◌, ◌<◌, ◌≡◌, ◌∙◌, List, [], ◌∷◌, ◌++◌, sym, ap, arith}
+use Rattle.std.proofs.Common.{ℕ, zero, suc, ◌+◌, ◌-◌, ◌<◌, ◌≡◌, ◌∙◌, List, [], ◌∷◌, ◌++◌, length, drop, drop-cons, get_or, sym, ap, arith}
 use Rattle.std.specs.Prelude.{map, replicate}
-use Rattle.std.proofs.lemmas.List.{append_assoc, append-nil}
-use Rattle.om_pass_law.specs.Asked.{of_type}
+use Rattle.std.proofs.lemmas.List.{append_assoc, append-nil, length-replicate}
+use Rattle.om_pass_law.specs.Asked.{of_type, values_in}
+use Rattle.om_pass_law.proofs.BlockLemmas.{values_of_types}
+use Rattle.om_pass_law.proofs.EndLemmas.{values_in-append}
 use Rattle.om_pass.specs.declared.places.Open.{Open}
 use Rattle.om_pass.specs.Places.{open_needs, waiting_needs}
 
@@ -15,3 +17,19 @@ waiting_needs_push (first ∷ waiting) last =
 pub replicate-first : (n t : ℕ) → 0 < n → map of_type (replicate n t) ≡ of_type t ∷ map of_type (replicate (n - 1) t)
 replicate-first zero t some = absurd (omega arith)
 replicate-first (suc n) t some = let less : n ≡ suc n - 1 = omega arith in ap (λ m. of_type t ∷ map of_type (replicate m t)) less
+
+-- ---- how many values are to come
+
+pub values_each : (n t : ℕ) → values_in (map of_type (replicate n t)) ≡ n
+values_each n t = values_of_types (replicate n t) ∙ length-replicate n t
+
+-- one block less is to be counted
+pub values_less :
+    (waiting : List Open) (at n : ℕ) (default : Open) → at < length waiting → n ≡ values_in (open_needs (get_or waiting at default))
+    → values_in (waiting_needs (drop at waiting)) ≡ values_in (waiting_needs (drop (at + 1) waiting)) + n
+values_less waiting at n default short same =
+    let next : suc at ≡ at + 1 = omega arith in
+    let split : drop at waiting ≡ get_or waiting at default ∷ drop (at + 1) waiting = drop-cons waiting at default short ∙ ap (λ k. get_or waiting at default ∷ drop k waiting) next in
+    ap (λ blocks. values_in (waiting_needs blocks)) split
+    ∙ (values_in-append (waiting_needs (drop (at + 1) waiting)) (open_needs (get_or waiting at default))
+    ∙ ap (λ m. values_in (waiting_needs (drop (at + 1) waiting)) + m) (sym same))

@@ -3,7 +3,7 @@ use Rattle.std.proofs.Common.{ℕ, ◌+◌, ◌-◌, ◌^◌, ◌≤◌, ◌≡�
 use Rattle.std.specs.Prelude.{if◌then◌else◌, ◌==◌, Contains}
 use Rattle.std.proofs.lemmas.List.Elements.{Contains-append_left, Contains-append_right, Contains-append_cases}
 use Rattle.om_model.proofs.Options.{Contains-first, Contains-none, Contains-cases}
-use Rattle.std.proofs.lemmas.List.{length-take-le, length-append, length-drop, map-append, append-nil}
+use Rattle.std.proofs.lemmas.List.{length-take-le, length-append, length-drop, map-append, append-nil, take-append-le}
 use Rattle.std.specs.List.{concat}
 use Rattle.std.proofs.lemmas.List.Sums.{sum_by_push}
 use Rattle.om_model.specs.declared.header.Head.{Head}
@@ -225,3 +225,61 @@ leads_end table limit bytes head start n marks state last lawful l none types wo
       count = subst (λ ts. (head.objects ≡ 0) ⊎ (head.objects ≡ length ts)) types spent.count;
     })
     (λ o t among. (l.are_noted o t among).1)
+
+-- ---- a cut
+
+-- where the place that is open asks again
+pub leads_again :
+    (table : Table) (limit : ℕ) (bytes : List ℕ) (head : Head) (start n : ℕ) (marks : List ℕ) (first middle last : State) (need : Need) → Leads table limit bytes head start n marks first
+    → types_in middle ≡ types_in first → needs_in first ≡ need ∷ needs_in middle → middle.words ≡ first.words
+    → types_in last ≡ types_in middle → needs_in last ≡ need ∷ needs_in middle → last.words ≡ middle.words → Leads table limit bytes head start n marks last
+leads_again table limit bytes head start n marks first middle last need l types needs words types' needs' words' =
+    let same_types : types_in first ≡ types_in last = sym types ∙ sym types' in
+    let same_words : last.words ≡ first.words = words' ∙ words in
+    record {
+      tokens = l.tokens;
+      noted = l.noted;
+      passing = subst₂ (IsPassing l.noted table limit bytes head start n l.tokens) same_types (needs ∙ sym needs') l.passing;
+      w32 = subst (λ (w : Words). w.w32 + all_words32 (map measure_of l.tokens) ≡ stated32 head) (sym same_words) l.w32;
+      w64 = subst (λ (w : Words). w.w64 + all_words64 (map measure_of l.tokens) ≡ head.w64) (sym same_words) l.w64;
+      are_noted = subst (λ ts. AreNoted table ts l.noted l.tokens) same_types l.are_noted;
+      are_marks = l.are_marks;
+    }
+
+-- a value is to come
+pub some_need : (needs : List Need) (need : Need) (others : List Need) → needs ≡ need ∷ others → 0 < length needs
+some_need needs need others same = let size : length needs ≡ length (need ∷ others) = ap length same in omega (arith, size)
+
+-- ---- more bytes
+
+pub leads_longer :
+    (table : Table) (limit : ℕ) (bytes more : List ℕ) (head : Head) (start n : ℕ) (marks : List ℕ) (state : State) → Leads table limit bytes head start n marks state → Leads table limit (bytes ++ more) head start n marks state
+leads_longer table limit bytes more head start n marks state l =
+    let p = l.passing in
+    let within' = p.within in
+    let long = length-append bytes more in
+    let same : take n bytes ≡ take n (bytes ++ more) = sym (take-append-le n bytes more within') in
+    record {
+      tokens = l.tokens;
+      noted = l.noted;
+      passing = record {
+        header = p.header;
+        pieces = p.pieces;
+        within = omega (arith, within', long);
+        is_header = p.is_header;
+        head_is = p.head_is;
+        begins = p.begins;
+        taken = sym same ∙ p.taken;
+        spells = p.spells;
+        refer_back = p.refer_back;
+        made = p.made;
+        unshared = p.unshared;
+        passed = p.passed;
+        words = p.words;
+        small = p.small;
+      };
+      w32 = l.w32;
+      w64 = l.w64;
+      are_noted = l.are_noted;
+      are_marks = subst (λ front. AreMarks front marks l.tokens) same l.are_marks;
+    }

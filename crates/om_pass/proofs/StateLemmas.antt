@@ -1,5 +1,5 @@
 -- What each token changes.
-use Rattle.std.proofs.Common.{ℕ, ℤ, ◌≤◌, ◌≡◌, ◌∙◌, ◌+◌, ◌++◌, List, [], ◌∷◌, length, Some, refl, sym, ap, subst, arith}
+use Rattle.std.proofs.Common.{ℕ, ℤ, ◌≡◌, ◌∙◌, ◌+◌, ◌++◌, List, [], ◌∷◌, Some, refl, sym, ap, arith}
 use Rattle.std.specs.Prelude.{IsTrue}
 use Rattle.std.proofs.lemmas.List.{append-nil}
 use Rattle.om_types.specs.declared.shape.PolyTag.{PolyTag}
@@ -10,9 +10,6 @@ use Rattle.om_pass_law.specs.Asked.{Need, of_type, hash_of, shape_at, block_need
 use Rattle.om_pass.specs.declared.state.State.{State}
 use Rattle.om_pass.specs.State.{types_in, needs_in, Took}
 use Rattle.om_pass.specs.declared.words.Words.{Words}
-use Rattle.om_pass.specs.declared.places.Asked.{Asked}
-use Rattle.om_pass.specs.declared.places.Asked.TheVariants as places
-use Rattle.om_pass.specs.Places.{need_of}
 
 module _ (table : Table) (state : State) where
   pub took_integer : (t : ℕ) (z : ℤ) → IsTrue (fits_int (shape_at table t) z) → Took table state state (of_type t) (integer z)

@@ -18,11 +18,14 @@ use Rattle.om_format.specs.Tree.{RefersBack}
 use Rattle.om_format.specs.Spelled.{IsNoReference}
 use Rattle.om_pass_law.specs.Asked.{Need, of_type, Asks, type_in}
 use Rattle.om_pass_law.specs.Noted.{IsFlatNoted}
-use Rattle.om_pass_law.specs.OnePass.{IsPassing}
+use Rattle.om_pass_law.specs.OnePass.{IsPassing, IsTypedFront}
 use Rattle.om_pass.specs.declared.words.Words.{Words}
 use Rattle.om_pass.specs.declared.state.State.{State}
 use Rattle.om_pass.specs.declared.step.Answer.{Answer}
 use Rattle.om_pass.specs.declared.step.Answer.TheVariants as answers
+use Rattle.om_pass.specs.declared.whole.Stop.{Stop}
+use Rattle.om_pass.specs.declared.whole.Stop.TheVariants as stops
+use Rattle.om_pass.specs.declared.passing.Passing.{Passing}
 use Rattle.om_pass.specs.Again.{AreMarks, IsReference, IsKnown}
 use Rattle.om_pass.specs.Places.{places_needs}
 
@@ -158,3 +161,24 @@ pub record IsSpent (head : Head) (start n : ℕ) (state : State) : Type 0 where
   pub w32 : head.big ≡ false → state.words.w32 ≡ 0
   pub w64 : state.words.w64 ≡ 0
   pub count : (head.objects ≡ 0) ⊎ (head.objects ≡ length (types_in state))
+
+-- where tokens were taken up to: the end of a typed value; or so many bytes lead to here, and a
+-- value is to come
+abbrev pub StopsAt : Table → ℕ → List ℕ → Head → ℕ → List ℕ → State → Stop → Type 0
+StopsAt table limit bytes head start marks state (stops.Typed n) =
+    IsTypedFront table limit n bytes
+StopsAt table limit bytes head start marks state (stops.Cut at) =
+    Leads table limit bytes head start at marks state × (0 < length (needs_in state))
+StopsAt table limit bytes head start marks state stops.Untold = Unit {0}
+
+-- the bytes lead to what is passed of a value
+abbrev pub IsUnderway : Table → ℕ → List ℕ → Passing → Type 0
+IsUnderway table limit bytes p =
+    Leads table limit bytes p.head p.start p.at p.marks.items p.state
+
+-- the same of what is passed
+abbrev pub Stops : Table → ℕ → List ℕ → Passing → Stop → Type 0
+Stops table limit bytes p (stops.Typed n) = IsTypedFront table limit n bytes
+Stops table limit bytes p (stops.Cut at) =
+    IsUnderway table limit bytes p × (p.at ≡ at) × (0 < length (needs_in p.state))
+Stops table limit bytes p stops.Untold = Unit {0}

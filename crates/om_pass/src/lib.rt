@@ -7,6 +7,7 @@ mod back;
 mod fits;
 mod flat;
 mod hot;
+mod passing;
 mod piece;
 mod places;
 mod state;
@@ -14,4 +15,8 @@ mod step;
 mod whole;
 mod words;
 
-pub use whole::pass;
+pub use passing::{Passing, pass};
+pub use places::{Open, Places};
+pub use state::State;
+pub use whole::Stop;
+pub use words::Words;

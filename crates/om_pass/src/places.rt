@@ -1,8 +1,8 @@
 //! The places that are still open, by what each asks for.
 
-ghost use Rattle.std.specs.Prelude.{◌≡◌, ◌∷◌, ◌++◌, [], MatchOption, OnOk};
+ghost use Rattle.std.specs.Prelude.{◌≡◌, ◌≤◌, ◌∷◌, ◌++◌, [], MatchOption, OnOk};
 ghost use Rattle.std.specs.Bool.{OnTrue};
-ghost use Rattle.om_pass_law.specs.Asked.{of_type};
+ghost use Rattle.om_pass_law.specs.Asked.{of_type, values_in};
 ghost use Rattle.om_pass.specs.Places.{open_needs, need_of, waiting_needs, places_needs};
 
 use om_model::Memory;
@@ -63,6 +63,17 @@ pub fn is_done(open: Open<'_>) -> bool
     }
 }
 
+/// How many values are to come in the open places: a hash, and then its argument, fill one.
+fn values_of(block: Open<'_>) -> u64
+    ensures { result ≡ values_in (open_needs block.entry) }
+{
+    match block {
+        Open::Listed(types) => types.len() as u64,
+        Open::Each(count, _) => count,
+        Open::Tagged(_) => 2,
+    }
+}
+
 /// The open places of all blocks: of the innermost, and of those around it that have any.
 #[derive(Drop)]
 pub struct Places<'a> {
@@ -79,6 +90,36 @@ impl<'a> Places<'a> {
             now: Open::Each(1, 0),
             waiting: Vec::new(alloc),
         }
+    }
+
+    /// The place of another value, in the same memory.
+    pub fn restart(&mut self)
+        ensures { places_needs self.new ≡ of_type 0 ∷ [] }
+    {
+        self.waiting.clear();
+        self.now = Open::Each(1, 0);
+    }
+
+    /// Whether no more values are to come in the open places than so many. It gives up where more
+    /// blocks would be looked at than may be, and counts these down.
+    pub fn are_within(&self, most: u64, left: &mut u64) -> bool
+        ensures { OnTrue result (values_in (places_needs self.entry.now) ≤ most) }
+    {
+        let blocks = self.waiting.len() as u64;
+        if *left < blocks {
+            return false;
+        }
+        *left -= blocks;
+        let Some(mut room) = most.checked_sub(values_of(self.now)) else {
+            return false;
+        };
+        'waiting: for block in self.waiting.as_slice() {
+            let Some(less) = room.checked_sub(values_of(*block)) else {
+                return false;
+            };
+            room = less;
+        }
+        true
     }
 
     /// The open places of the innermost block wait, if it has any.

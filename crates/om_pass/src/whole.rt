@@ -1,42 +1,30 @@
-//! A whole value.
+//! The tokens of a value, one after another.
 
-ghost use Rattle.std.specs.Prelude.{◌≤◌, ◌<◌, [], length, IfOk, IfSome};
+ghost use Rattle.std.specs.Prelude.{◌≡◌, ◌≤◌, ◌∷◌, [], IfOk, IfSome};
 ghost use Rattle.std.specs.Bool.{OnTrue};
 ghost use Rattle.om_type_table.specs.Made.{table_of, IsLawful};
-ghost use Rattle.om_pass_law.specs.OnePass.{IsTypedFront};
-ghost use Rattle.om_pass.specs.State.{Leads, IsSpent, BeginsAs};
+ghost use Rattle.om_pass.specs.Places.{need_of, open_needs};
+ghost use Rattle.om_pass.specs.State.{Leads, IsSpent, BeginsAs, StopsAt};
 
 use crate::back::{mark, turn};
 use crate::hot::hot;
-use crate::places::{Places, first_place};
+use crate::piece::piece_len;
+use crate::places::{Asked, Open, first_place};
 use crate::state::State;
-use crate::words::Words;
+use om_codes::code_kind;
 use om_headers::{HeaderStep, parse};
 use om_model::Memory;
 use om_model::header::Head;
 use om_type_table::TypeTable;
-use std::alloc::Global;
 
 /// What the header states, if it is whole and states no more words and data than may be.
-fn head_of(bytes: &[u8], limit: u64) -> Option<Head>
+pub fn head_of(bytes: &[u8], limit: u64) -> Option<Head>
     ensures { IfSome result (λ head. BeginsAs limit bytes.now head) }
 {
     match parse(bytes) {
         Ok(HeaderStep::Head(head)) if head.w64 <= limit && head.length < 1 << 48 => Some(head),
         _ => None,
     }
-}
-
-/// Whether all data bytes that the header states are among so many bytes.
-fn is_there(head: &Head, start: usize, bytes: usize) -> bool {
-    let bytes = bytes as u64;
-    head.length <= bytes && start as u64 <= bytes - head.length
-}
-
-/// Room for the types of the objects: as many as the header states, and no more than the value has
-/// bytes.
-fn room_for(head: &Head) -> usize {
-    head.objects.min(head.length) as usize
 }
 
 /// Whether all came that the header states.
@@ -50,25 +38,59 @@ fn is_spent(head: &Head, start: usize, at: usize, state: &State<'_>) -> bool
         && (head.objects == 0 || head.objects == state.types.len() as u64)
 }
 
-/// Takes token after token to the end of the value: how many bytes there are up to it.
-fn run<'a>(
-    alloc: Global,
+/// Where a pass stopped.
+#[derive(Clone, Copy)]
+pub enum Stop {
+    /// So many bytes are a value of the type.
+    Typed(usize),
+    /// After so many bytes comes a token that is not whole.
+    Cut(usize),
+    /// Nothing is said.
+    Untold,
+}
+
+/// Whether no whole token begins the bytes, though one may be begun.
+#[inline(never)]
+fn is_cut(bytes: &[u8]) -> bool {
+    if bytes.is_empty() {
+        return true;
+    }
+    match code_kind(bytes[0]) {
+        Ok(kind) => piece_len(kind, &bytes[1..]).is_none(),
+        Err(_) => false,
+    }
+}
+
+/// One place that asks for this again.
+fn again(asked: Asked<'_>) -> Open<'_>
+    ensures { open_needs result ≡ need_of asked.entry ∷ [] }
+{
+    match asked {
+        Asked::Type(ty) => Open::Each(1, ty),
+        Asked::Hash(tags) => Open::Tagged(tags),
+    }
+}
+
+/// Takes token after token, from one of the bytes on, to the end of the value or to a token that is
+/// not whole. What may be looked at again is counted down.
+pub fn run<'a>(
     table: &'a TypeTable,
     limit: u64,
     head: &Head,
     start: usize,
+    first: usize,
     state: &mut State<'a>,
+    marks: &mut Vec<usize>,
+    left: &mut u64,
     bytes: &[u8],
-) -> Result<Option<usize>, Memory>
+) -> Result<Stop, Memory>
     requires lawful { IsLawful (table_of table.now) }
-    requires leads { Leads (table_of table.now) limit bytes.now head.now start start [] state.old }
+    requires leads { Leads (table_of table.now) limit bytes.now head.now start first
+        marks.old.items state.old }
     ensures { IfOk result
-        (λ answer. IfSome answer (λ n. IsTypedFront (table_of table.now) limit n bytes.now)) }
+        (StopsAt (table_of table.now) limit bytes.now head.now start marks.new.items state.new) }
 {
-    let mut at = start;
-    let mut marks = Vec::new(alloc);
-    // Tokens are looked at again as often as the value has bytes, whatever comes after it.
-    let mut left = head.length;
+    let mut at = first;
     let mut now = state.places.now;
     let mut words = state.words;
     // Each turn takes a byte, so this ends long before.
@@ -76,9 +98,9 @@ fn run<'a>(
         let Some((asked, others)) = first_place(now, &mut state.places.waiting) else {
             state.words = words;
             if is_spent(head, start, at, state) {
-                return Ok(Some(at));
+                return Ok(Stop::Typed(at));
             }
-            return Ok(None);
+            return Ok(Stop::Untold);
         };
         if let Some((n, next)) = hot(
             table,
@@ -96,52 +118,27 @@ fn run<'a>(
         }
         state.places.now = others;
         state.words = words;
-        mark(&mut marks, at, state.types.len())?;
+        if is_cut(&bytes[at..]) {
+            state.places.open(again(asked))?;
+            return Ok(Stop::Cut(at));
+        }
+        mark(marks, at, state.types.len())?;
         let n = turn(
             table,
             head.objects,
             state,
             asked,
             marks.as_slice(),
-            &mut left,
+            left,
             bytes,
             at,
         )?;
         if n == 0 {
-            return Ok(None);
+            return Ok(Stop::Untold);
         }
         at += n;
         now = state.places.now;
         words = state.words;
     }
-    Ok(None)
-}
-
-/// How many of the bytes are a value of the table's first type, of at most so many words, if one
-/// look at each shows it.
-/// Where it does not, nothing is said; where the value's last bytes are not there, that is at once.
-pub fn pass(
-    alloc: Global,
-    table: &TypeTable,
-    bytes: &[u8],
-    limit: u64,
-) -> Result<Option<usize>, Memory>
-    requires { IsLawful (table_of table.now) }
-    ensures { IfOk result
-        (λ answer. IfSome answer (λ n. IsTypedFront (table_of table.now) limit n bytes.now)) }
-{
-    let Some(head) = head_of(bytes, limit) else {
-        return Ok(None);
-    };
-    let start = if head.big { 32 } else { 20 };
-    if !is_there(&head, start, bytes.len()) {
-        return Ok(None);
-    }
-    let types = Vec::with_capacity(alloc, room_for(&head))?;
-    let mut state = State {
-        places: Places::root(alloc),
-        types,
-        words: Words::stated(&head),
-    };
-    run(alloc, table, limit, &head, start, &mut state, bytes)
+    Ok(Stop::Untold)
 }

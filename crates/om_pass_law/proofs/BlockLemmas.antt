@@ -16,7 +16,7 @@ use Rattle.om_types.specs.declared.shape.ShapeOf.TheVariants as shapes
 use Rattle.om_types.specs.Fitting.{or_none, fields_if, constr_fields, block_fields, tag_fields, argument_field}
 use Rattle.om_types.specs.Table.{Table}
 use Rattle.om_scan.proofs.ScanLemmas.{pair_at}
-use Rattle.om_pass_law.specs.Asked.{Need, of_type, hash_of, shape_at, needs_if, constr_needs, block_needs}
+use Rattle.om_pass_law.specs.Asked.{Need, of_type, hash_of, shape_at, needs_if, constr_needs, block_needs, values_in}
 use Rattle.om_pass_law.specs.Noted.{IsAt, AreAt}
 use Rattle.om_pass_law.proofs.Kernel.{IsGood}
 
@@ -24,31 +24,25 @@ both_true : (a b : Bool) → IsTrue (a && b) → IsTrue a × IsTrue b
 both_true true b h = (refl, h)
 both_true false b h = absurd (false≢true h)
 
--- how many fields these places are: a hash comes before an argument
-abbrev pub fields_in : List Need → ℕ
-fields_in [] = 0
-fields_in (of_type t ∷ needs) = suc (fields_in needs)
-fields_in (hash_of tags ∷ needs) = suc (suc (fields_in needs))
+pub values_of_types : (ts : List ℕ) → values_in (map of_type ts) ≡ length ts
+values_of_types [] = refl
+values_of_types (t ∷ ts) = ap suc (values_of_types ts)
 
-fields_of_types : (ts : List ℕ) → fields_in (map of_type ts) ≡ length ts
-fields_of_types [] = refl
-fields_of_types (t ∷ ts) = ap suc (fields_of_types ts)
-
-fields_if_needed : (test : Bool) (ts : List ℕ) (next : List Need) → needs_if test ts ≡ Some next → IsTrue test × (fields_in next ≡ length ts)
-fields_if_needed true ts next is = (refl, ap fields_in (sym (same_Some (map of_type ts) next is)) ∙ fields_of_types ts)
+fields_if_needed : (test : Bool) (ts : List ℕ) (next : List Need) → needs_if test ts ≡ Some next → IsTrue test × (values_in next ≡ length ts)
+fields_if_needed true ts next is = (refl, ap values_in (sym (same_Some (map of_type ts) next is)) ∙ values_of_types ts)
 fields_if_needed false ts next is = absurd (none-some next is)
 
-constr_many : (o : Option (Constr ℕ)) (size : ℕ) (next : List Need) → constr_needs size o ≡ Some next → fields_in next ≡ size
+constr_many : (o : Option (Constr ℕ)) (size : ℕ) (next : List Need) → constr_needs size o ≡ Some next → values_in next ≡ size
 constr_many None size next is = absurd (none-some next is)
 constr_many (Some constr) size next is =
     let r = fields_if_needed (length constr.fields == size) constr.fields next is in
     r.1 ∙ (Decides-eqb (length constr.fields) size).0 r.0
 
-hash_many : (test : Bool) (tags : List (PolyTag ℕ)) (size : ℕ) (next : List Need) → (IsTrue test → size ≡ 2) → (if test then Some (hash_of tags ∷ []) else None) ≡ Some next → fields_in next ≡ size
-hash_many true tags size next two is = ap fields_in (sym (same_Some (hash_of tags ∷ []) next is)) ∙ sym (two refl)
+hash_many : (test : Bool) (tags : List (PolyTag ℕ)) (size : ℕ) (next : List Need) → (IsTrue test → size ≡ 2) → (if test then Some (hash_of tags ∷ []) else None) ≡ Some next → values_in next ≡ size
+hash_many true tags size next two is = ap values_in (sym (same_Some (hash_of tags ∷ []) next is)) ∙ sym (two refl)
 hash_many false tags size next two is = absurd (none-some next is)
 
-pub needs_many : (shape : ShapeOf ℕ) (tag size : ℕ) (next : List Need) → block_needs shape tag size ≡ Some next → fields_in next ≡ size
+pub needs_many : (shape : ShapeOf ℕ) (tag size : ℕ) (next : List Need) → block_needs shape tag size ≡ Some next → values_in next ≡ size
 needs_many shapes.AnyInt tag size next is = absurd (none-some next is)
 needs_many (shapes.Below k) tag size next is = absurd (none-some next is)
 needs_many (shapes.Bytes mutable) tag size next is = absurd (none-some next is)

@@ -8,39 +8,39 @@ use Rattle.om_format.specs.Tree.{tokens}
 use Rattle.om_format.specs.Preorder.{OpenBefore}
 use Rattle.om_format.proofs.Pending.{pending_push, OpenBefore-append}
 use Rattle.om_format.proofs.Counts.{leaf_fields}
-use Rattle.om_pass_law.specs.Asked.{Need, of_type, hash_of, shape_at, Asks}
+use Rattle.om_pass_law.specs.Asked.{Need, of_type, hash_of, shape_at, values_in, Asks}
 use Rattle.om_pass_law.specs.OnePass.{Passed, start, further}
-use Rattle.om_pass_law.proofs.BlockLemmas.{fields_in, needs_many}
+use Rattle.om_pass_law.proofs.BlockLemmas.{needs_many}
 
 -- ---- the open places are the values to come
 
-fields_in-append : (xs ys : List Need) → fields_in (xs ++ ys) ≡ fields_in xs + fields_in ys
-fields_in-append [] ys = omega arith
-fields_in-append (of_type t ∷ xs) ys = let same = fields_in-append xs ys in omega (arith, same)
-fields_in-append (hash_of tags ∷ xs) ys = let same = fields_in-append xs ys in omega (arith, same)
+pub values_in-append : (xs ys : List Need) → values_in (xs ++ ys) ≡ values_in xs + values_in ys
+values_in-append [] ys = omega arith
+values_in-append (of_type t ∷ xs) ys = let same = values_in-append xs ys in omega (arith, same)
+values_in-append (hash_of tags ∷ xs) ys = let same = values_in-append xs ys in omega (arith, same)
 
 module _ (noted : List (ℕ × ℕ)) (table : Table) where
   -- a token takes a place, and its fields come on top
-  asked_many : (types : List ℕ) (need : Need) (token : Token) (needs next : List Need) → Asks noted table types need token next → fields_in (next ++ needs) + 1 ≡ fields_in (need ∷ needs) + of_object fields (measure_of token)
-  asked_many types (of_type t) (integer z) needs next asks = let is = ap (λ xs. fields_in (xs ++ needs)) asks.1 in omega (arith, is)
-  asked_many types (of_type t) (atom tag) needs next asks = let is = ap (λ xs. fields_in (xs ++ needs)) asks.1 in omega (arith, is)
-  asked_many types (of_type t) (shared offset) needs next asks = let is = ap (λ xs. fields_in (xs ++ needs)) asks.1 in omega (arith, is)
+  asked_many : (types : List ℕ) (need : Need) (token : Token) (needs next : List Need) → Asks noted table types need token next → values_in (next ++ needs) + 1 ≡ values_in (need ∷ needs) + of_object fields (measure_of token)
+  asked_many types (of_type t) (integer z) needs next asks = let is = ap (λ xs. values_in (xs ++ needs)) asks.1 in omega (arith, is)
+  asked_many types (of_type t) (atom tag) needs next asks = let is = ap (λ xs. values_in (xs ++ needs)) asks.1 in omega (arith, is)
+  asked_many types (of_type t) (shared offset) needs next asks = let is = ap (λ xs. values_in (xs ++ needs)) asks.1 in omega (arith, is)
   asked_many types (of_type t) (block tag size) needs next asks =
       let many = needs_many (shape_at table t) tag size next asks in
-      let both = fields_in-append next needs in omega (arith, many, both)
+      let both = values_in-append next needs in omega (arith, many, both)
   asked_many types (of_type t) (leaf object) needs next asks =
-      let is = ap (λ xs. fields_in (xs ++ needs)) asks.1 in let none' = leaf_fields object in omega (arith, is, none')
-  asked_many types (hash_of tags) (integer z) needs next asks = let is = ap (λ xs. fields_in (xs ++ needs)) asks.argument in omega (arith, is)
+      let is = ap (λ xs. values_in (xs ++ needs)) asks.1 in let none' = leaf_fields object in omega (arith, is, none')
+  asked_many types (hash_of tags) (integer z) needs next asks = let is = ap (λ xs. values_in (xs ++ needs)) asks.argument in omega (arith, is)
   asked_many types (hash_of tags) (atom tag) needs next asks = absurd asks
   asked_many types (hash_of tags) (shared offset) needs next asks = absurd asks
   asked_many types (hash_of tags) (block tag size) needs next asks = absurd asks
   asked_many types (hash_of tags) (leaf object) needs next asks = absurd asks
 
-  need_some : (need : Need) (needs : List Need) → 0 < fields_in (need ∷ needs)
+  need_some : (need : Need) (needs : List Need) → 0 < values_in (need ∷ needs)
   need_some (of_type t) needs = omega arith
   need_some (hash_of tags) needs = omega arith
 
-  pub passed_many : (ts : List Token) (types : List ℕ) (needs : List Need) → Passed noted table ts types needs → pending (map measure_of ts) ≡ fields_in needs
+  pub passed_many : (ts : List Token) (types : List ℕ) (needs : List Need) → Passed noted table ts types needs → pending (map measure_of ts) ≡ values_in needs
   passed_many ts types needs start = refl
   passed_many ts types needs (further tokens types' need needs' next token before asks) =
       let earlier = passed_many tokens types' (need ∷ needs') before in

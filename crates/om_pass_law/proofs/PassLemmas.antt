@@ -13,10 +13,10 @@ use Rattle.om_format.specs.Words.{of_object}
 use Rattle.om_format.specs.Token.{Token, integer, atom, shared, block, leaf, IsLeaf, leaf_measure}
 use Rattle.om_format.specs.Tree.{Tree, Forest, node, none, more, trees_in, IsTree, AreTrees, tokens, forest_tokens, root, roots, made, all_made, objects_of, all_objects}
 use Rattle.om_format.proofs.Counts.{leaf_fields, length-roots, length-objects_of}
-use Rattle.om_pass_law.specs.Asked.{Need, of_type, hash_of, shape_at, block_needs, type_in, Passes}
+use Rattle.om_pass_law.specs.Asked.{Need, of_type, hash_of, shape_at, block_needs, type_in, Passes, values_in}
 use Rattle.om_pass_law.specs.Noted.{IsAt, AreAt}
 use Rattle.om_pass_law.proofs.Kernel.{IsGood, AreGood, good_append}
-use Rattle.om_pass_law.proofs.BlockLemmas.{fields_in, needs_many, block_good}
+use Rattle.om_pass_law.proofs.BlockLemmas.{needs_many, block_good}
 
 -- ---- leaves
 
@@ -120,7 +120,7 @@ module _ (table : Table) (all : List ℕ) (noted : List (ℕ × ℕ)) where
     tree_read (node (block tag size) f) t types needs rest is h =
         let at = last_at types t (h.0 ++ needs) (forest_tokens f ++ rest) h.2 in
         let long : length (types ++ t ∷ []) ≡ length types + 1 = length-append types (t ∷ []) in
-        let many' : fields_in h.0 ≡ trees_in f = needs_many (shape_at table t) tag size h.0 h.1 ∙ sym is.1 in
+        let many' : values_in h.0 ≡ trees_in f = needs_many (shape_at table t) tag size h.0 h.1 ∙ sym is.1 in
         let r = forest_read f h.0 (types ++ t ∷ []) needs rest is.2 many' h.2 in
         let values = subst (λ n. AreAt table all noted (roots f n) h.0) long r.values in
         let size_is : size ≡ length (roots f (length types + 1)) = sym is.1 ∙ sym (length-roots f (length types + 1)) in
@@ -141,7 +141,7 @@ module _ (table : Table) (all : List ℕ) (noted : List (ℕ × ℕ)) where
     tree_read (node (shared offset) (more tree f)) t types needs rest is h = absurd (let no' = is.1 in omega (arith, no'))
     tree_read (node (leaf object) (more tree f)) t types needs rest is h = absurd (let no' = is.1 in let leaf' = leaf_fields object in omega (arith, no', leaf'))
 
-    pub forest_read : (f : Forest) (asked : List Need) (types : List ℕ) (needs : List Need) (rest : List Token) → AreTrees f → fields_in asked ≡ trees_in f → Passes noted table types (asked ++ needs) (forest_tokens f ++ rest) all → AreRead (length types) asked f needs rest
+    pub forest_read : (f : Forest) (asked : List Need) (types : List ℕ) (needs : List Need) (rest : List Token) → AreTrees f → values_in asked ≡ trees_in f → Passes noted table types (asked ++ needs) (forest_tokens f ++ rest) all → AreRead (length types) asked f needs rest
     forest_read none [] types needs rest are many h = record { after = types; many = omega arith; values = tt; good = tt; passes = h }
     forest_read none (of_type t ∷ asked) types needs rest are many h = absurd (omega (arith, many))
     forest_read none (hash_of tags ∷ asked) types needs rest are many h = absurd (omega (arith, many))

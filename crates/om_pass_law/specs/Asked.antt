@@ -1,6 +1,6 @@
 -- What the places of a value ask for, told token by token: each object has the type that its first
 -- place asks for.
-use Rattle.std.specs.Prelude.{ℕ, ◌-◌, ◌==◌, ◌≤◌, ◌≡◌, ◌&&◌, Bool, if◌then◌else◌}
+use Rattle.std.specs.Prelude.{ℕ, suc, ◌-◌, ◌==◌, ◌≤◌, ◌≡◌, ◌&&◌, Bool, if◌then◌else◌}
 use Rattle.std.specs.Prelude.{List, [], ◌∷◌, ◌++◌, length, map, replicate, slice_get}
 use Rattle.std.specs.Prelude.{Option, Some, None, IsTrue, IsSome, ℤ, ◌⊎◌, Contains}
 use Rattle.om_types.specs.declared.shape.Constr.{Constr}
@@ -15,6 +15,12 @@ use Rattle.om_format.specs.Token.{Token, integer, atom, shared, block, leaf}
 pub data Need : Type 0 where
   of_type : ℕ → Need
   hash_of : List (PolyTag ℕ) → Need
+
+-- the values to come that fill the open places: a hash, and then its argument, fill one
+abbrev pub values_in : List Need → ℕ
+values_in [] = 0
+values_in (of_type t ∷ needs) = suc (values_in needs)
+values_in (hash_of tags ∷ needs) = suc (suc (values_in needs))
 
 abbrev pub shape_at : Table → ℕ → ShapeOf ℕ
 shape_at table t = node_or_none (slice_get table.nodes t)

@@ -1,11 +1,11 @@
-use Rattle.std.proofs.Common.{rules, ◌≡◌, ◌∙◌, length, refl, ap, subst, arith}
+use Rattle.std.proofs.Common.{rules, ◌≡◌, ◌∙◌, ◌∷◌, ◌++◌, length, refl, ap, subst, arith}
 use Rattle.om_type_table.specs.Made.{table_of}
 use Rattle.om_pass.specs.Places.{need_of}
 use Rattle.om_pass.specs.Hot.{held}
-use Rattle.om_pass.specs.State.{types_in, IsMarked, TookFront, TookTurn}
+use Rattle.om_pass.specs.State.{types_in, needs_in, IsMarked, TookFront, TookTurn}
 use Rattle.om_pass.specs.declared.state.State.{State}
 use Rattle.om_pass.proofs.PieceLemmas.{rest_from}
-use Rattle.om_pass.proofs.RunLemmas.{leads_from, leads_marked, leads_further, leads_turn, leads_end}
+use Rattle.om_pass.proofs.RunLemmas.{leads_from, leads_marked, leads_further, leads_turn, leads_end, leads_again, some_need}
 use Rattle.om_pass.proofs.whole.run.Goals as goal
 
 pub is_spent-requires : goal.is_spent-requires
@@ -36,3 +36,17 @@ tokens-preserved c =
     leads_turn (table_of c.args.table.now) c.args.limit c.args.bytes.now c.args.head.now c.args.start c.tokens.at c.in_ok-n.n c.mark.new.marks.items first middle c.turn.new.state (need_of c.in-Some.asked)
     (leads_marked (table_of c.args.table.now) c.args.limit c.args.bytes.now c.args.head.now c.args.start c.tokens.at c.tokens.marks.items c.mark.new.marks.items first marked c.tokens.invariant)
     refl c.in-Some.ensures refl (subst (λ (s : State). TookTurn (table_of c.args.table.now) c.args.head.now.objects s c.turn.new.state (need_of c.in-Some.asked) c.args.bytes.now c.mark.new.marks.items c.tokens.at c.in_ok-n.n) kept took)
+
+pub returns-then-is_cut : goal.returns-then-is_cut
+returns-then-is_cut c =
+    let first : State = held c.tokens.now c.tokens.state.places.waiting c.tokens.state.types c.tokens.words in
+    let middle : State = held c.in-Some.others c.first_place.new.waiting c.tokens.state.types c.tokens.words in
+    let given : State = held c.in-Some.others c.hot.new.waiting c.hot.new.types c.hot.new.words in
+    let kept : given ≡ middle = c.in_default-hot.ensures in
+    let last : State = record { places = c.open.new.self; types = c.hot.new.types; words = c.hot.new.words } in
+    let needs : needs_in last ≡ need_of c.in-Some.asked ∷ needs_in given = c.in_ok-open.ensures ∙ ap (λ ns. ns ++ needs_in given) c.again.ensures in
+    let same : needs_in last ≡ need_of c.in-Some.asked ∷ needs_in middle = needs ∙ ap (λ (s : State). need_of c.in-Some.asked ∷ needs_in s) kept in (
+      leads_again (table_of c.args.table.now) c.args.limit c.args.bytes.now c.args.head.now c.args.start c.tokens.at c.tokens.marks.items first middle last (need_of c.in-Some.asked) c.tokens.invariant
+          refl c.in-Some.ensures refl (ap (λ (s : State). types_in s) kept) same (ap (λ (s : State). s.words) kept),
+      some_need (needs_in last) (need_of c.in-Some.asked) (needs_in middle) same,
+    )
