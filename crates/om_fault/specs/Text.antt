@@ -22,6 +22,10 @@ text_or_none (Some t) = type_text t
 abbrev pub text_at : TypeTable → ℕ → List ℕ
 text_at table number = text_or_none (slice_get (types_of table) number)
 
+-- a dot and the number
+abbrev pub step_text : ℕ → List ℕ
+step_text step = codes "." ++ decimal step
+
 -- what an object is, by its kind
 abbrev pub text_of_kind : Kind → List ℕ
 text_of_kind (kinds.Block tag size) =

@@ -11,4 +11,4 @@ mod text;
 
 pub use fault::is_fault;
 pub use steps::{step, walk};
-pub use text::fault_text;
+pub use text::{fault_text, put_fault};

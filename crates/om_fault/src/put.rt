@@ -5,7 +5,7 @@ ghost use Rattle.std.specs.Fmt.{signed_decimal};
 ghost use Rattle.om_model.specs.Graph.{IsValue};
 ghost use Rattle.om_model.specs.PathText.{path_text};
 ghost use Rattle.om_types.specs.VerdictText.{kind_text};
-ghost use Rattle.om_fault.specs.Text.{text_of_kind};
+ghost use Rattle.om_fault.specs.Text.{step_text, text_of_kind};
 
 use itoa::Buffer;
 use om_heap::{Heap, Kind};
@@ -13,7 +13,6 @@ use om_model::Memory;
 use om_model::code::Custom;
 use om_model::path::Path;
 use om_model::value::Val;
-use std::alloc::Global;
 
 /// Puts what a value is.
 #[tactic(auto, using(crate::proofs::KindTexts::object_text_by_kind))]
@@ -57,12 +56,25 @@ fn put_object(text: &mut Vec<u8>, kind: Kind) -> Result<(), Memory>
     }
 }
 
-/// Puts a path.
-pub fn put_path(text: &mut Vec<u8>, alloc: Global, path: &Path) -> Result<(), Memory>
+/// Puts a path, without a text of its own.
+pub fn put_path(text: &mut Vec<u8>, path: &Path) -> Result<(), Memory>
     ensures { OnOk result (text.new.items ≡ text.old.items ++ path_text path.now) }
 {
-    let steps = path.text(alloc)?;
-    put(text, steps.as_slice())
+    if path.len() == 0 {
+        return put(text, b".");
+    }
+    for i in 0..path.len() {
+        put_step(text, path.step(i))?;
+    }
+    Ok(())
+}
+
+/// Puts a step of a path.
+fn put_step(text: &mut Vec<u8>, step: u64) -> Result<(), Memory>
+    ensures { OnOk result (text.new.items ≡ text.old.items ++ step_text step) }
+{
+    put(text, b".")?;
+    put_number(text, step)
 }
 
 fn put_number(text: &mut Vec<u8>, n: u64) -> Result<(), Memory>

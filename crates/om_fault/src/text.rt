@@ -20,6 +20,9 @@ use om_type_table::TypeTable;
 use om_types::fault::Fault;
 use std::alloc::Global;
 
+/// Most texts have no more bytes.
+const ROOM: usize = 96;
+
 /// The text of a fault: the paths, the types there, and what was found.
 pub fn fault_text(
     alloc: Global,
@@ -37,14 +40,32 @@ pub fn fault_text(
         (IsFaultText (table_shapes (table_of table.now)) (text_at table.now) heap.now root 0
         fault.now) }
 {
-    let mut text = Vec::new(alloc);
-    match fault {
-        Fault::Misfit(path) => put_misfit(&mut text, alloc, heap, root, table, path)?,
-        Fault::Clash(first, second) => {
-            put_clash(&mut text, alloc, heap, root, table, first, second)?;
-        }
-    }
+    let mut text = Vec::with_capacity(alloc, ROOM)?;
+    put_fault(&mut text, alloc, heap, root, table, fault)?;
     Ok(List::of(text))
+}
+
+/// Puts the text of a fault at the end of another.
+pub fn put_fault(
+    text: &mut Vec<u8>,
+    alloc: Global,
+    heap: &Heap,
+    root: Val,
+    table: &TypeTable,
+    fault: &Fault,
+) -> Result<(), Memory>
+    requires value { IsValue (length heap.now) root }
+    requires lawful { IsLawful (table_of table.now) }
+    requires within { All (λ i. i < length table.now.store) table.now.stored }
+    requires same_length { length table.now.stored ≡ length table.now.nodes }
+    requires fault { IsFault (table_shapes (table_of table.now)) heap.now root 0 fault.now }
+    ensures { OnOk result
+        (PutsFault table.now heap.now root fault.now text.old.items text.new.items) }
+{
+    match fault {
+        Fault::Misfit(path) => put_misfit(text, alloc, heap, root, table, path),
+        Fault::Clash(first, second) => put_clash(text, alloc, heap, root, table, first, second),
+    }
 }
 
 /// Puts where a value does not fit.
@@ -67,7 +88,7 @@ fn put_misfit(
     let Some((found, expected)) = walk(heap, root, table, path) else {
         unreachable!()
     };
-    put_path(text, alloc, path)?;
+    put_path(text, path)?;
     put(text, b": expected ")?;
     put_type(text, alloc, table, expected)?;
     put(text, b", found ")?;
@@ -100,9 +121,9 @@ fn put_clash(
     let Some((_, other)) = walk(heap, root, table, second) else {
         unreachable!()
     };
-    put_path(text, alloc, first)?;
+    put_path(text, first)?;
     put(text, b" and ")?;
-    put_path(text, alloc, second)?;
+    put_path(text, second)?;
     put(text, b": ")?;
     put_type(text, alloc, table, one)?;
     put(text, b" and ")?;

@@ -276,11 +276,11 @@ module _ {A : Type 0} (c : Commands A) (words : List (List ℕ)) (call : Call) (
       -- input is too long
       pub long_comes :
           (said : List Said) → 2 ^ 48 ≤ length bytes
-          → HoldNoStop c a (take (2 ^ 48 + 4095) bytes) said
+          → HoldNoStop c a (take (2 ^ 48 + 65535) bytes) said
           → IsOutside (ending_of all).status ⊎ ((ending_of all).status ≡ statuses.TooLong)
       long_comes said many h = go s.last where
         front : List ℕ
-        front = take (2 ^ 48 + 4095) bytes
+        front = take (2 ^ 48 + 65535) bytes
 
         not_all : taken.until ≡ at_end → ⊥
         not_all e =
@@ -288,11 +288,11 @@ module _ {A : Type 0} (c : Commands A) (words : List (List ℕ)) (call : Call) (
             let few = measured at_end e in omega (arith, size, few, many)
 
         -- what was taken is in front of them
-        in_front : length taken.bytes < 2 ^ 48 + 4096 → (more : List ℕ) × (front ≡ taken.bytes ++ more)
+        in_front : length taken.bytes < 2 ^ 48 + 65536 → (more : List ℕ) × (front ≡ taken.bytes ++ more)
         in_front few = (
-          take (2 ^ 48 + 4095 - length taken.bytes) taken_front.0,
-          ap (λ b. take (2 ^ 48 + 4095) b) taken_front.1.front
-              ∙ take_longer (2 ^ 48 + 4095) taken.bytes taken_front.0 (omega (arith, few)),
+          take (2 ^ 48 + 65535 - length taken.bytes) taken_front.0,
+          ap (λ b. take (2 ^ 48 + 65535) b) taken_front.1.front
+              ∙ take_longer (2 ^ 48 + 65535) taken.bytes taken_front.0 (omega (arith, few)),
         )
 
         no_stop : (u : InputEnd) → taken.until ≡ u → fault_of u ≡ None
@@ -305,7 +305,7 @@ module _ {A : Type 0} (c : Commands A) (words : List (List ℕ)) (call : Call) (
             let there : HoldStop c a front stop =
             subst (λ b. HoldStop c a b stop) (sym more.1)
             (hold_stays c a law taken.bytes more.0 stop held) in
-            let bytes_there : AreBytes front = All-take (λ b. b < 256) (2 ^ 48 + 4095) bytes are_bytes in
+            let bytes_there : AreBytes front = All-take (λ b. b < 256) (2 ^ 48 + 65535) bytes are_bytes in
             hold_or_on c a law front stop bytes_there there h.items said h.rest h.first h.goes_on
 
         closed : (u : InputEnd) → taken.until ≡ u → Closes c a s.items s.rest u all.last

@@ -67,7 +67,7 @@ module _ {A : Type 0} (c : Commands A) (words : List (List ℕ)) where
   IfInputTooLong call = (files : List File) (a : A) (bytes : List ℕ) (said : List Said)
       → call.files.before.map ≡ Some files → Prepares c words (told_files files) (Ok a) → c.Reads a
       → call.input.before.bytes ≡ Some bytes → 2 ^ 48 ≤ length bytes
-      → HoldNoStop c a (take (2 ^ 48 + 4095) bytes) said
+      → HoldNoStop c a (take (2 ^ 48 + 65535) bytes) said
       → (call.status ≡ TooLong) ⊎ IsOutside call.status
 
   -- the files are told, and by what they are one of this name is wanted in the turn

@@ -6,7 +6,7 @@ ghost use Rattle.om_model.specs.Graph.{IsValue};
 ghost use Rattle.om_heap.specs.Heap.{word_of};
 ghost use Rattle.om_read.specs.Build.{building, stack, fill as fill_next_of, AreOpen, WellOpen};
 
-use crate::value::Value;
+use crate::value::{Lent, Value};
 use om_heap::Heap;
 use om_model::Memory;
 use om_model::code::Custom;
@@ -371,6 +371,34 @@ impl Builder {
         let object = self.heap.add_custom(value)?;
         self.fill(Val::Ref(object));
         Ok(())
+    }
+
+    /// Goes back to where nothing is built and no words may come. The memory stays.
+    pub fn restart(&mut self)
+        ensures { self.new ≡ empty 0 }
+    {
+        self.heap.clear();
+        self.inner = OpenBlock {
+            object: 0,
+            next: 0,
+            size: 0,
+            at: 0,
+        };
+        self.outer.clear();
+        self.root = None;
+        self.room = 0;
+    }
+
+    /// The graph, lent, and its root.
+    pub fn lend(&self) -> Lent<'_>
+        requires { IsSome self.now.built.root }
+        ensures heap { result.heap.now ≡ self.now.built.objects }
+        ensures root { self.now.built.root ≡ Some result.root }
+    {
+        Lent {
+            heap: &self.heap,
+            root: self.root.unwrap(),
+        }
     }
 
     /// The graph and its root.

@@ -18,4 +18,4 @@ mod unread;
 mod value;
 
 pub use reader::{Fed, Reader, Truncated};
-pub use value::Value;
+pub use value::{Lent, Value};

@@ -4,7 +4,7 @@ ghost use Rattle.std.specs.Prelude.{◌≡◌, ◌<◌, ℕ, List, [], length, t
 
 use crate::reading::Reading;
 use crate::unread::Unread;
-use crate::value::Value;
+use crate::value::{Lent, Value};
 use om_heap::Heap;
 use om_model::refusal::ReadRefusal;
 use std::alloc::Global;
@@ -42,6 +42,14 @@ impl Pieces {
             reading: Reading::over(alloc, limit, heap),
             part: Vec::new(alloc),
         }
+    }
+
+    /// Goes back to where nothing is read. The memory stays.
+    pub fn restart(&mut self, limit: u64)
+        ensures { LeadsPieces limit [] self.new }
+    {
+        self.reading.restart(limit);
+        self.part.clear();
     }
 
     /// Takes a header or a token of the bytes, or all of them where they are a part of one. No part
@@ -131,6 +139,17 @@ impl Pieces {
             None => part,
             Some(totals) => totals.start + totals.taken + part,
         }
+    }
+
+    /// The value that was read, lent.
+    pub fn lend(&self) -> Lent<'_>
+        requires leads { (limit : ℕ) × (taken : List ℕ) × AreBytes taken
+            × LeadsPieces limit taken self.now }
+        requires whole { IsWhole self.now.reading.totals }
+        ensures heap { result.heap.now ≡ self.now.reading.builder.built.objects }
+        ensures root { self.now.reading.builder.built.root ≡ Some result.root }
+    {
+        self.reading.builder.lend()
     }
 
     /// The value that was read.

@@ -5,7 +5,7 @@ ghost use Rattle.om_model.specs.declared.refusal.ReadRefusal.{ReadRefusal};
 ghost use Rattle.om_read.specs.Reading.{RefusedIn};
 
 use crate::pieces::Pieces;
-use crate::value::Value;
+use crate::value::{Lent, Value};
 use om_heap::Heap;
 use om_model::refusal::ReadRefusal;
 use std::alloc::Global;
@@ -58,6 +58,16 @@ impl Reader {
         }
     }
 
+    /// Goes back to where nothing was taken, to read the next of many values in the same memory.
+    pub fn restart(&mut self, limit: u64)
+        ensures reader { IsReader self.new }
+        ensures leads { Leads limit [] self.new }
+        ensures only { (other : ℕ) (taken : List ℕ) → Leads other taken self.new → taken ≡ [] }
+    {
+        self.pieces.restart(limit);
+        self.refusal = None;
+    }
+
     /// Takes the piece, or the front of it up to the value's last byte (`intern.c`). A reader that
     /// is done takes nothing.
     pub fn feed(&mut self, piece: &[u8]) -> Result<Fed, ReadRefusal>
@@ -92,6 +102,17 @@ impl Reader {
                 Err(refusal)
             }
         }
+    }
+
+    /// The value, once it is complete, lent.
+    pub fn lend(&self) -> Lent<'_>
+        requires reader { IsReader self.now }
+        requires done { IsDone self.now }
+        ensures { (limit : ℕ) (taken : List ℕ) → Leads limit taken self.now
+            → Finishes limit taken
+            (record { heap = result.heap.now; root = result.root }) }
+    {
+        self.pieces.lend()
     }
 
     /// The value, once it is complete.

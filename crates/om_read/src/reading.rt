@@ -39,6 +39,16 @@ impl Reading {
         }
     }
 
+    /// Goes back to where nothing is read. The memory stays.
+    pub fn restart(&mut self, limit: u64)
+        ensures limit { self.new.limit ≡ limit }
+        ensures leads { LeadsAs self.new.totals limit [] self.new.builder [] }
+    {
+        self.limit = limit;
+        self.totals = None;
+        self.builder.restart();
+    }
+
     /// The last token of the value was read.
     pub fn is_done(&self) -> bool
         ensures { IsTrue result ↔ IsWhole self.now.totals }

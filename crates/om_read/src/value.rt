@@ -9,3 +9,10 @@ pub struct Value {
     pub heap: Heap,
     pub root: Val,
 }
+
+/// The same, lent.
+#[derive(Clone, Copy)]
+pub struct Lent<'a> {
+    pub heap: &'a Heap,
+    pub root: Val,
+}

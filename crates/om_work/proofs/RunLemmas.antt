@@ -113,6 +113,18 @@ module _ {A : Type 0} (c : Commands A) (a : A) where
 
   -- ---- with an input
 
+  -- there was no memory to take any of it
+  pub run_without_memory :
+      c.Reads a → (i o : ByteState) → HoldNoStop c a [] []
+      → Runs c a (change i i) (change o o) (Err (halts.Stop codes.Memory))
+  run_without_memory reads i o holds = record {
+    taken = taken [] unasked;
+    gathers = took_nothing i;
+    said = [];
+    first = inl (reads, paced_whole [] [] unasked holds);
+    ends = (inr refl, puts_nothing o);
+  }
+
   module _ (reads : c.Reads a) (has : Has) (count : ℕ) (i j o p : ByteState)
       (s : RunSoFar has count (change i j) (change o p)) where
     few : count < 2 ^ 48 → length s.bytes < 2 ^ 48

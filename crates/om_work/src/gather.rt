@@ -11,8 +11,8 @@ use om_edge::{Failed, Sink, put_all};
 use om_stops::stop::{Halt, Stop};
 use std::alloc::Global;
 
-/// Once so many bytes are gathered they are put.
-const GATHERED: usize = 65536;
+/// Once more bytes than that are gathered they are put.
+const GATHERED: usize = 1 << 20;
 
 /// A text in memory.
 #[derive(Drop)]

@@ -1,19 +1,28 @@
 //! The one loop over the input.
 
-ghost use Rattle.std.specs.Prelude.{◌≡◌, []};
+ghost use Rattle.std.specs.Prelude.{◌≡◌, [], length, vec_len, IfOk};
 ghost use Rattle.om_edge.specs.State.{change};
+ghost use Rattle.om_promises.specs.Given.{piece_limit};
 ghost use Rattle.om_work.specs.Runs.{Runs};
 
 use crate::{Work, feed_piece};
 use om_edge::{Sink, Source};
+use om_model::Memory;
 use om_stops::stop::{Halt, Stop};
 use std::alloc::Global;
 
 /// A call on the input is asked for so many bytes.
-pub const PIECE: usize = 4096;
+pub const PIECE: usize = 65536;
 
 /// So many bytes are too many.
 pub const LENGTH_LIMIT: usize = 1 << 48;
+
+/// Memory for the bytes that a call on the input gives.
+fn new_buffer(alloc: Global) -> Result<Vec<u8>, Memory>
+    ensures { IfOk result (λ buffer. vec_len buffer ≡ piece_limit) }
+{
+    Ok(vec![in alloc; 0; PIECE]?)
+}
 
 /// Takes the input piece by piece, from no byte on. What is to be said of the items that end in a
 /// piece is put before the next piece is asked for.
@@ -22,17 +31,18 @@ fn take_pieces<W: Work, S: Source, K: Sink>(
     work: &mut W,
     input: &mut S,
     out: &mut K,
+    buffer: &mut [u8],
 ) -> Result<bool, Halt>
     requires reads { W.commands.Reads (W.act work.old) }
     requires has { W.has work.old [] [] }
+    requires room { length buffer.old ≡ piece_limit }
     ensures { Runs W.commands (W.act work.old) (change (S.state input.old) (S.state input.new))
         (change (K.state out.old) (K.state out.new)) result }
 {
-    let mut buffer = [0; PIECE];
     let mut taken = 0;
     while taken < LENGTH_LIMIT {
         work.laws();
-        let Ok(n) = input.take(&mut buffer) else {
+        let Ok(n) = input.take(buffer) else {
             return Err(Halt::Stop(Stop::ReadFault));
         };
         if n == 0 {
@@ -59,7 +69,11 @@ pub fn run_work<W: Work, S: Source, K: Sink>(
     ensures unread { (W.commands.Reads (W.act work.old) → ⊥) → input.new ≡ input.old }
 {
     if work.reads() {
-        take_pieces(alloc, work, input, out)
+        work.laws();
+        let Ok(mut buffer) = new_buffer(alloc) else {
+            return Err(Halt::Stop(Stop::Memory));
+        };
+        take_pieces(alloc, work, input, out, &mut buffer)
     } else {
         work.end(alloc, out)
     }

@@ -7,8 +7,9 @@ use om_edge::{Failed, Sink, put_all};
 use om_model::Memory;
 use std::alloc::Global;
 
-/// How many bytes are put at once.
-pub const LIMIT: usize = 65536;
+/// How many bytes are put at once: few, since each value has a buffer of its own, and the sink
+/// mostly gathers what is put.
+pub const LIMIT: usize = 1024;
 
 /// An empty buffer.
 pub fn new_buffer(alloc: Global) -> Result<Vec<u8>, Memory>

@@ -8,6 +8,7 @@ use Rattle.om_work.proofs.run.take_pieces.Goals as goal
 
 pub loop-taken-init : goal.loop-taken-init
 loop-taken-init g c = record {
+  room = c.requires.room;
   kept = refl;
   so_far = run_begins (g.W.Work.has c.args.work.now) (g.S.Source.state c.args.input.now) (g.K.Sink.state c.args.out.now) c.requires.has;
 }
@@ -29,12 +30,12 @@ pub returns-then-n-eq0 : goal.returns-then-n-eq0
 returns-then-n-eq0 g c =
     let s = c.loop-taken.invariant.so_far in
     run_ends g.W.Work.commands (g.W.Work.act c.args.work.now) c.requires.reads _ _ _ _ _ _ s (g.S.Source.state c.take.new.self) c.take.new.buf (omega (arith, c.loop-taken-test.true))
-    (g.K.Sink.state c.end.new.out) c.end.result (omega (arith, c.take.auto.buf)) (rw c.if-n-eq0.true at c.in-Ok.ensures)
+    (g.K.Sink.state c.end.new.out) c.end.result (omega (arith, c.take.auto.buf, c.loop-taken.invariant.room)) (rw c.if-n-eq0.true at c.in-Ok.ensures)
     (subst (λ a. EndsAt g.W.Work.commands a (g.W.Work.has c.loop-taken.work) (change (g.K.Sink.state c.loop-taken.out) (g.K.Sink.state c.end.new.out)) c.end.result) c.loop-taken.invariant.kept c.end.ensures)
 
 pub feed_piece-requires-clause-short : goal.feed_piece-requires-clause-short
 feed_piece-requires-clause-short g c =
-    let fits = c.in-Ok.ensures.within in omega (arith, length-take c.in-Ok.n c.take.new.buf, fits, c.take.auto.buf)
+    let fits = c.in-Ok.ensures.within in omega (arith, length-take c.in-Ok.n c.take.new.buf, fits, c.take.auto.buf, c.loop-taken.invariant.room)
 
 pub feed_piece-requires-clause-reads : goal.feed_piece-requires-clause-reads
 feed_piece-requires-clause-reads g c = subst g.W.Work.commands.Reads (sym c.loop-taken.invariant.kept) c.requires.reads
@@ -49,7 +50,7 @@ pub returns-in_err-feed_piece : goal.returns-in_err-feed_piece
 returns-in_err-feed_piece g c =
     let s = c.loop-taken.invariant.so_far in
     run_halts g.W.Work.commands (g.W.Work.act c.args.work.now) c.requires.reads _ _ _ _ _ _ s (g.S.Source.state c.take.new.self) c.take.new.buf (omega (arith, c.loop-taken-test.true))
-    (omega (arith, c.take.auto.buf)) c.in-Ok.n c.in-Ok.ensures.within c.in-Ok.ensures c.in_err-feed_piece.ensures.are_bytes (g.K.Sink.state c.feed_piece.new.out)
+    (omega (arith, c.take.auto.buf, c.loop-taken.invariant.room)) c.in-Ok.n c.in-Ok.ensures.within c.in-Ok.ensures c.in_err-feed_piece.ensures.are_bytes (g.K.Sink.state c.feed_piece.new.out)
     (subst (λ a. ItemsStay g.W.Work.commands a) c.loop-taken.invariant.kept c.laws.ensures.stay)
     (g.W.Work.has c.feed_piece.new.work) c.in_err-feed_piece.field-0.0 c.from_residual.result c.from_residual.ensures.1
     (subst (λ a. FeedsAll g.W.Work.commands a {U = Unit {0}} (g.W.Work.has c.loop-taken.work) (g.W.Work.has c.feed_piece.new.work) (take c.in-Ok.n c.take.new.buf)
@@ -58,9 +59,10 @@ returns-in_err-feed_piece g c =
 pub loop-taken-preserved : goal.loop-taken-preserved
 loop-taken-preserved g c =
     let s = c.loop-taken.invariant.so_far in record {
+      room = c.take.auto.buf ∙ c.loop-taken.invariant.room;
       kept = c.in_ok-feed_piece.ensures.kept ∙ c.loop-taken.invariant.kept;
       so_far = run_more g.W.Work.commands (g.W.Work.act c.args.work.now) c.requires.reads _ _ _ _ _ _ s (g.S.Source.state c.take.new.self) c.take.new.buf (omega (arith, c.loop-taken-test.true))
-          (omega (arith, c.take.auto.buf)) c.in-Ok.n c.in-Ok.ensures.within c.in-Ok.ensures c.in_ok-feed_piece.ensures.are_bytes (g.K.Sink.state c.feed_piece.new.out)
+          (omega (arith, c.take.auto.buf, c.loop-taken.invariant.room)) c.in-Ok.n c.in-Ok.ensures.within c.in-Ok.ensures c.in_ok-feed_piece.ensures.are_bytes (g.K.Sink.state c.feed_piece.new.out)
           (g.W.Work.has c.feed_piece.new.work)
           (subst (λ a. FeedsAll g.W.Work.commands a {U = Unit {0}} (g.W.Work.has c.loop-taken.work) (g.W.Work.has c.feed_piece.new.work) (take c.in-Ok.n c.take.new.buf)
           (change (g.K.Sink.state c.loop-taken.out) (g.K.Sink.state c.feed_piece.new.out)) (Ok tt)) c.loop-taken.invariant.kept c.in_ok-feed_piece.ensures.feeds);

@@ -1,10 +1,12 @@
-use Rattle.std.proofs.Common.{◌≡◌, ◌-◌, ◌^◌}
+use Rattle.std.proofs.Common.{◌≡◌, ◌-◌, ◌^◌, length}
 use Rattle.om_edge.specs.State.{change}
+use Rattle.om_promises.specs.Given.{piece_limit}
 use Rattle.om_work.proofs.RunLemmas.{RunSoFar}
 use Rattle.om_work.proofs.run.take_pieces.Given as goal
 
 abbrev pub invariant-loop-taken : goal.invariant-loop-taken
 invariant-loop-taken g l = record {
+  room : length l.buffer ≡ piece_limit;
   kept : g.W.Work.act l.work ≡ g.W.Work.act l.initial.work;
   so_far : RunSoFar (g.W.Work.has l.work) l.taken
       (change (g.S.Source.state l.initial.input) (g.S.Source.state l.input)) (change (g.K.Sink.state l.initial.out) (g.K.Sink.state l.out));
