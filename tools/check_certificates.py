@@ -14,6 +14,7 @@ is made here. PROGRAM is by default the one that `./omarshal` built.
 """
 import contextlib
 import io
+import multiprocessing
 import os
 import random
 import re
@@ -84,20 +85,33 @@ def changed(lines, draw):
     return [head] + [f"pair {o} {t}" for o, t in sorted(set(pairs))] + ["end"]
 
 
-def told_by(program, words, stream):
-    """What the program puts on out and on err, and its status."""
-    told = subprocess.run([program, *words], input=stream, capture_output=True)
-    return told.stdout.decode("latin-1"), told.stderr.decode("latin-1"), told.returncode
+class Asked:
+    """A table that is asked of the values of one heap: it keeps its answers."""
+
+    def __init__(self, table):
+        self.table, self.types, self.classes, self.told = table, table.types, table.classes, {}
+
+    def fit(self, value, t, objects):
+        if (value, t) not in self.told:
+            self.told[value, t] = self.table.fit(value, t, objects)
+        return self.told[value, t]
 
 
 class Case:
-    """A value at a type: the words of a call but the certificate, the bytes, the table of the type, and the certificate
-    that is made here."""
+    """A value at a type: the words of a call but the certificate, the bytes, the value, which is read once, the table of
+    the type, and the certificate that is made here."""
 
     def __init__(self, words, stream, table):
-        self.words, self.stream, self.table = words, stream, table
-        lines = made(table, *read_value(Input(stream)))
+        self.words, self.stream, self.table = words, stream, Asked(table)
+        reading = Input(stream)
+        self.value, self.end = read_value(reading), reading.at
+        lines = made(self.table, *self.value)
         self.lines = [f"value 0 {lines[0]}"] + lines[1:] + ["end"]
+
+    def read(self, stream):
+        """The value, as if it was read."""
+        stream.at = self.end
+        return self.value
 
     def by_program(self, program, command, *more):
         """What the program puts on out and on err, and its status."""
@@ -111,7 +125,7 @@ class Case:
         out, err = io.StringIO(), ""
         try:
             with contextlib.redirect_stdout(out):
-                status = verify_certificate.verify(self.table, text.encode("latin-1"), self.stream)
+                status = verify_certificate.verify(self.table, text.encode("latin-1"), self.stream, self.read)
         except verify_certificate.Refused as refusal:
             status, err = refusal.status, f"omarshal: {refusal}\n"
         return self.by_program(program, ["verify"], "certificate"), (out.getvalue(), err, status)
@@ -148,7 +162,8 @@ def written_values(draw):
     table = subprocess.run(["./write_values", "values"], check=True, capture_output=True, text=True).stdout
     values = [line.split("\t") for line in table.splitlines()]
     types = sorted({own for _, own in values})
-    return [(os.path.join("values", file), "shown.ml", [own] + draw.sample(types, 3)) for file, own in values]
+    return [(os.path.abspath(os.path.join("values", file)), os.path.abspath("shown.ml"), [own] + draw.sample(types, 3))
+            for file, own in values]
 
 
 def kept_values(folder):
@@ -167,8 +182,7 @@ def main():
     work = tempfile.mkdtemp()
     try:
         os.chdir(work)
-        draw = random.Random(1)
-        return compare(program, kept_values(folder) if folder else written_values(draw), draw)
+        return compare(program, kept_values(folder) if folder else written_values(random.Random(1)), 1)
     finally:
         shutil.rmtree(work)
 
@@ -183,32 +197,48 @@ def table_of(types, name, known={}):
     return known[types, name]
 
 
-def compare(program, values, draw):
-    passed, failed, written, kinds = 0, 0, 0, {}
-    for path, types, names in values:
-        with open(path, "rb") as file:
-            stream = file.read()
-        for name in names:
-            case = Case([types, name], stream, table_of(types, name))
-            wrong = case.wrong_with_put(program)
-            written += 1
-            if wrong:
-                failed += 1
-                print(f"FAILED: check --cert of {path} at {name} {wrong}")
-            for turn in range(24 if name == names[0] else 4):
-                lines = changed(case.lines, draw) if turn else case.lines
-                got, wanted = case.by_both(program, text_of(lines))
-                kind = re.search("Range|Unfit|Need|TwoTypes|Root|NotFault|Syntax|no section|sections left", wanted[1])
-                kind = kind[0] if kind else wanted[0].split(" ")[0].strip()
-                kinds[kind] = kinds.get(kind, 0) + 1
-                if got == wanted and (turn or got[2] == (0 if lines[0].endswith("yes") else 1)):
-                    passed += 1
-                else:
-                    failed += 1
-                    print(f"FAILED: {path} at {name}, {shortened(text_of(lines))}: says {got}, expected {wanted}")
+def compared(work):
+    """What came of one value: the lines to be printed, how many certificates were put, and how many answers there were of
+    each kind."""
+    program, (path, types, names), seed = work
+    draw, wrong, kinds = random.Random(f"{seed} {path}"), [], {}
+    with open(path, "rb") as file:
+        stream = file.read()
+    for name in names:
+        case = Case([types, name], stream, table_of(types, name))
+        put = case.wrong_with_put(program)
+        if put:
+            wrong.append(f"FAILED: check --cert of {path} at {name} {put}")
+        for turn in range(24 if name == names[0] else 4):
+            lines = changed(case.lines, draw) if turn else case.lines
+            got, wanted = case.by_both(program, text_of(lines))
+            kind = re.search("Range|Unfit|Need|TwoTypes|Root|NotFault|Syntax|no section|sections left", wanted[1])
+            kind = kind[0] if kind else wanted[0].split(" ")[0].strip()
+            kinds[kind] = kinds.get(kind, 0) + 1
+            if got != wanted or not turn and got[2] != (0 if lines[0].endswith("yes") else 1):
+                wrong.append(f"FAILED: {path} at {name}, {shortened(text_of(lines))}: says {got}, expected {wanted}")
+    return wrong, len(names), kinds
+
+
+def own_folder():
+    """A process writes its certificates in a folder of its own."""
+    os.chdir(tempfile.mkdtemp(dir="."))
+
+
+def compare(program, values, seed):
+    """Compares all, in as many processes as there are processors, the largest first."""
+    values.sort(key=lambda value: -os.path.getsize(value[0]))
+    failed, written, kinds = 0, 0, {}
+    with multiprocessing.Pool(initializer=own_folder) as pool:
+        for wrong, put, told in pool.imap_unordered(compared, [(program, value, seed) for value in values]):
+            failed, written = failed + len(wrong), written + put
+            for line in wrong:
+                print(line, flush=True)
+            for kind, count in told.items():
+                kinds[kind] = kinds.get(kind, 0) + count
     print("answers: " + ", ".join(f"{kind} {count}" for kind, count in sorted(kinds.items())))
     print(f"{written} certificates were put by check --cert")
-    print(f"{passed} passed, {failed} failed")
+    print(f"{sum(kinds.values()) + written - failed} passed, {failed} failed")
     return failed != 0
 
 

@@ -116,11 +116,11 @@ def fault_text(table, root, objects, paths):
     return f"{where}: {types} share a mutable object" if in_order and mutable else None
 
 
-def verify(table, certificate, data):
+def verify(table, certificate, data, read=read_value):
     """Puts the line of each value; the answer is 1 where one of them says `no`."""
     sections, stream, status, k = read_sections(certificate), Input(data), 0, 0
     while stream.at < len(data):
-        root, objects = read_value(stream)
+        root, objects = read(stream)
         refuse_if(k == len(sections), f"value {k}: no section", 12)
         if isinstance(sections[k], list):
             text, why = "yes", rejected(table, root, objects, sections[k])

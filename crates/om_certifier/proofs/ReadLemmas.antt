@@ -3,7 +3,6 @@ use Rattle.std.proofs.Common.{◌≡◌, ◌⊎◌, ℕ, zero, suc, ◌+◌, ◌
 use Rattle.std.specs.Prelude.{◌&&◌, IsErrAnd}
 use Rattle.std.proofs.lemmas.List.{length-take-le, take-append-drop}
 use Rattle.om_model.specs.declared.refusal.ReadRefusal.{ReadRefusal}
-use Rattle.om_model.specs.declared.value.Obj.{Obj}
 use Rattle.om_model.specs.declared.value.Val.{Val}
 use Rattle.om_format.specs.Front.{IsFront, IsRefused}
 use Rattle.om_format.specs.Spelled.{SpelledUnder}
@@ -18,7 +17,7 @@ use Rattle.om_read.specs.Reader.{Leads, Feeds, Finishes, EndsInput}
 use Rattle.om_read.proofs.ReadingLemmas.{unless_memory}
 use Rattle.om_type_table.specs.Made.{table_of}
 use Rattle.om_certify.specs.Leasts.{AreLeasts}
-use Rattle.om_edge.specs.Sink.{Puts, PutsPart}
+use Rattle.om_edge.specs.Sink.{Puts}
 use Rattle.om_edge.specs.State.{ByteState, Change, change}
 use Rattle.om_outcome.specs.Outcome as outcome
 use Rattle.om_outcome.specs.Outcome.{Said, nothing_said, out_of_memory, all_well}
@@ -48,17 +47,6 @@ use Rattle.om_certifier.specs.Reading.{certified, IsStopOf, PutsSection, HasRead
 -- a value stays one when bytes follow
 pub values_stay : (r : Requested) (limit : ℕ) → ItemsStay on_certified (certified r limit)
 values_stay r limit = item_stays declared_certificates (certified r limit) declared_types
-
--- a section that out fails to take
-pub put_fails :
-    (t : TypeOver) (number : ℕ) (graph : List Obj) (v : Val) (out : Change ByteState)
-    (text : List ℕ) (well : Bool)
-    → SaysSection t number graph v (record { text = text; well = well }) → PutsPart out text
-    → (result : Result Bool Halt) → IsErrAnd result (λ e. e ≡ halts.WriteFault)
-    → PutsSection t number graph v out result
-put_fails t number graph v out text well says part (Ok fine) is = absurd is
-put_fails t number graph v out text well says part (Err e) is =
-    subst (λ e. PutsSection t number graph v out (Err e)) (sym is) (text, well, says, part)
 
 -- what is said of a value in memory is said of its tree
 said_read :

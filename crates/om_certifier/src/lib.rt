@@ -8,5 +8,5 @@ mod line;
 mod values;
 
 pub use command::certify;
-pub use line::{Line, section_line};
+pub use line::value_section;
 pub use values::Certifying;

@@ -9,14 +9,15 @@ ghost use Rattle.om_edge.specs.State.{change};
 ghost use Rattle.om_declared.specs.Types.{type_over, IsReady};
 ghost use Rattle.om_certifier.specs.Reading.{IsStopOf, HasRead, IsValueRead, PutsSection, PutsNext, certified};
 
-use crate::line::section_line;
+use crate::line::{is_yes, value_section};
 use om_certify::Leasts;
 use om_declared::Requested;
-use om_edge::{Sink, put_all};
+use om_edge::{Sink, WriteError};
 use om_heap::Heap;
 use om_model::refusal::ReadRefusal;
 use om_model::value::Val;
 use om_read::{Reader, Truncated};
+use om_section::put_cert;
 use om_stops::stop::{Halt, Stop};
 use om_work::Work;
 use std::alloc::Global;
@@ -49,9 +50,12 @@ fn put_said<K: Sink>(
     ensures { PutsSection (type_over requested.now) number heap.now root
         (change (K.state out.old) (K.state out.new)) result }
 {
-    let line = section_line(alloc, heap, root, requested, leasts, number)?;
-    put_all(out, line.text.as_slice())?;
-    Ok(line.well)
+    let section = value_section(alloc, heap, root, requested, leasts)?;
+    match put_cert(alloc, number, &section, out) {
+        Ok(()) => Ok(is_yes(&section)),
+        Err(WriteError::Fault) => Err(Halt::WriteFault),
+        Err(WriteError::Memory) => Err(Halt::Stop(Stop::Memory)),
+    }
 }
 
 /// The values so far: how many there are, whether nothing is wrong with any, and the reader of the

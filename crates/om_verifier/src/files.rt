@@ -37,6 +37,18 @@ fn read_sections<'a>(alloc: Global, gathered: &Gathered) -> Result<Cert, Stop<'a
     }
 }
 
+// Gives the memory of what was gathered back, and makes it small first: where a large block is
+// freed, the C library from then on serves such blocks from memory that it keeps, and the heap of
+// the values, which grows from block to block, would leave its former ones there.
+fn give_back(gathered: Gathered) {
+    let Gathered {
+        mut bytes,
+        until: _,
+    } = gathered;
+    bytes.clear();
+    bytes.shrink_to(1);
+}
+
 /// Reads CERT.
 pub fn find_certificate<'a, O: Opener>(
     alloc: Global,
@@ -46,7 +58,11 @@ pub fn find_certificate<'a, O: Opener>(
     ensures { FindsCertificateIn (change (O.state files.old) (O.state files.new)) name.now result }
 {
     match fetch_file(alloc, files, name) {
-        Ok(Fetch::Opened(gathered)) => read_sections(alloc, &gathered),
+        Ok(Fetch::Opened(gathered)) => {
+            let sections = read_sections(alloc, &gathered);
+            give_back(gathered);
+            sections
+        }
         Ok(Fetch::Missing) => Err(Stop::CannotOpen(name)),
         Ok(Fetch::Failed) => Err(Stop::CannotOpen(name)),
         Err(_) => Err(Stop::Memory),

@@ -1,17 +1,19 @@
-use Rattle.std.proofs.Common.{subst}
-use Rattle.om_edge.specs.Sink.{PutsPart}
-use Rattle.om_edge.specs.State.{change}
-use Rattle.om_declared.specs.Types.{type_over}
-use Rattle.om_certifier.proofs.ReadLemmas.{put_fails}
+use Rattle.std.proofs.Common.{refl}
+use Rattle.om_section.specs.Format.{section_text}
+use Rattle.om_certifier.specs.Certified.{is_yes}
+use Rattle.om_certifier.proofs.LineLemmas.{said_of}
 use Rattle.om_certifier.proofs.values.put_said.Goals as goal
 
--- src/values.rt:53:5
-pub returns-in_err-put_all : goal.returns-in_err-put_all
-returns-in_err-put_all g c =
-    put_fails (type_over c.args.requested.now) c.args.number c.args.heap.now c.args.root
-    (change (g.K.Sink.state c.args.out.now) (g.K.Sink.state c.put_all.new.sink))
-    c.in_ok-line.line.text c.in_ok-line.line.well c.in_ok-line.ensures
-    (subst
-    (λ t. PutsPart (change (g.K.Sink.state c.args.out.now) (g.K.Sink.state c.put_all.new.sink)) t)
-    c.as_slice.ensures c.in_err-put_all.ensures.puts)
-    c.from_residual-in_err-put_all.result c.from_residual-in_err-put_all.ensures.1
+pub returns-in-Ok : goal.returns-in-Ok
+returns-in-Ok g c =
+    let section = c.in_ok-section.section in
+    let text = section_text c.args.number section in (
+      text,
+      (section, c.in_ok-section.ensures, said_of c.args.number section text c.is_yes.result refl c.is_yes.ensures),
+      c.in-Ok.ensures.puts,
+    )
+
+pub returns-in-Err-Fault : goal.returns-in-Err-Fault
+returns-in-Err-Fault g c =
+    let section = c.in_ok-section.section in
+    (section_text c.args.number section, is_yes section, (section, c.in_ok-section.ensures, refl), rw c.in-Err-Fault.field-0-is at c.in-Err-Fault.ensures.puts)

@@ -9,7 +9,7 @@ pub returns-in-Ok-Opened : goal.returns-in-Ok-Opened
 returns-in-Ok-Opened g c = (
   opened (taken_of c.in-Ok-Opened.gathered),
   rw c.in-Ok-Opened.field-0-is at c.in-Ok-Opened.ensures,
-  c.read_sections.ensures c.args.name.now,
+  c.read_sections-sections.ensures c.args.name.now,
 )
 
 pub returns-in-Ok-Missing : goal.returns-in-Ok-Missing
