@@ -18,9 +18,11 @@ types_of_cmi --cmt -I +compiler-libs \
     '(string * Types.signature) * Misc.crcs * Cmi_format.pers_flags list' > "$out/cmi.types"
 types_of_cmi --cmt -I +compiler-libs \
     'Cmo_format.compilation_unit * Cmo_format.library' > "$out/cmo.types"
+types_of_cmi --cmt --any -I +compiler-libs Cmt_format.cmt_infos > "$out/cmt.types"
 if [ -f "$(ocamlc -where)/coq-core/vernac/library.cmt" ]; then
-    types_of_cmi --cmt -I +coq-core/vernac -I +coq-core/library -I +coq-core/kernel -I +coq-core/clib -I +coq-core/lib \
-        'Library.seg_sum * Library.seg_univ option * Library.seg_proofs' > "$out/vo.types"
+    types_of_cmi --cmt --any -I +coq-core/vernac -I +coq-core/library -I +coq-core/kernel -I +coq-core/clib \
+        -I +coq-core/lib 'Library.seg_sum * Library.seg_lib * Library.seg_univ option * Library.seg_proofs' \
+        > "$out/vo.types"
 else
     echo "skipped: vo.types, as there is no libcoq-core-ocaml-dev" >&2
 fi

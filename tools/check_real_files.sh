@@ -1,11 +1,12 @@
 #!/bin/sh
 # Checks files that OCaml itself wrote with omarshal, at the type files of examples/: each compiled interface of the
-# standard library and of the compiler, each .cmo, .cma, .cmx and .cmxa there, and a map, a set, a hash table and a queue;
-# where Coq's standard library is installed (libcoq-stdlib), three segments of each .vo: summary, universes and opaques.
-# Each value has its type, comes back byte for byte from `edit` with an empty script, and from `build` of what `show` puts of it; with a byte of it damaged it is
-# refused, or does not have the type, or is another value of it, and omarshal ends with 0, 1 or 4 all the same. The argument
-# is the program; with none it is the one that `./omarshal` built. Where KEEP is set, it names a folder in which each value is
-# kept, and the table values.tsv with a line for each: its file, its type file and its type (tools/check_certificates.py).
+# standard library and of the compiler, each .cmo, .cma, .cmx, .cmxa and .cmt there, and a map, a set, a hash table and a
+# queue; where Coq's standard library is installed (libcoq-stdlib), four segments of each .vo: summary, library, universes
+# and opaques. Each value has its type and comes back byte for byte from `edit` with an empty script; where its type has
+# no `_`, also from `build` of what `show` puts of it. With a byte of it damaged it is refused, or does not have the type,
+# or is another value of it, and omarshal ends with 0, 1 or 4 all the same. The argument is the program; with none it is
+# the one that `./omarshal` built. Where KEEP is set, it names a folder in which each value is kept, and the table
+# values.tsv with a line for each: its file, its type file and its type (tools/check_certificates.py).
 set -eu
 export LC_ALL=C
 for needed in ocaml ocamlc; do
@@ -65,9 +66,9 @@ nth() {
     head -c "$(length_of "$work/rest")" "$work/rest"
 }
 
-# value WHAT TYPES TYPE LINE: line LINE of the check of $work/values at a type is yes, `edit` writes that value as it is, and
-# `build` makes the same bytes of its text.
-value() {
+# hidden WHAT TYPES TYPE LINE: line LINE of the check of $work/values at a type is yes, and `edit` writes that value as it
+# is. The type may have parts of which nothing is asked.
+hidden() {
     checked=$((checked + 1))
     "$program" check "$examples/$2" "$3" < "$work/values" > "$work/lines" 2> "$work/told" || true
     found=$(sed -n "$4p" "$work/lines")
@@ -87,6 +88,11 @@ value() {
         echo "FAILED: edit of $1 at $3 with an empty script: $(cat "$work/told")"
         failures=$((failures + 1))
     fi
+}
+
+# value WHAT TYPES TYPE LINE: the same, and `build` makes the same bytes of its text.
+value() {
+    hidden "$@"
     checked=$((checked + 1))
     if ! "$program" show "$examples/$2" "$3" < "$work/one" > "$work/text" 2> "$work/told" ||
         ! "$program" build "$examples/$2" "$3" < "$work/text" > "$work/built" 2> "$work/told" ||
@@ -124,6 +130,21 @@ for file in "$library"/*.cmxa "$library"/compiler-libs/*.cmxa; do
     value "$file" cmx.types cmx_format_library_infos 1
 done
 
+# A .cmt of a module without an .mli has the three values of its interface first, after the magic of these.
+for file in "$library"/*.cmt "$library"/compiler-libs/*.cmt; do
+    [ -f "$file" ] || continue
+    after_magic "$file" > "$work/values"
+    if [ "$(head -c 12 "$file")" = Caml1999I030 ]; then
+        for _ in 1 2 3; do
+            tail -c "+$(($(length_of "$work/values") + 1))" "$work/values" > "$work/cut"
+            mv "$work/cut" "$work/values"
+        done
+        tail -c +13 "$work/values" > "$work/cut"
+        mv "$work/cut" "$work/values"
+    fi
+    hidden "$file" cmt.types cmt_format_cmt_infos 1
+done
+
 # A .vo has the place of its table after the magic and the version, in 8 bytes. The table is a number of segments in 4
 # bytes, and for each the length of its name in 4, its name, its place and its length in 8 each, and a checksum of 16.
 vo_version() { head -c 8 "$1" | tail -c 4 | od -An -v -tu1 | awk '{ print (($1 * 256 + $2) * 256 + $3) * 256 + $4 }'; }
@@ -136,12 +157,14 @@ segments() {
         END { for (left = number(4); left > 0; left--) { print text(number(4)), number(8), number(8); at += 16 } }'
 }
 
-# segment FILE NAME TYPE: the value of a segment has the type.
+# segment KIND FILE NAME TYPE: the value of a segment has the type, as `hidden` or `value` tries it.
 segment() {
+    kind=$1
+    shift
     place=$(sed -n "s/^$2 \([0-9]*\) .*/\1/p" "$work/table")
     length=$(sed -n "s/^$2 [0-9]* //p" "$work/table")
     tail -c "+$((place + 1))" "$1" | head -c "$length" > "$work/values"
-    value "$2 of $1" vo.types "$3" 1
+    "$kind" "$2 of $1" vo.types "$3" 1
 }
 
 find "$library/coq" -name '*.vo' 2> "$work/told" | sort > "$work/vo"
@@ -152,9 +175,10 @@ while IFS= read -r file; do
         break
     fi
     segments "$file" > "$work/table"
-    segment "$file" summary library_seg_sum
-    segment "$file" universes 'library_seg_univ option'
-    segment "$file" opaques library_seg_proofs
+    segment value "$file" summary library_seg_sum
+    segment hidden "$file" library library_seg_lib
+    segment value "$file" universes 'library_seg_univ option'
+    segment value "$file" opaques library_seg_proofs
 done < "$work/vo"
 
 ocaml "$examples/containers.ml" "$work"

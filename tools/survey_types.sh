@@ -1,7 +1,7 @@
 #!/bin/sh
 # Counts how many of the types that the installed OCaml libraries export get a type file by types_of_cmi, and what is
 # told of the others. Each type is asked for at `int` for its parameters, with --cmt; "wrong" are those of which `int` is
-# no argument.
+# no argument. With the word --any, "less" are the files in which less is asked than OCaml has.
 #
 #   sh tools/survey_types.sh [NUMBER [FILE [WORD..]]]
 #
@@ -60,9 +60,10 @@ while IFS='	' read -r library of type; do
 done < "$work/taken" > "$results"
 
 awk -F '\t' '
-    BEGIN { form = "%-24s %8s %8s %8s %8s\n"; printf form, "library", "types", "files", "none", "wrong" }
+    BEGIN { form = "%-24s %8s %8s %8s %8s %8s\n"; printf form, "library", "types", "files", "less", "none", "wrong" }
     !($1 in types) { order[++libraries] = $1 }
     { types[$1]++; found[$1, $3]++; found["all", $3]++ }
+    $3 == 0 && $4 != "" { less[$1]++; less["all"]++ }
     $3 == 1 {
         count = split($4, reasons, ";")
         for (i = 1; i <= count; i++) { with[reasons[i]]++; if (count == 1) alone[reasons[i]]++ }
@@ -70,9 +71,9 @@ awk -F '\t' '
     END {
         for (i = 1; i <= libraries; i++) {
             name = order[i]
-            printf form, name, types[name], found[name, 0] + 0, found[name, 1] + 0, found[name, 2] + 0
+            printf form, name, types[name], found[name, 0] + 0, less[name] + 0, found[name, 1] + 0, found[name, 2] + 0
         }
-        printf form, "all", NR, found["all", 0] + 0, found["all", 1] + 0, found["all", 2] + 0
+        printf form, "all", NR, found["all", 0] + 0, less["all"] + 0, found["all", 1] + 0, found["all", 2] + 0
         if (NR > 0) printf "%d of 100 types have a file\n", int(100 * found["all", 0] / NR + 0.5)
         print ""
         print "what is told of types without a file; how many have it; how many have it alone"

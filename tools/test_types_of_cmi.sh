@@ -84,7 +84,8 @@ sh "$here/build_types_of_cmi.sh" types_of_cmi -w +a-4-40-41-42-44-45-70 -warn-er
     for number in $(seq 245); do printf ' | C%d of int' "$number"; done
     echo
 } >> refused.ml
-ocamlc -w -a -bin-annot -c kinds.ml refused.ml by_hand.ml hidden.mli hidden.ml uses_hidden.ml applied.ml indexed.ml \
+echo 'type t = int' > gone.ml
+ocamlc -w -a -bin-annot -c gone.ml kinds.ml refused.ml unasked.ml by_hand.ml hidden.mli hidden.ml uses_hidden.ml applied.ml indexed.ml \
     shut__part.mli shut__part.ml shut_names.ml shut.mli shut.ml
 ocamlc -w -a -rectypes -c copied.ml
 head -c 60 kinds.cmi > broken.cmi
@@ -151,6 +152,42 @@ by_words applied --cmt Applied.all
 by_words copied Copied.all
 by_words indexed --cmt Indexed.all
 by_words shut --cmt Shut.Inner.file
+
+# Parts that have no form, of which nothing is asked. The last line of what is told is the type.
+mv gone.cmi gone.saved
+by_words unasked --cmt --any Unasked.all
+mv gone.saved gone.cmi
+cp "$expected/unasked.txt" wanted.txt
+same "what is told of unasked.ml" wanted.txt word.txt
+
+# `_` by hand: without --any, for a type, in a body, and in TYPE
+made found.types --declare 'Refused.job = _' Refused.queue
+cat > wanted.types << 'END'
+(* Refused.job, by hand *)
+type refused_job = _
+
+(* Refused.queue *)
+type refused_queue =
+  | Empty
+  | Jobs of { first : refused_job list; rest : refused_queue }
+END
+printf '%s\n' 'types_of_cmi: Refused.queue -> constructor Jobs -> field first -> Refused.job: _ by hand' refused_queue > wanted.txt
+declarations found.types > cut.types
+same "a type that is _ by hand" wanted.types cut.types
+same "what is told of a type that is _ by hand" wanted.txt word.txt
+
+made found.types --declare 'Refused.job = { name : string; run : _ }' '_ list * Refused.job'
+cat > wanted.types << 'END'
+(* Refused.job, by hand *)
+type refused_job = {
+  name : string;
+  run : _;
+}
+END
+printf '%s\n' 'types_of_cmi: TYPE: _ by hand' 'types_of_cmi: Refused.job -> field run: _ by hand' '_ list * refused_job' > wanted.txt
+declarations found.types > cut.types
+same "parts that are _ by hand" wanted.types cut.types
+same "what is told of parts that are _ by hand" wanted.txt word.txt
 
 # A type that stands in an implementation alone, by another name of its module; an index that is hidden
 made found.types --cmt 'Shut_names.Part.size * Hidden.meters Indexed.length'
@@ -220,6 +257,35 @@ told() {
         failures=$((failures + 1))
     fi
 }
+
+# Types of which nothing would be asked; a `_` by hand is no --any
+told 1 --any 'int -> int' << 'END'
+types_of_cmi: TYPE: _ for a function
+types_of_cmi: int -> int: nothing is asked of a value of this type
+END
+told 1 --any 'int Seq.t' << 'END'
+types_of_cmi: Seq.t: _ for a function
+types_of_cmi: int Seq.t: nothing is asked of a value of this type
+END
+told 1 --any Refused.loop << 'END'
+types_of_cmi: Refused.loop: _ for a type that is only another name of itself
+types_of_cmi: Refused.loop: nothing is asked of a value of this type
+END
+told 1 --any 'string Refused.only_int' << 'END'
+types_of_cmi: Refused.only_int at string: _ for a variant without constructors
+types_of_cmi: string Refused.only_int: nothing is asked of a value of this type
+END
+told 1 --declare 'Refused.job = _' Refused.job << 'END'
+types_of_cmi: Refused.job: _ by hand
+types_of_cmi: Refused.job: nothing is asked of a value of this type
+END
+told 1 _ << 'END'
+types_of_cmi: TYPE: _ by hand
+types_of_cmi: _: nothing is asked of a value of this type
+END
+told 1 --declare 'Refused.hidden = _' Refused.two << 'END'
+types_of_cmi: Refused.two -> field g: a function
+END
 
 # Types that stay abstract with --cmt; an index that may be another, or is none of the first constructors
 mkdir alone
@@ -342,6 +408,10 @@ judged kinds.types values.bin wanted.tsv
 ocamlc -w -a by_hand.ml by_hand_values.ml -o by_hand_values
 ./by_hand_values values.bin > wanted.tsv
 judged by_hand.types values.bin wanted.tsv
+
+ocamlc -w -a gone.ml refused.ml unasked.ml unasked_values.ml -o unasked_values
+./unasked_values values.bin > wanted.tsv
+judged unasked.types values.bin wanted.tsv
 
 ocamlc -w -a hidden.ml uses_hidden.ml uses_hidden_values.ml -o uses_hidden_values
 ./uses_hidden_values values.bin > wanted.tsv

@@ -141,7 +141,7 @@ def read_value(stream):
 LEXEME = re.compile(r"(?P<name>[A-Za-z_][A-Za-z0-9_']*)|(?P<tag>`[A-Za-z_][A-Za-z0-9_']*)"
                     r"|(?P<var>'[a-z_][A-Za-z0-9_']*)|(?P<symbol>;;|[(){}\[\]|,;:=*])")
 KEYWORDS = {"type", "and", "of", "mutable"}
-ARITIES = dict.fromkeys("int char bool unit string bytes float int32 int64 nativeint floatarray".split(), 0)
+ARITIES = dict.fromkeys("int char bool unit string bytes float int32 int64 nativeint floatarray _".split(), 0)
 ARITIES.update(list=1, option=1, array=1, ref=1)
 
 
@@ -438,6 +438,10 @@ class Declarations:
             return ("sum", 1, [(False, (arguments[0],))])
         if name == "ref":
             return ("product", True, arguments)
+        if name == "_":
+            return ("any", False)
+        if name == "array" and self.expand(arguments[0])[:2] == ("app", "_"):
+            return ("any array", True, arguments[0])
         if name == "array" and not self.is_float(arguments[0]):
             return ("array", True, arguments[0])
         return ("floatarray", True) if name in ("array", "floatarray") else ("base", name == "bytes", name)
@@ -496,7 +500,7 @@ class Types:
             return list(shape[2])
         if shape[0] == "poly":
             return [argument for argument in shape[2].values() if argument is not None]
-        return [shape[2]] if shape[0] == "array" else []
+        return [shape[2]] if shape[0] in ("array", "any array") else []
 
     def sort(self):
         """Classes are split until equal types have equal heads at parts of equal classes."""
@@ -520,18 +524,22 @@ class Types:
 def fit(shape, value, objects):
     """Whether a value fits a shape, whether its object is mutable there, and the types of its fields by number."""
     kind, thing = shape[0], objects[value[1]] if value[0] == "ref" else value
+    if kind == "any":
+        return True, False, {}
+    if kind == "any array" and thing[0] == "floats":
+        return True, True, {}
     if kind == "base":
         below = {"char": 256, "bool": 2, "unit": 1}
         if shape[2] in below:
             return thing[0] == "int" and 0 <= thing[1] < below[shape[2]], False, {}
         return thing[0] == {"bytes": "string"}.get(shape[2], shape[2]), shape[1], {}
-    if kind in ("array", "floatarray") and thing == ("atom", 0):
+    if kind in ("array", "any array", "floatarray") and thing == ("atom", 0):
         return True, False, {}
     if kind == "floatarray":
         return thing[0] == "floats", True, {}
     if kind == "floats":
         return thing[:2] == ("floats", shape[2]), shape[1], {}
-    if kind == "array":
+    if kind in ("array", "any array"):
         good = thing[:2] == ("block", 0)
         return good, True, {i: shape[2] for i in range(len(thing[2]))} if good else {}
     if kind == "product":
@@ -567,6 +575,8 @@ def check(types, root_type, root, objects):
     waiting = [(root, root_type, ".")]
     for value, form, path in waiting:
         number = types.classes[form]
+        if types.shapes[form][0] == "any":
+            continue  # nothing is asked of it, and what it shares is no clash
         if value[0] == "ref" and number in uses.get(value[1], {}):
             continue
         good, mutable, needs = fit(types.shapes[form], value, objects)

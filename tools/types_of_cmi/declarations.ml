@@ -34,12 +34,19 @@ type declaration = {
 
 type fault = { where : way; what : string }
 
+(* What is told of a part of which less is asked than OCaml has: what stands in its place, and why. *)
+type note = { instead : string; why : fault }
+
 (* {1 Names} *)
 
 let base_types =
   [ "int"; "char"; "bool"; "unit"; "string"; "bytes"; "float"; "int32"; "int64"; "nativeint"; "floatarray" ]
 
 let predeclared_types = base_types @ [ "list"; "option"; "array"; "ref" ]
+
+(* The type of which nothing is asked *)
+let any_name = "_"
+let any = Applied (Predeclared any_name, [])
 let keywords = [ "type"; "and"; "of"; "mutable" ]
 
 (* The module `Stdlib__Map` of the standard library is `Map` to its users. *)
@@ -55,6 +62,7 @@ let rec path_text = function
 let predeclared path =
   match path with
   | Path.Pident id when Ident.is_predef id && List.mem (Ident.name id) predeclared_types -> Some (Ident.name id)
+  | Path.Pident id when Ident.name id = any_name -> Some any_name
   | Path.Pdot (Path.Pident id, "ref") when Ident.name id = "Stdlib" -> Some "ref"
   | _ -> None
 
@@ -129,13 +137,16 @@ let names_in ~inside_tags body =
   iter_body ~inside_tags visit body;
   List.rev !names
 
-let rec substitute bindings expression =
-  let again = substitute bindings in
+let map_parts f expression =
   match expression with
+  | Variable _ -> expression
+  | Applied (name, arguments) -> Applied (name, List.map f arguments)
+  | Tuple parts -> Tuple (List.map f parts)
+  | Polymorphic tags -> Polymorphic (List.map (fun (tag, argument) -> (tag, Option.map f argument)) tags)
+
+let rec substitute bindings = function
   | Variable name -> List.assoc name bindings
-  | Applied (name, arguments) -> Applied (name, List.map again arguments)
-  | Tuple parts -> Tuple (List.map again parts)
-  | Polymorphic tags -> Polymorphic (List.map (fun (tag, argument) -> (tag, Option.map again argument)) tags)
+  | expression -> map_parts (substitute bindings) expression
 
 let map_body f body =
   let field field = { field with holds = f field.holds } in

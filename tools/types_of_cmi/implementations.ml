@@ -9,12 +9,13 @@ let wrong_words format = Printf.ksprintf (fun text -> raise (Wrong_words text)) 
 
 (* {1 The reader} *)
 
-(* A generalized type (GADT) at an index. It is declared by a name of its own, without parameters. *)
-type instance = { generalized : Path.t; index : type_expr list; own_path : Path.t }
+(* A generalized type (GADT) at an index, or at any one. It is declared by a name of its own, without parameters. *)
+type instance = { generalized : Path.t; index : type_expr list option; own_path : Path.t }
 
 type reader = {
   mutable environment : Env.t;
   looks_inside : bool;  (** whether it looks for hidden types in `.cmt` files *)
+  lets_any : bool;  (** whether `_` stands for a part that has no form *)
   mutable implementations : (string * Ident.t option) list;
       (** the modules of which it looked for one, with the name of what was found *)
   by_hand : type_declaration Path.Map.t;  (** the declarations given by `--declare` *)
@@ -23,6 +24,7 @@ type reader = {
   mutable known : Path.Set.t;  (** the types that were reached *)
   mutable declarations : declaration list;  (** those that were read, the last one first *)
   mutable faults : fault list;  (** the last one first *)
+  mutable notes : note list;  (** the last one first *)
   mutable instances : instance list;  (** the generalized types (GADTs) that were reached *)
   mutable wanted : string list;  (** files that were not found and may help *)
   waiting : (Path.t * way) Queue.t;  (** types reached and not read yet *)
@@ -45,9 +47,18 @@ let text_of_path reader path = try Path.Map.find path reader.texts with Not_foun
 (* Every fault is told, so reading goes on with some type in the place of what has no form. *)
 let placeholder = Applied (Predeclared "unit", [])
 
+let fault reader where what = reader.faults <- { where; what } :: reader.faults
+let note reader ~instead where what = reader.notes <- { instead; why = { where; what } } :: reader.notes
+
 let refuse reader where what =
-  reader.faults <- { where; what } :: reader.faults;
-  placeholder
+  if reader.lets_any then begin
+    note reader ~instead:"_ for" where what;
+    any
+  end
+  else begin
+    fault reader where what;
+    placeholder
+  end
 
 (* {1 Implementations} *)
 

@@ -2,7 +2,8 @@
 
    The compiler's own library finds and reads the `.cmi` files, so a path means here what it means in a program:
    aliases of modules, inclusions and applied functors are followed. A type is reached from the requested one by its
-   parts. Those whose representation omarshal cannot state are refused, each with the way to it.
+   parts. Those whose representation omarshal cannot state are refused, each with the way to it; with --any nothing is
+   asked of them, and each is told.
 
    tools/build_types_of_cmi.sh builds it. Written for OCaml 4.13, and tried there alone. What later libraries name
    otherwise is in `library.ml`. *)
@@ -19,21 +20,31 @@ let program = "types_of_cmi"
 (* {1 Words} *)
 
 let usage =
-  "types_of_cmi [-I FOLDER].. [FOLDER/].. [FILE.cmi].. [--cmt] [--declare DECLARATION].. TYPE\n\n\
+  "types_of_cmi [-I FOLDER].. [FOLDER/].. [FILE.cmi].. [--cmt] [--any] [--declare DECLARATION].. TYPE\n\n\
    Prints the declarations that omarshal needs to check values of TYPE, and on standard error\n\
    the type to give to omarshal. TYPE is an OCaml type without variables, as `int list Foo.t` or\n\
    `string Map.Make(String).t`. Its modules are looked for as .cmi files in the folders, in those\n\
    of the files, in the current folder and in the standard library.\n\n\
    DECLARATION says what a type is that its module hides, or that has no form, as\n\
    \"'a Foo.t = Nil | More of 'a * 'a Foo.t\". Its left side is the type's full name; types of its\n\
-   own may follow with `and`.\n\n\
-   Status 0: done. 1: a type has no form in omarshal; each such type is told with the way to it.\n\
+   own may follow with `and`. Of a part of type `_` nothing is asked: \"Foo.t = _\", or `Foo.t * _`.\n\n\
+   With --any each part that has no form is `_`. Each part of which less is asked than OCaml has\n\
+   is told on standard error, with the way to it.\n\n\
+   Status 0: done. 1: a type has no form in omarshal, each such type being told with the way to it;\n\
+   or nothing would be asked of TYPE.\n\
    2: wrong words.\n"
 
-type words = { folders : string list; looks_inside : bool; by_hand : string list; requested : string }
+type words = {
+  folders : string list;
+  looks_inside : bool;
+  lets_any : bool;
+  by_hand : string list;
+  requested : string;
+}
 
 let read_words arguments =
-  let folders = ref [] and looks_inside = ref false and by_hand = ref [] and types = ref [] in
+  let folders = ref [] and looks_inside = ref false and lets_any = ref false in
+  let by_hand = ref [] and types = ref [] in
   let add list word = list := word :: !list in
   let add_file file =
     if Sys.file_exists file then add folders (Filename.dirname file) else wrong_words "no file %s" file
@@ -54,13 +65,15 @@ let read_words arguments =
     [
       ("-I", Arg.String add_included, "FOLDER  look for modules there; +x is folder x of the standard library");
       ("--cmt", Arg.Set looks_inside, " look in .cmt files for types that interfaces hide or do not have");
+      ("--any", Arg.Set lets_any, " take _ for each part that has no form");
       ("--declare", Arg.String (add by_hand), "DECLARATION  take this for the type; may be repeated");
     ]
   in
   Arg.parse_argv arguments specification other usage;
   match !types with
   | [ requested ] ->
-      { folders = List.rev !folders; looks_inside = !looks_inside; by_hand = List.rev !by_hand; requested }
+      let folders = List.rev !folders and by_hand = List.rev !by_hand in
+      { folders; looks_inside = !looks_inside; lets_any = !lets_any; by_hand; requested }
   | [] -> wrong_words "TYPE is missing"
   | _ -> wrong_words "more than one TYPE"
 
@@ -86,18 +99,25 @@ let in_word word read =
   | Wrong_words _ as error -> raise error
   | error -> wrong_words "%s: %s" word (Library.message error)
 
+(* The declarations of a signature, in order, as the compiler reads them. *)
+let type_declarations environment signature =
+  let declared = function Sig_type (id, declaration, _, _) -> Some (id, declaration) | _ -> None in
+  List.filter_map declared (Typemod.transl_signature environment signature).Typedtree.sig_type
+
+(* `_` is the name of a type that is abstract. *)
+let add_any environment =
+  let add environment (_, declaration) =
+    Env.add_type ~check:false (Ident.create_scoped ~scope:Ident.lowest_scope any_name) declaration environment
+  in
+  List.fold_left add environment (type_declarations environment (Parse.interface (Lexing.from_string "type t")))
+
 let environment folders =
   Clflags.include_dirs := List.rev folders;
   Clflags.recursive_types := true;
   ignore (Warnings.parse_options false "-a");
   Warnings.parse_alert_option "--all";
   Compmisc.init_path ();
-  Compmisc.initial_env ()
-
-(* The declarations of a signature, in order, as the compiler reads them. *)
-let type_declarations environment signature =
-  let declared = function Sig_type (id, declaration, _, _) -> Some (id, declaration) | _ -> None in
-  List.filter_map declared (Typemod.transl_signature environment signature).Typedtree.sig_type
+  add_any (Compmisc.initial_env ())
 
 let rec longident_of_path = function
   | Path.Pident id -> Longident.Lident (Ident.name id)
@@ -130,6 +150,7 @@ let names_inside reader =
     match (Ast_mapper.default_mapper.typ mapper ty).Parsetree.ptyp_desc with
     | Ptyp_constr (name, arguments) ->
         { ty with ptyp_desc = Ptyp_constr ({ name with txt = name_inside reader name.txt }, arguments) }
+    | Ptyp_any -> { ty with ptyp_desc = Ptyp_constr (Location.mknoloc (Longident.Lident any_name), []) }
     | ptyp_desc -> { ty with ptyp_desc }
   in
   { Ast_mapper.default_mapper with typ }
@@ -185,10 +206,11 @@ let add_by_hand reader word =
           List.fold_left add { reader with by_hand; synonyms } others
       | _ -> wrong_words "%s: this is not one declaration" word)
 
-let new_reader environment ~looks_inside =
+let new_reader environment ~looks_inside ~lets_any =
   {
     environment;
     looks_inside;
+    lets_any;
     implementations = [];
     by_hand = Path.Map.empty;
     synonyms = Path.Map.empty;
@@ -196,6 +218,7 @@ let new_reader environment ~looks_inside =
     known = Path.Set.empty;
     declarations = [];
     faults = [];
+    notes = [];
     instances = [];
     wanted = [];
     waiting = Queue.create ();
@@ -206,6 +229,8 @@ let new_reader environment ~looks_inside =
 let print_fault { where; what } =
   let way = match where with [] -> "TYPE" | _ -> String.concat " -> " (List.rev where) in
   Printf.eprintf "%s: %s: %s\n" program way what
+
+let fault_of_note { instead; why } = { why with what = instead ^ " " ^ why.what }
 
 let print_wanted = function
   | [] -> ()
@@ -223,7 +248,8 @@ let print_file reader arguments groups root =
 let run arguments =
   let words = read_words arguments in
   let environment = environment words.folders in
-  let reader = List.fold_left add_by_hand (new_reader environment ~looks_inside:words.looks_inside) words.by_hand in
+  let { looks_inside; lets_any; by_hand; _ } = words in
+  let reader = List.fold_left add_by_hand (new_reader environment ~looks_inside ~lets_any) by_hand in
   let requested = requested_type reader words.requested in
   let scope = { variables = []; parameters = []; enclosing = []; way = []; owner = "requested" } in
   let read () =
@@ -232,19 +258,20 @@ let run arguments =
     root
   in
   let root = in_word words.requested read in
-  let settled =
-    match List.rev reader.faults with
-    | [] -> settled_groups reader (List.rev reader.declarations)
-    | faults -> Error faults
-  in
-  match settled with
-  | Ok groups ->
-      print_file reader (List.tl (Array.to_list arguments)) groups root;
-      0
-  | Error faults ->
-      List.iter print_fault faults;
-      print_wanted reader.wanted;
-      1
+  let declarations = if reader.faults = [] then List.rev reader.declarations else [] in
+  let table, groups = settled_groups reader declarations in
+  let told = if reader.faults = [] then List.map fault_of_note reader.notes else reader.faults in
+  List.iter print_fault (List.rev told);
+  print_wanted reader.wanted;
+  if reader.faults <> [] then 1
+  else if is_any table root then begin
+    Printf.eprintf "%s: %s: nothing is asked of a value of this type\n" program words.requested;
+    1
+  end
+  else begin
+    print_file reader (List.tl (Array.to_list arguments)) groups root;
+    0
+  end
 
 let () =
   let arguments = Array.append [| program |] (Array.sub Sys.argv 1 (Array.length Sys.argv - 1)) in

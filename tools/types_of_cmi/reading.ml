@@ -117,26 +117,43 @@ and text_of_index reader = function
   | [ ty ] -> text_of_type reader ty ^ " "
   | index -> "(" ^ String.concat ", " (List.map (text_of_type reader) index) ^ ") "
 
+(* The type at an index, or at any one. *)
+let reach_instance reader scope path index =
+  let is_same other =
+    match (other, index) with
+    | Some other, Some index -> Ctype.is_equal reader.environment false other index
+    | None, None -> true
+    | Some _, None | None, Some _ -> false
+  in
+  let is_it instance = Path.same instance.generalized path && is_same instance.index in
+  let own_path =
+    match List.find_opt is_it reader.instances with
+    | Some { own_path; _ } -> own_path
+    | None ->
+        let own_path = Path.Pident (Ident.create_local "index") in
+        let index_text =
+          match index with Some types -> String.trim (text_of_index reader types) | None -> "any index"
+        in
+        reader.instances <- { generalized = path; index; own_path } :: reader.instances;
+        reader.texts <- Path.Map.add own_path (text_of_path reader path ^ " at " ^ index_text) reader.texts;
+        own_path
+  in
+  reach reader scope.way own_path;
+  Applied (Declared own_path, [])
+
 let read_generalized reader scope path arguments =
   match index_fault arguments with
+  | None -> reach_instance reader scope path (Some (List.map (plain reader) arguments))
+  | Some what when reader.lets_any ->
+      note reader ~instead:"all its constructors, of" (text_of_path reader path :: scope.way) what;
+      reach_instance reader scope path None
   | Some what -> refuse reader (text_of_path reader path :: scope.way) what
-  | None ->
-      let index = List.map (plain reader) arguments in
-      let is_it instance =
-        Path.same instance.generalized path && Ctype.is_equal reader.environment false instance.index index
-      in
-      let own_path =
-        match List.find_opt is_it reader.instances with
-        | Some { own_path; _ } -> own_path
-        | None ->
-            let own_path = Path.Pident (Ident.create_local "index") in
-            let text = text_of_path reader path ^ " at " ^ String.trim (text_of_index reader index) in
-            reader.instances <- { generalized = path; index; own_path } :: reader.instances;
-            reader.texts <- Path.Map.add own_path text reader.texts;
-            own_path
-      in
-      reach reader scope.way own_path;
-      Applied (Declared own_path, [])
+
+let fault_name reader scope = fault reader scope.way "a name that omarshal cannot write"
+
+let refuse_missing reader path way =
+  want reader path ".cmi";
+  refuse reader way "a type of which no .cmi was found"
 
 let rec read_type reader scope ty =
   match List.find_opt (fun { around; _ } -> Library.same around ty) scope.enclosing with
@@ -158,20 +175,27 @@ and read_parts reader scope ty =
 and read_shape reader scope ty =
   match Library.shape ty with
   | Tconstr (path, arguments, _) -> (
-      let arguments = List.map (read_type reader scope) arguments in
       let path = canonical reader path in
+      let read_arguments () = List.map (read_type reader scope) arguments in
       match predeclared path with
-      | Some name -> Applied (Predeclared name, arguments)
+      | Some name when name = any_name ->
+          note reader ~instead:"_" scope.way "by hand";
+          any
+      | Some name -> Applied (Predeclared name, read_arguments ())
+      | None when reader.lets_any && Option.is_none (find_declaration reader path) ->
+          refuse_missing reader path (text_of_path reader path :: scope.way)
       | None ->
+          let arguments = read_arguments () in
           reach reader scope.way path;
           Applied (Declared path, arguments))
   | Ttuple parts -> Tuple (List.map (read_type reader scope) parts)
   | Tvariant row -> read_row reader scope row
-  | Tpoly (ty, []) -> read_type reader scope ty
-  | Tvar _ | Tunivar _ -> (
+  | Tpoly (ty, variables) when variables = [] || reader.lets_any -> read_type reader scope ty
+  | Tvar _ -> (
       match List.find_opt (fun (variable, _) -> Library.same variable ty) scope.variables with
       | Some (_, name) -> Variable name
       | None -> refuse reader scope.way "an existential type")
+  | Tunivar _ -> refuse reader scope.way "a variable of a polymorphic field"
   | Tarrow _ -> refuse reader scope.way "a function"
   | Tobject _ | Tfield _ | Tnil -> refuse reader scope.way "an object"
   | Tpackage _ -> refuse reader scope.way "a first-class module"
@@ -181,45 +205,44 @@ and read_shape reader scope ty =
 (* The tags are sorted, since the compiler keeps no written order. `[> ..]` is open, and `[< ..]` has tags that may be
    absent. *)
 and read_row reader scope row =
-  let read_tag (tag, field) =
-    match Library.presence field with
-    | Rabsent -> None
-    | Reither _ -> Some (Error ())
-    | Rpresent argument when is_identifier tag ->
-        Some (Ok (tag, Option.map (read_type reader (step scope ("tag `" ^ tag))) argument))
-    | Rpresent _ ->
-        ignore (refuse reader (step scope ("tag `" ^ tag)).way "a name that omarshal cannot write");
-        None
+  let tags = List.map (fun (tag, field) -> (tag, Library.presence field)) (Library.tags row) in
+  let tags = List.filter (fun (_, presence) -> presence <> Rabsent) tags in
+  let is_bounded = List.exists (function _, Reither _ -> true | _ -> false) tags in
+  let read_tag = function
+    | tag, Rpresent argument ->
+        let scope = step scope ("tag `" ^ tag) in
+        if not (is_identifier tag) then fault_name reader scope;
+        Some (tag, Option.map (read_type reader scope) argument)
+    | _, (Reither _ | Rabsent) -> None
   in
-  let tags = List.filter_map read_tag (Library.tags row) in
   if not (Library.is_closed row) then refuse reader scope.way "an open polymorphic variant"
-  else if List.mem (Error ()) tags then refuse reader scope.way "a bounded polymorphic variant"
+  else if is_bounded then refuse reader scope.way "a bounded polymorphic variant"
   else if tags = [] then refuse reader scope.way "an empty polymorphic variant"
-  else Polymorphic (List.sort (fun (tag, _) (other, _) -> compare tag other) (List.filter_map Result.to_option tags))
+  else Polymorphic (List.sort (fun (tag, _) (other, _) -> compare tag other) (List.filter_map read_tag tags))
 
 (* {1 Reading declarations} *)
 
 (* OCaml has names that omarshal cannot write: with letters outside ASCII, and from 5.2 on keywords. *)
 let check_name reader scope name =
-  if not (is_identifier name) || List.mem name keywords then
-    ignore (refuse reader scope.way "a name that omarshal cannot write")
+  if not (is_identifier name) || List.mem name keywords then fault_name reader scope
 
-let float_type = Applied (Predeclared "float", [])
+(* What is read where a type is known without: OCaml made the fields of a flat record floats, whatever names they were
+   given; and of the parts of a constructor that is there for its number nothing is asked. *)
+let as_float _ _ _ = Applied (Predeclared "float", [])
+let as_any _ _ _ = any
 
-(* The fields of a record that OCaml made flat are floats, whatever names they were given. *)
-let read_field ~is_flat reader scope { ld_id; ld_mutable; ld_type; _ } =
+let read_field read reader scope { ld_id; ld_mutable; ld_type; _ } =
   let label = Ident.name ld_id in
   let scope = step scope ("field " ^ label) in
   check_name reader scope label;
-  let holds = if is_flat then float_type else read_type reader scope ld_type in
-  { changes = ld_mutable = Asttypes.Mutable; label; holds }
+  { changes = ld_mutable = Asttypes.Mutable; label; holds = read reader scope ld_type }
 
-let read_arguments reader scope = function
-  | Cstr_record labels -> Inline (List.map (read_field ~is_flat:false reader scope) labels)
-  | Cstr_tuple [ ty ] -> Separate [ read_type reader scope ty ]
+let read_arguments read reader scope = function
+  | Cstr_record labels -> Inline (List.map (read_field read reader scope) labels)
+  | Cstr_tuple [ ty ] -> Separate [ read reader scope ty ]
   | Cstr_tuple types ->
-      let read index ty = read_type reader (step scope (Printf.sprintf "argument %d" (index + 1))) ty in
-      Separate (List.mapi read types)
+      let read_part index ty = read reader (step scope (Printf.sprintf "argument %d" (index + 1))) ty in
+      Separate (List.mapi read_part types)
 
 (* A constructor written with a result, as in `A : int -> t`, is an ordinary one where the result is the type at
    distinct variables. *)
@@ -228,20 +251,30 @@ let constructor_variables scope { cd_res; _ } =
   | Some (Tconstr (_, arguments, _)) -> List.combine arguments scope.parameters
   | Some _ | None -> scope.variables
 
-let read_constructor reader scope constructor =
+let read_constructor read reader scope constructor =
   let name = Ident.name constructor.cd_id in
   let scope = step scope ("constructor " ^ name) in
   if constructor_name name = name then check_name reader scope name;
   let variables = constructor_variables scope constructor in
-  (name, read_arguments reader { scope with variables } constructor.cd_args)
+  (name, read_arguments read reader { scope with variables } constructor.cd_args)
+
+(* A constructor as it is read, or one that is there for its number *)
+type kept = Asked of constructor_declaration | Unasked of constructor_declaration
+
+let read_kept reader scope = function
+  | Asked constructor -> read_constructor read_type reader scope constructor
+  | Unasked constructor -> read_constructor as_any reader scope constructor
+
+let is_constant { cd_args; _ } = cd_args = Cstr_tuple []
 
 let read_variant reader scope constructors =
-  let named = List.map (read_constructor reader scope) constructors in
-  let with_arguments = List.filter (fun (_, arguments) -> arguments <> Separate []) named in
-  if named = [] then ignore (refuse reader scope.way "a variant without constructors");
-  if List.length with_arguments > 244 then
-    ignore (refuse reader scope.way "a variant of more than 244 constructors with arguments");
-  Variant (List.combine (constructor_names (List.map fst named)) (List.map snd named))
+  let has_arguments = function Asked constructor | Unasked constructor -> not (is_constant constructor) in
+  if constructors = [] then Abbreviation (refuse reader scope.way "a variant without constructors")
+  else if List.length (List.filter has_arguments constructors) > 244 then
+    Abbreviation (refuse reader scope.way "a variant of more than 244 constructors with arguments")
+  else
+    let named = List.map (read_kept reader scope) constructors in
+    Variant (List.combine (constructor_names (List.map fst named)) (List.map snd named))
 
 (* A constructor at an index: with its parts there, of another index, or one of which that is not known. *)
 type at_index = At_it of constructor_declaration | At_another | Not_known
@@ -277,29 +310,36 @@ let at_index reader parameters index ({ cd_args; cd_res; _ } as constructor) =
   | _ -> Not_known
 
 (* The constructors of a generalized type at an index. One of another index is left out where none comes after it that
-   OCaml numbers with it; else its number would be given to another. *)
+   OCaml numbers with it; else its number would be given to another. Each is kept that may be of the index, and all are
+   of any index; the types that its result alone tells are existential ones then. *)
 let constructors_at reader scope parameters index constructors =
-  let is_constant { cd_args; _ } = cd_args = Cstr_tuple [] in
+  let without_result constructor = { constructor with cd_res = None } in
   let rec keep = function
     | [] -> []
     | (constructor, found) :: others -> (
-        let refused what =
-          ignore (refuse reader (step scope ("constructor " ^ Ident.name constructor.cd_id)).way what);
-          { constructor with cd_args = Cstr_tuple []; cd_res = None } :: keep others
+        let way = (step scope ("constructor " ^ Ident.name constructor.cd_id)).way in
+        let kept what kept =
+          if reader.lets_any then note reader ~instead:"kept, though" way what else fault reader way what;
+          kept :: keep others
         in
         let is_numbered_with (other, found) = found <> At_another && is_constant other = is_constant constructor in
         match found with
-        | At_it constructor -> constructor :: keep others
-        | Not_known -> refused "a generalized constructor (GADT) that may be of another index"
+        | At_it constructor -> Asked constructor :: keep others
+        | Not_known ->
+            kept "a generalized constructor (GADT) that may be of another index" (Asked (without_result constructor))
         | At_another when List.exists is_numbered_with others ->
-            refused "a generalized constructor (GADT) of another index, before others"
+            let what = "a generalized constructor (GADT) of another index, before others" in
+            kept what (Unasked (without_result constructor))
         | At_another -> keep others)
   in
-  keep (List.map (fun constructor -> (constructor, at_index reader parameters index constructor)) constructors)
+  match index with
+  | None -> List.map (fun constructor -> Asked (without_result constructor)) constructors
+  | Some index ->
+      keep (List.map (fun constructor -> (constructor, at_index reader parameters index constructor)) constructors)
 
 (* What an unboxed type holds: the one part of its constructor, if that was not refused. *)
 let read_unboxed reader scope constructor =
-  match read_constructor reader scope constructor with
+  match read_kept reader scope constructor with
   | _, (Separate [ holds ] | Inline [ { holds; _ } ]) -> Abbreviation holds
   | _, (Separate _ | Inline _) -> Abbreviation placeholder
 
@@ -335,24 +375,24 @@ let read_body reader scope path declaration =
       Abbreviation (read_type reader (step scope ("field " ^ Ident.name label.ld_id)) label.ld_type)
   | Type_record (labels, representation), _ ->
       let is_flat = representation = Record_float in
-      Record { is_flat; fields = List.map (read_field ~is_flat reader scope) labels }
-  | Type_variant ([ constructor ], Variant_unboxed), _ -> read_unboxed reader scope constructor
-  | Type_variant (constructors, _), _ -> read_variant reader scope constructors
+      let read = if is_flat then as_float else read_type in
+      Record { is_flat; fields = List.map (read_field read reader scope) labels }
+  | Type_variant ([ constructor ], Variant_unboxed), _ -> read_unboxed reader scope (Asked constructor)
+  | Type_variant (constructors, _), _ ->
+      read_variant reader scope (List.map (fun constructor -> Asked constructor) constructors)
   | _, Some manifest -> Abbreviation (read_type reader scope manifest)
   | _, None -> Abbreviation (refuse reader scope.way (hidden_kind reader path declaration))
 
-let refuse_missing reader path way =
-  want reader path ".cmi";
-  ignore (refuse reader way "a type of which no .cmi was found")
-
 let read_declaration reader path way (origin, declaration) =
   let parameters = List.mapi (fun index _ -> parameter_name index) declaration.type_params in
-  match name_variables declaration.type_params parameters with
-  | None -> ignore (refuse reader way "a parameter with a constraint")
-  | Some variables ->
-      let scope = { variables; parameters; enclosing = []; way; owner = text_of_path reader path } in
-      let body = read_body reader scope path declaration in
-      reader.declarations <- { path; parameters; body; origin; reached = way } :: reader.declarations
+  let body =
+    match name_variables declaration.type_params parameters with
+    | None -> Abbreviation (refuse reader way "a parameter with a constraint")
+    | Some variables ->
+        let scope = { variables; parameters; enclosing = []; way; owner = text_of_path reader path } in
+        read_body reader scope path declaration
+  in
+  reader.declarations <- { path; parameters; body; origin; reached = way } :: reader.declarations
 
 let read_instance reader way { generalized; index; own_path } =
   match find_declaration reader generalized with
@@ -365,7 +405,7 @@ let read_instance reader way { generalized; index; own_path } =
         | constructors, _ -> read_variant reader scope constructors
       in
       reader.declarations <- { path = own_path; parameters = []; body; origin; reached = way } :: reader.declarations
-  | _ -> refuse_missing reader generalized way
+  | _ -> ignore (refuse_missing reader generalized way)
 
 (* Reads what waits, nearest types first, until nothing does. *)
 let rec read_waiting reader =
@@ -376,5 +416,5 @@ let rec read_waiting reader =
       (match (List.find_opt is_it reader.instances, find_declaration reader path) with
       | Some instance, _ -> read_instance reader way instance
       | None, Some found -> read_declaration reader path way found
-      | None, None -> refuse_missing reader path way);
+      | None, None -> ignore (refuse_missing reader path way));
       read_waiting reader

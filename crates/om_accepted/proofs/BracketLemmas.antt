@@ -18,7 +18,7 @@ use Rattle.om_types.specs.Occurrence.{Occurrence, PlacedItem, use_of, variable_a
 use Rattle.om_types.specs.Scope.{not_variant, hash_clash, decls_of, tags_of_item, BreaksIn}
 use Rattle.om_types.specs.Ty.{Ty, variable, named, tuple, bracket, part, tag, tag_of, including}
 use Rattle.om_types.specs.Ty.{parts}
-use Rattle.om_equal.proofs.TagLemmas.{Contains-filtered, filtered-Contains}
+use Rattle.om_types.proofs.ListLemmas.{Contains-filtered, filtered-Contains}
 use Rattle.om_accepted.specs.Ranked.{Keeps}
 use Rattle.om_accepted.specs.Told.{Thing, bracket_thing, HasParts, HasItems, IsProper, items_of, own_thing, begins_as, things_inside, thing_of, IsTold, AllIsTold, TellsAll}
 use Rattle.om_accepted.specs.Brackets.{HeadsArePlain, BracketsAreSound}

@@ -9,12 +9,13 @@ use Rattle.om_types.specs.declared.shape.ShapeOf.{ShapeOf}
 use Rattle.om_types.specs.Fitting.{fields_of, is_mutable}
 use Rattle.om_types.specs.Lawful.{AreLawful, Everything}
 use Rattle.om_types.specs.Fault.{IsLexicallyBefore}
-use Rattle.om_types.specs.Table.{Table, table_shapes, node_or_none}
+use Rattle.om_types.specs.Table.{Table, table_shapes, node_or_none, is_asked_in}
+use Rattle.om_types.proofs.AskedLemmas.{need_typed, typed_needed}
 use Rattle.om_types.specs.Typing.{IsHeld}
 use Rattle.om_heap.specs.Heap.{field_at}
 use Rattle.om_fits.specs.declared.needs.Needs.{Needs}
 use Rattle.om_fits.specs.Needs.{needs_in}
-use Rattle.om_scan.specs.Scanned.{object_needs}
+use Rattle.om_scan.specs.Scanned.{object_needs, object_typed}
 use Rattle.om_model.proofs.Lists.{Contains-place as place_in}
 use Rattle.om_scan.proofs.IncreaseLemmas.{place_before}
 use Rattle.om_scan.proofs.FieldLemmas.{field_there}
@@ -39,10 +40,10 @@ module _ (table : Table) (graph : List Obj) (pairs : List (ℕ × ℕ)) where
   -- ---- needs
 
   abbrev needs_of : ℕ → ℕ → List (ℕ × ℕ)
-  needs_of o t = (table_shapes table).needs graph (vals.Ref o) t
+  needs_of o t = object_typed table graph o t
 
   pub need_is_held :
-      (o t k i a : ℕ) → o < length graph → slice_get (object_needs table graph o t) k ≡ Some (i, a)
+      (o t k i a : ℕ) → o < length graph → slice_get (object_typed table graph o t) k ≡ Some (i, a)
       → IsHeld (table_shapes table) graph pairs (field_at graph o i) a → HoldsNeed table graph pairs o (i, a)
   need_is_held o t k i a inside at_k held =
       let short = need_field table graph o t k i a inside at_k in
@@ -50,11 +51,12 @@ module _ (table : Table) (graph : List Obj) (pairs : List (ℕ × ℕ)) where
 
   pub held_more :
       (o t k i a : ℕ) (ns : List (ℕ × ℕ)) → needs_of o t ≡ ns → o < length graph → slice_get ns k ≡ Some (i, a) → HoldsFirst table graph pairs o ns k
-      → IsHeld (table_shapes table) graph pairs (field_at graph o i) a → HoldsFirst table graph pairs o ns (k + 1)
-  held_more o t k i a ns is inside at_k before held j i' a' less at_j = ⊎_elim
+      → (IsTrue (is_asked_in table a) → IsHeld (table_shapes table) graph pairs (field_at graph o i) a) → HoldsFirst table graph pairs o ns (k + 1)
+  held_more o t k i a ns is inside at_k before held j i' a' less at_j asked = ⊎_elim
       (λ same. let one : ◌≡◌ {A = ℕ × ℕ} (i, a) (i', a') = same_Some (i, a) (i', a') (sym at_k ∙ (ap (slice_get ns) (sym same) ∙ at_j)) in
-      subst (λ (need : ℕ × ℕ). HoldsNeed table graph pairs o need) one (need_is_held o t k i a inside (ap (λ ms. slice_get ms k) is ∙ at_k) held))
-      (λ other. before j i' a' (smaller j other less) at_j)
+      subst (λ (need : ℕ × ℕ). IsTrue (is_asked_in table need.1) → HoldsNeed table graph pairs o need) one
+      (λ also. need_is_held o t k i a inside (ap (λ ms. slice_get ms k) is ∙ at_k) (held also)) asked)
+      (λ other. before j i' a' (smaller j other less) at_j asked)
       (same_or_not j k) where
         smaller : (j : ℕ) → (j ≡ k → ⊥) → j < k + 1 → j < k
         smaller j other less = ⊎_elim (λ one. one) (λ same. absurd (other same)) (below j k less) where
@@ -67,26 +69,28 @@ module _ (table : Table) (graph : List Obj) (pairs : List (ℕ × ℕ)) where
   pub all_held :
       (o t n : ℕ) (ns : List (ℕ × ℕ)) → needs_of o t ≡ ns → length ns ≤ n → HoldsFirst table graph pairs o ns n → HoldsAll table graph pairs o t
   all_held o t n ns is many first i a among =
-      let k = place_in ns (i, a) (subst (λ ms. Contains ms (i, a)) is among) in
+      let need = need_typed table graph (vals.Ref o) t i a among in
+      let k = place_in ns (i, a) (subst (λ ms. Contains ms (i, a)) is need.0) in
       let inside = slice_get_within ns k.0 (i, a) k.1 in
-      first k.0 i a (omega (arith, inside, many)) k.1
+      first k.0 i a (omega (arith, inside, many)) k.1 need.1
 
   pub lack_is :
       (o t k i a : ℕ) (ns : List (ℕ × ℕ)) → needs_of o t ≡ ns → o < length graph → slice_get ns k ≡ Some (i, a) → HoldsFirst table graph pairs o ns k
-      → ¬ IsHeld (table_shapes table) graph pairs (field_at graph o i) a → IsFirstLack table graph pairs o t i
-  lack_is o t k i a ns is inside at_k before not_held =
+      → IsTrue (is_asked_in table a) → ¬ IsHeld (table_shapes table) graph pairs (field_at graph o i) a → IsFirstLack table graph pairs o t i
+  lack_is o t k i a ns is inside at_k before asked not_held =
       let at_need : slice_get (needs_of o t) k ≡ Some (i, a) = ap (λ ms. slice_get ms k) is ∙ at_k in
       let short = need_field table graph o t k i a inside at_need in
       record {
         lacks = record {
           type = a;
-          needed = slice_get-Contains (needs_of o t) k (i, a) at_need;
+          needed = typed_needed table graph (vals.Ref o) t i a (slice_get-Contains (needs_of o t) k (i, a) at_need) asked;
           lacks = λ held. not_held (subst (λ f. IsSomeAnd f (λ v. IsHeld (table_shapes table) graph pairs v a)) (field_there graph o i inside short) held);
         };
         first = λ i' a' less among.
-            let j = place_in ns (i', a') (subst (λ ms. Contains ms (i', a')) is among) in
+            let need = need_typed table graph (vals.Ref o) t i' a' among in
+            let j = place_in ns (i', a') (subst (λ ms. Contains ms (i', a')) is need.0) in
             let earlier = place_before (needs_of o t) (increase table graph o t) j.0 k i' i a' a (ap (λ ms. slice_get ms j.0) is ∙ j.1) at_need less in
-            before j.0 i' a' earlier j.1;
+            before j.0 i' a' earlier j.1 need.1;
       }
 
   -- ---- one pair

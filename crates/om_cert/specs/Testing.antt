@@ -8,7 +8,7 @@ use Rattle.om_model.specs.declared.value.Val.TheVariants as vals
 use Rattle.om_model.specs.declared.value.Obj.{Obj}
 use Rattle.om_heap.specs.Heap.{word_of}
 use Rattle.om_types.specs.Fault.{IsLexicallyBefore}
-use Rattle.om_types.specs.Table.{Table, table_shapes}
+use Rattle.om_types.specs.Table.{Table, table_shapes, is_asked_in}
 use Rattle.om_types.specs.Typing.{field_at, IsHeld}
 use Rattle.om_cert.specs.declared.verified.Why.{Why}
 use Rattle.om_cert.specs.declared.verified.Why.TheVariants.{Range, Unfit, Need, TwoTypes, Root}
@@ -120,10 +120,11 @@ HoldsAll table graph pairs o t =
     (i a : ℕ) → Contains ((table_shapes table).needs graph (vals.Ref o) t) (i, a)
     → HoldsNeed table graph pairs o (i, a)
 
--- the first n needs of an object are held
+-- of the first n fields of an object that have types those are held of which something is asked
 abbrev pub HoldsFirst : Table → List Obj → List (ℕ × ℕ) → ℕ → List (ℕ × ℕ) → ℕ → Type 0
 HoldsFirst table graph pairs o needs n =
-    (j i a : ℕ) → j < n → slice_get needs j ≡ Some (i, a) → HoldsNeed table graph pairs o (i, a)
+    (j i a : ℕ) → j < n → slice_get needs j ≡ Some (i, a) → IsTrue (is_asked_in table a)
+    → HoldsNeed table graph pairs o (i, a)
 
 -- the field is needed and not held, and none with a smaller number is so
 pub record IsFirstLack (table : Table) (graph : List Obj) (pairs : List (ℕ × ℕ))

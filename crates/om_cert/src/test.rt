@@ -5,7 +5,7 @@ ghost use Rattle.std.specs.Bool.{OnTrue};
 ghost use Rattle.om_model.specs.Graph.{IsGraph};
 ghost use Rattle.om_model.specs.declared.value.Val.TheVariants as vals;
 ghost use Rattle.om_types.specs.Fitting as fitting;
-ghost use Rattle.om_types.specs.Table.{table_shapes};
+ghost use Rattle.om_types.specs.Table.{table_shapes, typed_fields};
 ghost use Rattle.om_heap.specs.Heap.{word_of};
 ghost use Rattle.om_type_table.specs.Made.{table_of, IsLawful};
 ghost use Rattle.om_fits.specs.Needs.{needs_in};
@@ -15,7 +15,7 @@ ghost use Rattle.om_cert.specs.Testing.{AreAllThere, IsCrowd, HoldsAll, IsFirstL
 
 use crate::held::{is_elsewhere, is_held};
 use crate::verified::Why;
-use om_fits::{Needs, Row, is_mutable, known_needs};
+use om_fits::{Needs, Row, is_mutable, is_asked, known_needs};
 use om_heap::Heap;
 use om_model::value::Val;
 use om_scan::fits_type;
@@ -48,8 +48,8 @@ fn first_lack(
     requires increasing { AreIncreasing pairs.now }
     requires there { AreAllThere (table_of table.now) heap.now pairs.now }
     requires crowd { IsCrowd (table_of table.now) pairs.now crowd.now }
-    requires needs { (table_shapes (table_of table.now)).needs heap.now
-        (vals.Ref _object) _ty ≡ needs_in needs }
+    requires needs { typed_fields (table_of table.now) heap.now (vals.Ref _object) _ty
+        ≡ needs_in needs }
     ensures { MatchOption result (HoldsAll (table_of table.now) heap.now pairs.now _object _ty)
         (IsFirstLack (table_of table.now) heap.now pairs.now _object _ty) }
 {
@@ -59,6 +59,9 @@ fn first_lack(
     let words = heap.fields_at(word);
     for k in 0..needs.len() {
         let (field, ty) = needs.get(k);
+        if !is_asked(table.shape(ty)) {
+            continue;
+        }
         let value = words[field as usize];
         if !is_held(heap, table, rows, pairs, crowd, i + 1, value, ty) {
             return Some(field);

@@ -1,5 +1,5 @@
 -- Tables of one list of types say the same of a section.
-use Rattle.std.proofs.Common.{ℕ, ◌≡◌, ◌∙◌, ◌<◌, ◌≤◌, ◌⊎◌, inl, inr, List, [], ◌∷◌, length, Option, Some, None, refl, sym, ap, ap₂, subst, arith}
+use Rattle.std.proofs.Common.{ℕ, ◌≡◌, ◌∙◌, ◌<◌, ◌≤◌, ◌⊎◌, inl, inr, List, [], ◌∷◌, length, Option, Some, None, refl, sym, ap, subst, arith}
 use Rattle.std.specs.Prelude.{slice_get, Contains, IsSomeAnd}
 use Rattle.std.specs.List.{flat_map}
 use Rattle.std.proofs.lemmas.List.{length-map}
@@ -13,13 +13,11 @@ use Rattle.om_types.specs.declared.fault.Fault.{Fault}
 use Rattle.om_types.specs.declared.fault.Fault.TheVariants as faults
 use Rattle.om_types.specs.Ty.{Ty}
 use Rattle.om_types.specs.Fault.{IsFault}
-use Rattle.om_types.specs.Fitting.{fields_of, or_none}
 use Rattle.om_types.specs.Reached.{IsWithoutRepeats, reached_from, IsReached}
 use Rattle.om_types.specs.Shape.{shape}
-use Rattle.om_types.specs.Table.{Table, with_parts, node_or_none, table_shapes, IsTableOf}
+use Rattle.om_types.specs.Table.{Table, with_parts, table_shapes, IsTableOf}
 use Rattle.om_types.specs.Typing.{field_at, IsListed, IsHeld, IsTyping}
-use Rattle.om_equal.proofs.NeedAgreement.{NeedsAgree, FieldsAgree}
-use Rattle.om_equal.proofs.TableLemmas.{fields_same, fits, fits_back, fit_known, need_known, mutable, mutable_back, fault_forth, fault_back}
+use Rattle.om_equal.proofs.TableLemmas.{fits, fits_back, fit_known, need_known, need_forth, need_back, mutable, mutable_back, fault_forth, fault_back}
 use Rattle.om_section.specs.declared.section.Section.{Section}
 use Rattle.om_section.specs.declared.section.Section.TheVariants as sections
 use Rattle.om_cert.specs.declared.verified.Why.{Why}
@@ -47,36 +45,6 @@ first_is decls t types reached = by reached.in_order where
   by (inl (again, h)) = absurd (Contains-none t again)
   by (inr (new, rest, is, h)) = ap (λ l. slice_get l 0) is
 
--- ---- numbers of one list
-
-module _ (types : List Ty)
-    (apart : (i j : ℕ) (u : Ty) → slice_get types i ≡ Some u → slice_get types j ≡ Some u → i ≡ j)
-  where
-    abbrev Of : ℕ → Ty → Type 0
-    Of i u = slice_get types i ≡ Some u
-
-    needs_one :
-        (ns ms : List (ℕ × ℕ)) (ts : List (ℕ × Ty)) → NeedsAgree Of ns ts → NeedsAgree Of ms ts
-        → ns ≡ ms
-    needs_one [] [] [] h k = refl
-    needs_one [] ms (t ∷ ts) h k = absurd h
-    needs_one (n ∷ ns) ms [] h k = absurd h
-    needs_one [] (m ∷ ms) [] h k = absurd k
-    needs_one (n ∷ ns) [] (t ∷ ts) h k = absurd k
-    needs_one (n ∷ ns) (m ∷ ms) (t ∷ ts) (e, of, h) (e', of', k) =
-        let first : n ≡ m = ap₂ (λ (i j : ℕ). (i, j)) (e ∙ sym e') (apart n.1 m.1 t.1 of of') in
-        ap₂ (λ x xs. x ∷ xs) first (needs_one ns ms ts h k)
-
-    pub fields_one :
-        (ns ms : Option (List (ℕ × ℕ))) (ts : Option (List (ℕ × Ty))) → FieldsAgree Of ns ts
-        → FieldsAgree Of ms ts → ns ≡ ms
-    fields_one None None None h k = refl
-    fields_one None ms (Some ts) h k = absurd h
-    fields_one (Some ns) ms None h k = absurd h
-    fields_one None (Some ms) None h k = absurd k
-    fields_one (Some ns) None (Some ts) h k = absurd k
-    fields_one (Some ns) (Some ms) (Some ts) h k = ap Some (needs_one ns ms ts h k)
-
 -- ---- from one table to another
 
 module _ (decls : List Decl) (types : List Ty) (table other : Table)
@@ -95,12 +63,10 @@ module _ (decls : List Decl) (types : List Ty) (table other : Table)
       → Contains ((table_shapes other).needs graph v i) need
   needs_too v i need among =
       let u = need_known decls types table made graph v i need.0 need.1 among in
-      let same : fields_of graph v (node_or_none (slice_get table.nodes i))
-      ≡ fields_of graph v (node_or_none (slice_get other.nodes i)) =
-      fields_one types apart _ _ (fields_of graph v (shape decls u.0))
-      (fields_same decls types table made graph v i u.0 u.1)
-      (fields_same decls types other again graph v i u.0 u.1) in
-      subst (λ fields. Contains (or_none fields) need) same among
+      let forth = need_forth decls types table made graph v i u.0 need.0 need.1 u.1 among in
+      let back = need_back decls types other again graph v i u.0 need.0 forth.0 u.1 forth.1 in
+      let same = apart back.0 need.1 forth.0 back.2 forth.2 in
+      subst (λ j. Contains ((table_shapes other).needs graph v i) (need.0, j)) same back.1
 
   mutable_too :
       (o i : ℕ) → (table_shapes table).mutable graph o i → (table_shapes other).mutable graph o i

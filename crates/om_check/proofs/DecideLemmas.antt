@@ -55,7 +55,7 @@ module _ (table : Table) (graph : List Obj) where
         objects = λ k e at_k. subst (λ (f : Entry ℕ). f.object < length graph) (only_first first e k at_k).1 object;
         types = λ k e at_k. subst (λ (f : Entry ℕ). f.type < length table.nodes) (only_first first e k at_k).1 lawful.rooted;
         led = λ k e later at_k. let one = (only_first first e k at_k).0 in absurd (omega (arith, later, one));
-        done = λ k j i a e before at_k at_j. absurd (never k j before);
+        done = λ k j i a e before at_k at_j asked. absurd (never k j before);
       } where
         never : (k j : ℕ) → ComesBefore k j 0 0 → ⊥
         never k j (inl less) = omega arith

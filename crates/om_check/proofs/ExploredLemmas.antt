@@ -1,6 +1,6 @@
 -- One need more that was tested.
 use Rattle.std.proofs.Common.{ℕ, zero, suc, ◌<◌, ◌≡◌, ◌∙◌, ◌⊎◌, inl, inr, ⊎_elim, ◌++◌, List, [], ◌∷◌, length, Some, refl, sym, ap, subst, arith}
-use Rattle.std.specs.Prelude.{slice_get, option_and_then, option_map}
+use Rattle.std.specs.Prelude.{slice_get, option_and_then, option_map, IsTrue}
 use Rattle.std.proofs.lemmas.Option.{same_Some, slice_get_within}
 use Rattle.std.proofs.lemmas.List.Elements.{Contains-append_left, Contains-push}
 use Rattle.om_model.specs.declared.value.Val.{Val}
@@ -11,10 +11,10 @@ use Rattle.om_model.proofs.Numbers.{less_same_more}
 use Rattle.om_types.specs.declared.shape.ShapeOf.{ShapeOf}
 use Rattle.om_types.specs.Fault.{IsBefore, field_of, type_of_field, step, value_at}
 use Rattle.om_types.specs.Searched.{Entry, IsEntered}
-use Rattle.om_types.specs.Table.{Table, table_shapes, node_or_none}
+use Rattle.om_types.specs.Table.{Table, table_shapes, node_or_none, is_asked_in}
 use Rattle.om_typing.proofs.PathLemmas.{OneOfThree, value_at-push}
 use Rattle.om_typing.proofs.SearchedLemmas.{before_transitive, never_before_itself}
-use Rattle.om_check.specs.Explored.{ComesBefore, needs_at, IsMetNeed, IsLedTo, AreExplored}
+use Rattle.om_check.specs.Explored.{ComesBefore, entry_fields, IsMetNeed, IsLedTo, AreExplored}
 use Rattle.om_check.proofs.OrderLemmas.{both_pushed, pushed_less, root_before}
 use Rattle.om_scan.proofs.PathLemmas.{need_is_named}
 use Rattle.om_scan.proofs.IncreaseLemmas.{needs_increase}
@@ -63,13 +63,13 @@ module _ (table : Table) (graph : List Obj) where
   pub step_before :
       (told : List (Entry ℕ)) (m j n r i l a b : ℕ) (p e : Entry ℕ) → AreInOrder told → ComesBefore m j n r
       → slice_get told m ≡ Some p → slice_get told n ≡ Some e
-      → slice_get (needs_at table graph p) j ≡ Some (i, a) → slice_get (needs_at table graph e) r ≡ Some (l, b)
+      → slice_get (entry_fields table graph p) j ≡ Some (i, a) → slice_get (entry_fields table graph e) r ≡ Some (l, b)
       → IsBefore (p.path ++ i ∷ []) (e.path ++ l ∷ [])
   step_before told m j n r i l a b p e increasing (inl earlier) at_m at_n at_j at_r =
       both_pushed p.path e.path i l (increasing m n p e earlier at_m at_n)
   step_before told m j n r i l a b p e increasing (inr same) at_m at_n at_j at_r =
       let is : p ≡ e = same_Some p e (sym at_m ∙ ap (slice_get told) same.0 ∙ at_n) in
-      let at_j' = subst (λ q. slice_get (needs_at table graph q) j ≡ Some (i, a)) is at_j in
+      let at_j' = subst (λ q. slice_get (entry_fields table graph q) j ≡ Some (i, a)) is at_j in
       let less : i < l = needs_increase (node e.type) graph (vals.Ref e.object) j r i l a b same.1 at_j' at_r in
       subst (λ q. IsBefore (q.path ++ i ∷ []) (e.path ++ l ∷ [])) (sym is) (pushed_less e.path i l less)
 
@@ -77,15 +77,15 @@ module _ (table : Table) (graph : List Obj) where
   pub need_before :
       (told : List (Entry ℕ)) (m j n r i l a b : ℕ) (p e : Entry ℕ) → AreInOrder told
       → slice_get told m ≡ Some p → slice_get told n ≡ Some e
-      → slice_get (needs_at table graph p) j ≡ Some (i, a) → slice_get (needs_at table graph e) r ≡ Some (l, b)
+      → slice_get (entry_fields table graph p) j ≡ Some (i, a) → slice_get (entry_fields table graph e) r ≡ Some (l, b)
       → IsBefore (p.path ++ i ∷ []) (e.path ++ l ∷ []) → ComesBefore m j n r
   need_before told m j n r i l a b p e increasing at_m at_n at_j at_r before = ⊎_elim
       (λ earlier. earlier)
       (λ others. ⊎_elim
       (λ this.
       let is : p ≡ e = same_Some p e (sym at_m ∙ ap (slice_get told) this.0 ∙ at_n) in
-      let at_j' = subst (λ q. slice_get (needs_at table graph q) j ≡ Some (i, a)) is at_j in
-      let number : i ≡ l = ap (λ (need : ℕ × ℕ). need.0) (same_Some (i, a) (l, b) (sym at_j' ∙ ap (slice_get (needs_at table graph e)) this.1 ∙ at_r)) in
+      let at_j' = subst (λ q. slice_get (entry_fields table graph q) j ≡ Some (i, a)) is at_j in
+      let number : i ≡ l = ap (λ (need : ℕ × ℕ). need.0) (same_Some (i, a) (l, b) (sym at_j' ∙ ap (slice_get (entry_fields table graph e)) this.1 ∙ at_r)) in
       let path : p.path ++ i ∷ [] ≡ e.path ++ l ∷ [] = ap (λ q. q.path ++ i ∷ []) is ∙ ap (λ s. e.path ++ s ∷ []) number in
       absurd (never_before_itself (e.path ++ l ∷ []) (subst (λ q. IsBefore q (e.path ++ l ∷ [])) path before)))
       (λ later. absurd (never_before_itself (p.path ++ i ∷ [])
@@ -97,7 +97,7 @@ module _ (table : Table) (graph : List Obj) where
   module _ (root : ℕ) (told : List (Entry ℕ)) (n r : ℕ) (known : AreExplored table graph root told n r) where
     -- all entries so far have lesser paths than the need that comes next
     pub entries_before :
-        (i a : ℕ) (e : Entry ℕ) → slice_get told n ≡ Some e → slice_get (needs_at table graph e) r ≡ Some (i, a)
+        (i a : ℕ) (e : Entry ℕ) → slice_get told n ≡ Some e → slice_get (entry_fields table graph e) r ≡ Some (i, a)
         → (k : ℕ) (f : Entry ℕ) → slice_get told k ≡ Some f → IsBefore f.path (e.path ++ i ∷ [])
     entries_before i a e at_n at_r zero f at_k =
         let is : f.path ≡ [] = ap (λ (g : Entry ℕ). g.path) (same_Some f (record { path = []; object = root; type = 0 }) (sym at_k ∙ known.rooted)) in
@@ -109,13 +109,13 @@ module _ (table : Table) (graph : List Obj) where
 
     -- the path to the need leads to its value
     pub need_leads :
-        (i a : ℕ) (e : Entry ℕ) (w : Val) → slice_get told n ≡ Some e → slice_get (needs_at table graph e) r ≡ Some (i, a)
-        → field_of graph (vals.Ref e.object) i ≡ Some w
+        (i a : ℕ) (e : Entry ℕ) (w : Val) → slice_get told n ≡ Some e → slice_get (entry_fields table graph e) r ≡ Some (i, a)
+        → IsTrue (is_asked_in table a) → field_of graph (vals.Ref e.object) i ≡ Some w
         → value_at (table_shapes table) graph (vals.Ref root) 0 (e.path ++ i ∷ []) ≡ Some (w, a)
-    need_leads i a e w at_n at_r field =
-        let named = need_is_named (node e.type) graph (vals.Ref e.object) r i a at_r in
+    need_leads i a e w at_n at_r asked field =
+        let named = need_is_named table graph e.object e.type r i a at_r asked in
         let stepped : step (table_shapes table) graph (vals.Ref e.object) e.type i ≡ Some (w, a) =
-        ap (λ x. option_and_then (λ y. option_map (λ u. (y, u)) (type_of_field (needs_at table graph e) i)) x) field
+        ap (λ x. option_and_then (λ y. option_map (λ u. (y, u)) (type_of_field ((table_shapes table).needs graph (vals.Ref e.object) e.type) i)) x) field
         ∙ ap (λ u. option_map (λ t. (w, t)) u) named in
         value_at-push (table_shapes table) graph e.path (vals.Ref root) 0 i (vals.Ref e.object, e.type) (w, a) (known.leads n e at_n) stepped
 
@@ -129,22 +129,24 @@ module _ (table : Table) (graph : List Obj) where
       number = l.number;
       type = l.type;
       needed = l.needed;
+      asked = l.asked;
       path = l.path;
     }
 
     this_met : (i a j l b : ℕ) (e f : Entry ℕ) (k : ℕ) (more : List (Entry ℕ)) → IsThis k j n r → slice_get told n ≡ Some e → slice_get told k ≡ Some f
-        → slice_get (needs_at table graph e) r ≡ Some (i, a) → slice_get (needs_at table graph f) j ≡ Some (l, b)
-        → IsMetNeed table graph more e i a → IsMetNeed table graph more f l b
+        → slice_get (entry_fields table graph e) r ≡ Some (i, a) → slice_get (entry_fields table graph f) j ≡ Some (l, b)
+        → (IsTrue (is_asked_in table a) → IsMetNeed table graph more e i a) → IsTrue (is_asked_in table b) → IsMetNeed table graph more f l b
     this_met i a j l b e f k more this at_n at_k at_r at_j met =
         let is : e ≡ f = same_Some e f (sym at_n ∙ ap (slice_get told) (sym this.0) ∙ at_k) in
-        let at_r' = subst (λ q. slice_get (needs_at table graph q) r ≡ Some (i, a)) is at_r in
-        let need : ◌≡◌ {A = ℕ × ℕ} (i, a) (l, b) = same_Some (i, a) (l, b) (sym at_r' ∙ ap (slice_get (needs_at table graph f)) (sym this.1) ∙ at_j) in
-        subst (λ (q : ℕ × ℕ). IsMetNeed table graph more f q.0 q.1) need (subst (λ g. IsMetNeed table graph more g i a) is met)
+        let at_r' = subst (λ q. slice_get (entry_fields table graph q) r ≡ Some (i, a)) is at_r in
+        let need : ◌≡◌ {A = ℕ × ℕ} (i, a) (l, b) = same_Some (i, a) (l, b) (sym at_r' ∙ ap (slice_get (entry_fields table graph f)) (sym this.1) ∙ at_j) in
+        subst (λ (q : ℕ × ℕ). IsTrue (is_asked_in table q.1) → IsMetNeed table graph more f q.0 q.1) need
+        (subst (λ g. IsTrue (is_asked_in table a) → IsMetNeed table graph more g i a) is met)
 
-    -- the need was tested, and its object was met before
+    -- the field was tested, where something is asked of it, and its object was met before
     pub explored_same :
-        (i a : ℕ) (e : Entry ℕ) → slice_get told n ≡ Some e → slice_get (needs_at table graph e) r ≡ Some (i, a)
-        → IsMetNeed table graph told e i a → AreExplored table graph root told n (suc r)
+        (i a : ℕ) (e : Entry ℕ) → slice_get told n ≡ Some e → slice_get (entry_fields table graph e) r ≡ Some (i, a)
+        → (IsTrue (is_asked_in table a) → IsMetNeed table graph told e i a) → AreExplored table graph root told n (suc r)
     explored_same i a e at_n at_r met = record {
       rooted = known.rooted;
       leads = known.leads;
@@ -154,9 +156,9 @@ module _ (table : Table) (graph : List Obj) where
       objects = known.objects;
       types = known.types;
       led = λ k f later at_k. led_later f (known.led k f later at_k);
-      done = λ k j l b f before at_k at_j. ⊎_elim
-          (λ earlier. known.done k j l b f earlier at_k at_j)
-          (λ this. this_met i a j l b e f k told this at_n at_k at_r at_j met)
+      done = λ k j l b f before at_k at_j asked. ⊎_elim
+          (λ earlier. known.done k j l b f earlier at_k at_j asked)
+          (λ this. this_met i a j l b e f k told this at_n at_k at_r at_j met asked)
           (next_cases k j n r before);
     }
 
@@ -184,21 +186,22 @@ module _ (table : Table) (graph : List Obj) where
       number = l.number;
       type = l.type;
       needed = l.needed;
+      asked = l.asked;
       path = l.path;
     }
 
     -- The need was tested, and its object is entered as a new one.
     pub explored_more :
-        (i a o : ℕ) (e : Entry ℕ) → slice_get told n ≡ Some e → slice_get (needs_at table graph e) r ≡ Some (i, a)
-        → field_of graph (vals.Ref e.object) i ≡ Some (vals.Ref o) → (table_shapes table).fits graph (vals.Ref o) a
-        → o < length graph → a < length table.nodes
+        (i a o : ℕ) (e : Entry ℕ) → slice_get told n ≡ Some e → slice_get (entry_fields table graph e) r ≡ Some (i, a)
+        → IsTrue (is_asked_in table a) → field_of graph (vals.Ref e.object) i ≡ Some (vals.Ref o)
+        → (table_shapes table).fits graph (vals.Ref o) a → o < length graph → a < length table.nodes
         → ((k : ℕ) (f : Entry ℕ) → slice_get told k ≡ Some f → f.object ≡ o → slice_get table.classes f.type ≡ slice_get table.classes a → ⊥)
         → AreExplored table graph root (told ++ record { path = e.path ++ i ∷ []; object = o; type = a } ∷ []) n (suc r)
-    explored_more i a o e at_n at_r field fit object type new = record {
+    explored_more i a o e at_n at_r asked field fit object type new = record {
       rooted = slice_get-append_left told (f ∷ []) 0 (record { path = []; object = root; type = 0 }) known.rooted;
       leads = λ k g at_k. ⊎_elim
           (λ before. known.leads k g before)
-          (λ last. subst (λ h. value_at (table_shapes table) graph (vals.Ref root) 0 h.path ≡ Some (vals.Ref h.object, h.type)) last.1 (need_leads i a e (vals.Ref o) at_n at_r field))
+          (λ last. subst (λ h. value_at (table_shapes table) graph (vals.Ref root) 0 h.path ≡ Some (vals.Ref h.object, h.type)) last.1 (need_leads i a e (vals.Ref o) at_n at_r asked field))
           (slice_get-push_cases told f k g at_k);
       fit = λ k g at_k. ⊎_elim
           (λ before. known.fit k g before)
@@ -233,10 +236,10 @@ module _ (table : Table) (graph : List Obj) where
           (λ before. led_more f g (known.led k g later before))
           (λ last. subst (λ h. IsLedTo table graph (told ++ f ∷ []) n (suc r) h) last.1 led_here)
           (slice_get-push_cases told f k g at_k);
-      done = λ k j l b g before at_k at_j. ⊎_elim
+      done = λ k j l b g before at_k at_j also. ⊎_elim
           (λ old. ⊎_elim
-          (λ earlier. met_more f g l b (known.done k j l b g earlier old at_j))
-          (λ this. this_met i a j l b e g k (told ++ f ∷ []) this at_n old at_r at_j met)
+          (λ earlier. met_more f g l b (known.done k j l b g earlier old at_j also))
+          (λ this. this_met i a j l b e g k (told ++ f ∷ []) this at_n old at_r at_j (λ its. met) also)
           (next_cases k j n r before))
           (λ last. absurd (after k j last.0 before))
           (slice_get-push_cases told f k g at_k);
@@ -264,6 +267,7 @@ module _ (table : Table) (graph : List Obj) where
         number = i;
         type = a;
         needed = at_r;
+        asked = asked;
         path = refl;
       }
 
@@ -277,7 +281,7 @@ module _ (table : Table) (graph : List Obj) where
 
     -- the next visit, where all needs of this one were tested
     pub explored_next :
-        (e : Entry ℕ) → slice_get told n ≡ Some e → length (needs_at table graph e) ≡ r → AreExplored table graph root told (suc n) 0
+        (e : Entry ℕ) → slice_get told n ≡ Some e → length (entry_fields table graph e) ≡ r → AreExplored table graph root told (suc n) 0
     explored_next e at_n all = record {
       rooted = known.rooted;
       leads = known.leads;
@@ -297,22 +301,23 @@ module _ (table : Table) (graph : List Obj) where
             number = l.number;
             type = l.type;
             needed = l.needed;
+            asked = l.asked;
             path = l.path;
           };
-      done = λ k j l b f before at_k at_j. known.done k j l b f (within k j l b f before at_k at_j) at_k at_j;
+      done = λ k j l b f before at_k at_j asked. known.done k j l b f (within k j l b f before at_k at_j) at_k at_j asked;
     } where
       sooner : (k j : ℕ) → ComesBefore k j n r → k < suc n
       sooner k j (inl earlier) = omega arith
       sooner k j (inr same) = omega (arith, same.0)
 
-      within : (k j l b : ℕ) (f : Entry ℕ) → ComesBefore k j (suc n) 0 → slice_get told k ≡ Some f → slice_get (needs_at table graph f) j ≡ Some (l, b) → ComesBefore k j n r
+      within : (k j l b : ℕ) (f : Entry ℕ) → ComesBefore k j (suc n) 0 → slice_get told k ≡ Some f → slice_get (entry_fields table graph f) j ≡ Some (l, b) → ComesBefore k j n r
       within k j l b f (inl earlier) at_k at_j = ⊎_elim
           (λ less. inl less)
           (λ others. ⊎_elim
           (λ same.
           let is : f ≡ e = same_Some f e (sym at_k ∙ ap (slice_get told) same ∙ at_n) in
-          let few = slice_get_within (needs_at table graph f) j (l, b) at_j in
-          let few' = subst (λ g. j < length (needs_at table graph g)) is few in
+          let few = slice_get_within (entry_fields table graph f) j (l, b) at_j in
+          let few' = subst (λ g. j < length (entry_fields table graph g)) is few in
           inr (same, omega (arith, few', all)))
           (λ greater. absurd (omega arith))
           others)

@@ -1,7 +1,8 @@
 -- Objects at second classes, settled one after another.
 use Rattle.std.proofs.Common.{ℕ, ◌+◌, ◌%◌, ◌<◌, ◌≤◌, ◌≡◌, ◌≢◌, ◌∙◌, ⊎_elim, ◌++◌, Bool, true, false, List, [], ◌∷◌, length, take, Some, refl, sym, ap, subst, arith}
 use Rattle.std.specs.Bool.{OnTrue}
-use Rattle.std.specs.Prelude.{slice_get, sum_by, Contains}
+use Rattle.std.specs.Prelude.{slice_get, sum_by, Contains, IsTrue}
+use Rattle.std.proofs.lemmas.Bool.{false≢true}
 use Rattle.std.proofs.lemmas.List.{length-append, append_assoc, append-nil, take-append-le, take_more}
 use Rattle.std.proofs.lemmas.List.Sums.{sum_by_push}
 use Rattle.std.proofs.lemmas.Option.{same_Some, slice_get_within, get_or_from_slice_get}
@@ -11,14 +12,15 @@ use Rattle.om_model.specs.declared.value.Val.TheVariants as vals
 use Rattle.om_model.specs.declared.value.Obj.{Obj}
 use Rattle.om_model.proofs.Lists.{Contains-place}
 use Rattle.om_types.specs.Fitting.{numbered_from}
-use Rattle.om_types.specs.Table.{Table, table_shapes}
+use Rattle.om_types.specs.Table.{Table, table_shapes, is_asked_in}
 use Rattle.om_heap.specs.Heap.{field_at, word_of}
 use Rattle.om_scan.specs.declared.seconds.Seconds.{Seconds}
 use Rattle.om_scan.specs.Paths.{HasPath}
 use Rattle.om_scan.specs.Seconds.{noted_in, AreSeconds, IsNoting}
 use Rattle.om_scan.specs.Taken.{size_of}
-use Rattle.om_scan.specs.Scanned.{object_needs, IsFoundIn, pairs_with, IsNotedOver}
+use Rattle.om_scan.specs.Scanned.{object_needs, IsFoundIn, pairs_with, IsNotedOver, object_typed}
 use Rattle.om_scan.proofs.PlaceLemmas.{slice_get-append_below, contains_left, contains_right, contains_push, contains_cases}
+use Rattle.om_types.proofs.AskedLemmas.{need_typed}
 use Rattle.om_scan.proofs.ScanLemmas.{pair_there}
 use Rattle.om_scan.proofs.MarkLemmas.{noting_listed}
 use Rattle.om_check.specs.Settled.{AreOver, IsSettledAt, IsSettling, Extends, Finds, FindsNeeds, Settles, IsCounting}
@@ -126,23 +128,34 @@ module _ (table : Table) (graph : List Obj) (types : List ℕ) where
   -- ---- needs
 
   pub finds_none : (seconds : Seconds) (o t : ℕ) → AreOver table graph types seconds → FindsNeeds table graph types seconds seconds o t 0
-  finds_none seconds o t over = record { over = over; extends = extends_none (noted_in seconds); found = λ j i a less. absurd (omega (arith, less)) }
+  finds_none seconds o t over = record { over = over; extends = extends_none (noted_in seconds); found = λ j i a less at_j asked. absurd (omega (arith, less)) }
 
+  -- one field more, which is found where something is asked of it
   pub finds_more :
-      (old now new : Seconds) (o t r i a : ℕ) → FindsNeeds table graph types old now o t r → Finds table graph types now new (field_at graph o i) a
-      → slice_get (object_needs table graph o t) r ≡ Some (i, a) → FindsNeeds table graph types old new o t (r + 1)
-  finds_more old now new o t r i a before own at_r = record {
-    over = own.over;
-    extends = extends_twice (noted_in old) (noted_in now) (noted_in new) before.extends own.extends;
-    found = λ j x b less at_j. ⊎_elim
+      (old now new : Seconds) (o t r i a : ℕ) → FindsNeeds table graph types old now o t r → AreOver table graph types new
+      → Extends (noted_in now) (noted_in new)
+      → (IsTrue (is_asked_in table a) → IsFoundIn table graph (pairs_with types new) (field_at graph o i) a)
+      → slice_get (object_typed table graph o t) r ≡ Some (i, a) → FindsNeeds table graph types old new o t (r + 1)
+  finds_more old now new o t r i a before over extends own at_r = record {
+    over = over;
+    extends = extends_twice (noted_in old) (noted_in now) (noted_in new) before.extends extends;
+    found = λ j x b less at_j asked. ⊎_elim
         (λ same.
-        let pair = same_Some (i, a) (x, b) (sym at_r ∙ ap (slice_get (object_needs table graph o t)) (sym same) ∙ at_j) in
-        subst (λ (need : ℕ × ℕ). IsFoundIn table graph (pairs_with types new) (field_at graph o need.0) need.1) pair own.found)
-        (λ apart. found_extended now new (field_at graph o x) b own.extends (before.found j x b (below apart less) at_j))
+        let pair = same_Some (i, a) (x, b) (sym at_r ∙ ap (slice_get (object_typed table graph o t)) (sym same) ∙ at_j) in
+        subst (λ (need : ℕ × ℕ). IsTrue (is_asked_in table need.1) → IsFoundIn table graph (pairs_with types new) (field_at graph o need.0) need.1) pair own asked)
+        (λ apart. found_extended now new (field_at graph o x) b extends (before.found j x b (below apart less) at_j asked))
         (same_or_not j r);
   } where
     below : {j : ℕ} → j ≢ r → j < r + 1 → j < r
     below {j} apart less = omega (arith, apart, less)
+
+  -- nothing is asked of it
+  pub finds_hidden :
+      (old now : Seconds) (o t r i a : ℕ) → FindsNeeds table graph types old now o t r → is_asked_in table a ≡ false
+      → slice_get (object_typed table graph o t) r ≡ Some (i, a) → FindsNeeds table graph types old now o t (r + 1)
+  finds_hidden old now o t r i a before hidden at_r =
+      finds_more old now now o t r i a before before.over (extends_none (noted_in now))
+      (λ asked. absurd (false≢true (sym hidden ∙ asked))) at_r
 
   -- ---- pairs
 
@@ -157,7 +170,7 @@ module _ (table : Table) (graph : List Obj) (types : List ℕ) where
 
   pub settling_more :
       (old new : Seconds) (n o t : ℕ) → IsSettling table graph types old n → slice_get (noted_in old) n ≡ Some (o, t) → (table_shapes table).fits graph (vals.Ref o) t
-      → FindsNeeds table graph types old new o t (length (object_needs table graph o t)) → (¬ (table_shapes table).mutable graph o t)
+      → FindsNeeds table graph types old new o t (length (object_typed table graph o t)) → (¬ (table_shapes table).mutable graph o t)
       → ((u : ℕ) → slice_get types o ≡ Some u → ¬ (table_shapes table).mutable graph o u) → Settles table graph types old new n
   settling_more old new n o t settling at_n fits finds here first = record {
     settling = record {
@@ -187,8 +200,9 @@ module _ (table : Table) (graph : List Obj) (types : List ℕ) where
     own = record {
       fits = fits;
       found = λ i a needed.
-          let j = Contains-place (object_needs table graph o t) (i, a) needed in
-          finds.found j.0 i a (slice_get_within (object_needs table graph o t) j.0 (i, a) j.1) j.1;
+          let is = need_typed table graph (vals.Ref o) t i a needed in
+          let j = Contains-place (object_typed table graph o t) (i, a) is.0 in
+          finds.found j.0 i a (slice_get_within (object_typed table graph o t) j.0 (i, a) j.1) j.1 is.1;
       here = here;
       first = first;
     }

@@ -20,8 +20,9 @@ use Rattle.om_scan.specs.declared.seconds.Seconds.{Seconds}
 use Rattle.om_scan.specs.Paths.{HasPath}
 use Rattle.om_scan.specs.Seconds.{noted_in}
 use Rattle.om_scan.specs.Taken.{size_of}
-use Rattle.om_scan.specs.Scanned.{object_needs, IsFoundIn, pairs_with, cost_of}
+use Rattle.om_scan.specs.Scanned.{object_needs, IsFoundIn, pairs_with, cost_of, object_typed}
 use Rattle.om_scan.proofs.PlaceLemmas.{mapped_at, contains_left, contains_cases, slice_get-append_cases}
+use Rattle.om_types.proofs.AskedLemmas.{need_typed}
 use Rattle.om_scan.proofs.FieldLemmas.{field_there}
 use Rattle.om_scan.proofs.NeedLemmas.{need_field}
 use Rattle.om_scan.proofs.ScanLemmas.{pair_at}
@@ -95,7 +96,7 @@ module _ (table : Table) (graph : List Obj) (types : List ℕ) (seconds : Second
     fits = fits_at;
     held = λ o t i a among needed.
         let inside = (inside_at o t among).0 in
-        let j = Contains-place (object_needs table graph o t) (i, a) needed in
+        let j = Contains-place (object_typed table graph o t) (i, a) (need_typed table graph (vals.Ref o) t i a needed).0 in
         let short = need_field table graph o t j.0 i a inside j.1 in
         subst (λ value. IsSomeAnd value (λ v. IsHeld (table_shapes table) graph (pairs_with types seconds) v a)) (sym (field_there graph o i inside short))
         (held_from (field_at graph o i) a (⊎_elim

@@ -14,6 +14,7 @@ use Rattle.om_types.specs.Fault.{IsBefore}
 use Rattle.om_types.specs.LeastFault.{IsLeastFault}
 use Rattle.om_types.specs.Searched.{Entry, IsEntered, IsSearched, AreClashing, AreLeastClashing}
 use Rattle.om_types.specs.Table.{Table, table_shapes}
+use Rattle.om_types.proofs.AskedLemmas.{need_typed}
 use Rattle.om_types.specs.Typing.{field_at, IsListed, IsHeld, IsTyping, HasType}
 use Rattle.om_type_table.specs.Made.{IsLawful}
 use Rattle.om_typing.proofs.SearchedLemmas.{before_transitive, never_before_itself}
@@ -21,7 +22,7 @@ use Rattle.om_typing.proofs.LeastLemmas.{clash_is_least}
 use Rattle.om_check.specs.declared.visits.Visit.{Visit}
 use Rattle.om_check.specs.Clash.{mutable_at, ClashAt, NoneClash, IsFirstClash}
 use Rattle.om_check.specs.Told.{IsClashOf}
-use Rattle.om_check.specs.Explored.{needs_at, root_of, IsExplored}
+use Rattle.om_check.specs.Explored.{entry_fields, root_of, IsExplored}
 use Rattle.om_check.specs.Search.{pairs_of}
 use Rattle.om_check.specs.Verdict.{IsYes}
 use Rattle.om_scan.specs.Paths.{HasPath}
@@ -73,9 +74,10 @@ module _ (table : Table) (graph : List Obj) where
           leads = λ f among. let p = Contains-place x.told f among in x.explored.leads p.0 f p.1;
           tested = λ f l b w among need field seen.
               let p = Contains-place x.told f among in
-              let q = Contains-place (needs_at table graph f) (l, b) need in
+              let typed = need_typed table graph (vals.Ref f.object) f.type l b need in
+              let q = Contains-place (entry_fields table graph f) (l, b) typed.0 in
               let inside = slice_get_within x.told p.0 f p.1 in
-              let met = x.explored.done p.0 q.0 l b f (inl (omega (arith, inside, enough, x.are_told.many))) p.1 q.1 in
+              let met = x.explored.done p.0 q.0 l b f (inl (omega (arith, inside, enough, x.are_told.many))) p.1 q.1 typed.1 in
               let same : met.value ≡ w = same_Some met.value w (sym met.there ∙ field) in (
                 subst (λ v. (table_shapes table).fits graph v b) same met.fits,
                 subst (λ v. IsEntered (table_shapes table) x.told v b (f.path ++ l ∷ [])) same met.entered,
@@ -215,9 +217,10 @@ module _ (table : Table) (graph : List Obj) where
         let t = tells_of table graph all x.told k v x.are_told at_k in
         let need' = subst (λ a. Contains ((table_shapes table).needs graph (vals.Ref t.entry.object) a) (i, u)) (sym t.type)
         (subst (λ o. Contains ((table_shapes table).needs graph (vals.Ref o) v.ty) (i, u)) (sym t.object) need) in
-        let j = Contains-place (needs_at table graph t.entry) (i, u) need' in
+        let typed = need_typed table graph (vals.Ref t.entry.object) t.entry.type i u need' in
+        let j = Contains-place (entry_fields table graph t.entry) (i, u) typed.0 in
         let inside = slice_get_within all k v at_k in
-        let met = x.explored.done k j.0 i u t.entry (inl (omega (arith, inside, enough))) t.at j.1 in
+        let met = x.explored.done k j.0 i u t.entry (inl (omega (arith, inside, enough))) t.at j.1 typed.1 in
         let field = subst (λ o. field_at graph o i ≡ Some met.value) t.object met.there in
         subst (λ f. IsSomeAnd f (λ w. IsHeld (table_shapes table) graph (pairs_of all) w u)) (sym field)
         (record { fits = met.fits; listed = listed_of met.value u (t.entry.path ++ i ∷ []) met.entered })

@@ -1,6 +1,6 @@
 -- Visits whose needs are tested one after another.
 use Rattle.std.proofs.Common.{ℕ, suc, ◌+◌, ◌<◌, ◌≡◌, ◌∙◌, inl, inr, ⊎_elim, ◌++◌, List, [], ◌∷◌, length, get_or, true, false, Some, None, refl, sym, ap, subst, arith}
-use Rattle.std.specs.Prelude.{slice_get, All, IsSomeAnd}
+use Rattle.std.specs.Prelude.{slice_get, All, IsSomeAnd, IsTrue}
 use Rattle.std.proofs.lemmas.List.{append-nil, append_assoc, length-append}
 use Rattle.std.proofs.lemmas.Option.{same_Some, slice_get_within, slice_get-get_or}
 use Rattle.om_model.proofs.Options.{slice_get_there, slice_get-Contains}
@@ -14,7 +14,9 @@ use Rattle.om_types.specs.Fault.{IsBefore, field_of, IsMisfit}
 use Rattle.om_types.specs.LeastFault.{IsLeastFault}
 use Rattle.om_types.specs.Lawful.{AreLawful, Everything}
 use Rattle.om_types.specs.Searched.{Entry, IsEntered, IsSearched}
-use Rattle.om_types.specs.Table.{Table, table_shapes}
+use Rattle.om_types.specs.Table.{Table, table_shapes, typed_fields, is_asked_in}
+use Rattle.om_types.proofs.AskedLemmas.{need_typed}
+use Rattle.std.proofs.lemmas.Bool.{false≢true}
 use Rattle.om_type_table.specs.Made.{IsLawful}
 use Rattle.om_typing.proofs.PathLemmas.{paths_compare}
 use Rattle.om_typing.proofs.SearchedLemmas.{before_transitive, never_before_itself}
@@ -23,9 +25,9 @@ use Rattle.om_check.specs.declared.visits.Visit.{Visit}
 use Rattle.om_check.specs.declared.search.Need.{Need}
 use Rattle.om_check.specs.Clash.{IsWithin}
 use Rattle.om_check.specs.Told.{AreOrdered, AreTold}
-use Rattle.om_check.specs.Explored.{needs_at, root_of, AreExplored, IsExplored}
+use Rattle.om_check.specs.Explored.{entry_fields, root_of, AreExplored, IsExplored}
 use Rattle.om_check.specs.Visits.{IsMet}
-use Rattle.om_check.specs.Search.{EntersValue, TestsNeed, IsMisfitAt, Grows, IsTesting, TestsVisit, visit_needs}
+use Rattle.om_check.specs.Search.{EntersValue, TestsNeed, IsMisfitAt, Grows, IsTesting, TestsVisit, visit_needs, visit_fields}
 use Rattle.om_scan.proofs.PlaceLemmas.{slice_get-append_below, slice_get-push_cases}
 use Rattle.om_check.proofs.ExploredLemmas.{need_before, need_leads, entries_before, explored_same, explored_more, explored_next}
 
@@ -102,13 +104,15 @@ module _ (table : Table) (graph : List Obj) where
     pub at : slice_get all n ≡ Some visit
     pub parent : need.parent ≡ n
     pub object : need.object ≡ visit.object
-    pub needed : slice_get (visit_needs table graph visit) r ≡ Some (need.step, need.ty)
+    pub needed : slice_get (visit_fields table graph visit) r ≡ Some (need.step, need.ty)
+    pub asked : IsTrue (is_asked_in table need.ty)
 
   record Told (all : List Visit) (n r : ℕ) (need : Need) (x : IsExplored table graph all n r) : Type 0 where
     entry : Entry ℕ
     at : slice_get x.told n ≡ Some entry
     object : entry.object ≡ need.object
-    needed : slice_get (needs_at table graph entry) r ≡ Some (need.step, need.ty)
+    needed : slice_get (entry_fields table graph entry) r ≡ Some (need.step, need.ty)
+    asked : IsTrue (is_asked_in table need.ty)
 
   told_need : (all : List Visit) (n r : ℕ) (need : Need) (x : IsExplored table graph all n r) → IsNeedOf all n r need → Told all n r need x
   told_need all n r need x is =
@@ -117,8 +121,9 @@ module _ (table : Table) (graph : List Obj) where
         entry = t.entry;
         at = t.at;
         object = t.object ∙ sym is.object;
-        needed = subst (λ i. slice_get ((table_shapes table).needs graph (vals.Ref t.entry.object) i) r ≡ Some (need.step, need.ty)) (sym t.type)
-            (subst (λ o. slice_get ((table_shapes table).needs graph (vals.Ref o) is.visit.ty) r ≡ Some (need.step, need.ty)) (sym t.object) is.needed);
+        needed = subst (λ i. slice_get (typed_fields table graph (vals.Ref t.entry.object) i) r ≡ Some (need.step, need.ty)) (sym t.type)
+            (subst (λ o. slice_get (typed_fields table graph (vals.Ref o) is.visit.ty) r ≡ Some (need.step, need.ty)) (sym t.object) is.needed);
+        asked = is.asked;
       }
 
   same_explored :
@@ -129,7 +134,7 @@ module _ (table : Table) (graph : List Obj) where
     told = x.told;
     are_told = x.are_told;
     ordered = x.ordered;
-    explored = explored_same table graph (root_of all) x.told n r x.explored need.step need.ty t.entry t.at t.needed (record {
+    explored = explored_same table graph (root_of all) x.told n r x.explored need.step need.ty t.entry t.at t.needed (λ asked. record {
       value = w;
       there = subst (λ o. field_of graph (vals.Ref o) need.step ≡ Some w) (sym t.object) field;
       fits = fit;
@@ -212,7 +217,7 @@ module _ (table : Table) (graph : List Obj) where
       let some : 0 < length x.told = omega arith in
       let some' : 0 < length all = omega (arith, some, x.are_told.many) in
       let grown : Grows all (all ++ v ∷ []) = record { added = v ∷ []; extends = refl } in
-      let more = explored_more table graph (root_of all) x.told n r x.explored need.step need.ty o t.entry t.at t.needed
+      let more = explored_more table graph (root_of all) x.told n r x.explored need.step need.ty o t.entry t.at t.needed t.asked
       (subst (λ p. field_of graph (vals.Ref p) need.step ≡ Some (vals.Ref o)) (sym t.object) field) fit object type (λ k e at_k is same.
       let w = slice_get_there all k (let here = slice_get_within x.told k e at_k in omega (arith, here, x.are_told.many)) in
       new (k, w.0, w.1, sym (x.are_told.objects k w.0 e w.1 at_k) ∙ is, ap (slice_get table.classes) (sym (x.are_told.types k w.0 e w.1 at_k)) ∙ same)) in
@@ -253,6 +258,7 @@ module _ (table : Table) (graph : List Obj) where
     parent = is.parent;
     object = is.object;
     needed = is.needed;
+    asked = is.asked;
   }
 
   pub testing_first : (all : List Visit) (n : ℕ) → IsExplored table graph all n 0 → IsTesting table graph all all n 0
@@ -272,16 +278,37 @@ module _ (table : Table) (graph : List Obj) where
             (fitting_explored now new n r need tests.value testing.explored t is.parent type tests.valid tests.there tests.tested.0 tests.tested.1);
       }
 
+  -- nothing is asked of the field
+  pub testing_hidden :
+      (old now : List Visit) (n r i a : ℕ) (v : Visit) → IsTesting table graph old now n r → slice_get old n ≡ Some v
+      → slice_get (visit_fields table graph v) r ≡ Some (i, a) → is_asked_in table a ≡ false → IsTesting table graph old now n (r + 1)
+  testing_hidden old now n r i a v testing at_n at_r hidden =
+      let x = testing.explored in
+      let t = tells_of now x.told n v x.are_told (at_still old now n v testing.grows at_n) in
+      let needed = subst (λ u. slice_get (typed_fields table graph (vals.Ref t.entry.object) u) r ≡ Some (i, a)) (sym t.type)
+      (subst (λ o. slice_get (typed_fields table graph (vals.Ref o) v.ty) r ≡ Some (i, a)) (sym t.object) at_r) in
+      let next : suc r ≡ r + 1 = omega arith in
+      record {
+        grows = testing.grows;
+        explored = subst (IsExplored table graph now n) next (record {
+          told = x.told;
+          are_told = x.are_told;
+          ordered = x.ordered;
+          explored = explored_same table graph (root_of now) x.told n r x.explored i a t.entry t.at needed
+              (λ asked. absurd (false≢true (sym hidden ∙ asked)));
+        });
+      }
+
   -- all needs were tested
   pub testing_all :
       (old now : List Visit) (n r : ℕ) (v : Visit) → IsTesting table graph old now n r → slice_get old n ≡ Some v
-      → length (visit_needs table graph v) ≡ r → TestsVisit table graph old now n None
+      → length (visit_fields table graph v) ≡ r → TestsVisit table graph old now n None
   testing_all old now n r v testing at_n all =
       let x = testing.explored in
       let t = tells_of now x.told n v x.are_told (at_still old now n v testing.grows at_n) in
-      let many : length (needs_at table graph t.entry) ≡ r =
-      ap (λ o. length ((table_shapes table).needs graph (vals.Ref o) t.entry.type)) t.object
-      ∙ ap (λ i. length ((table_shapes table).needs graph (vals.Ref v.object) i)) t.type ∙ all in
+      let many : length (entry_fields table graph t.entry) ≡ r =
+      ap (λ o. length (typed_fields table graph (vals.Ref o) t.entry.type)) t.object
+      ∙ ap (λ i. length (typed_fields table graph (vals.Ref v.object) i)) t.type ∙ all in
       record {
         grows = testing.grows;
         tested = record {
@@ -296,7 +323,7 @@ module _ (table : Table) (graph : List Obj) where
 
   misfit_searched :
       (root : ℕ) (told : List (Entry ℕ)) (n r i a : ℕ) (e : Entry ℕ) → AreExplored table graph root told n r
-      → slice_get told n ≡ Some e → slice_get (needs_at table graph e) r ≡ Some (i, a)
+      → slice_get told n ≡ Some e → slice_get (entry_fields table graph e) r ≡ Some (i, a)
       → IsSearched (table_shapes table) graph (vals.Ref root) 0 told (λ other. IsBefore other (e.path ++ i ∷ []))
   misfit_searched root told n r i a e x at_n at_r =
       let first : Entry ℕ = record { path = []; object = root; type = 0 } in
@@ -313,8 +340,9 @@ module _ (table : Table) (graph : List Obj) where
         leads = λ f among. let p = Contains-place told f among in x.leads p.0 f p.1;
         tested = λ f l b w among need field before.
             let p = Contains-place told f among in
-            let q = Contains-place (needs_at table graph f) (l, b) need in
-            let met = x.done p.0 q.0 l b f (need_before table graph told p.0 q.0 n r l i b a f e x.increasing p.1 at_n q.1 at_r before) p.1 q.1 in
+            let typed = need_typed table graph (vals.Ref f.object) f.type l b need in
+            let q = Contains-place (entry_fields table graph f) (l, b) typed.0 in
+            let met = x.done p.0 q.0 l b f (need_before table graph told p.0 q.0 n r l i b a f e x.increasing p.1 at_n q.1 at_r before) p.1 q.1 typed.1 in
             let same : met.value ≡ w = same_Some met.value w (sym met.there ∙ field) in (
               subst (λ v. (table_shapes table).fits graph v b) same met.fits,
               subst (λ v. IsEntered (table_shapes table) told v b (f.path ++ l ∷ [])) same met.entered,
@@ -323,11 +351,11 @@ module _ (table : Table) (graph : List Obj) where
 
   misfit_at :
       (root : ℕ) (told : List (Entry ℕ)) (n r i a : ℕ) (e : Entry ℕ) (w : Val) → AreLawful (table_shapes table) Everything
-      → AreExplored table graph root told n r → slice_get told n ≡ Some e → slice_get (needs_at table graph e) r ≡ Some (i, a)
-      → field_of graph (vals.Ref e.object) i ≡ Some w → ¬ (table_shapes table).fits graph w a
+      → AreExplored table graph root told n r → slice_get told n ≡ Some e → slice_get (entry_fields table graph e) r ≡ Some (i, a)
+      → IsTrue (is_asked_in table a) → field_of graph (vals.Ref e.object) i ≡ Some w → ¬ (table_shapes table).fits graph w a
       → IsLeastFault (table_shapes table) graph (vals.Ref root) 0 (Misfit (e.path ++ i ∷ []))
-  misfit_at root told n r i a e w lawful x at_n at_r field unfit =
-      let leads = need_leads table graph root told n r x i a e w at_n at_r field in
+  misfit_at root told n r i a e w lawful x at_n at_r asked field unfit =
+      let leads = need_leads table graph root told n r x i a e w at_n at_r asked field in
       let misfit : IsMisfit (table_shapes table) graph (vals.Ref root) 0 (e.path ++ i ∷ []) =
       subst (λ place. IsSomeAnd place (λ p. ¬ (table_shapes table).fits graph p.0 p.1)) (sym leads) unfit in
       misfit_is_least (table_shapes table) lawful graph (vals.Ref root) 0 told (e.path ++ i ∷ []) (misfit_searched root told n r i a e x at_n at_r) misfit
@@ -348,6 +376,6 @@ module _ (table : Table) (graph : List Obj) where
           in_range = slice_get_within now n is'.visit is'.at;
           ordered = x.ordered;
           least = λ path leads. subst (λ p. IsLeastFault (table_shapes table) graph (vals.Ref (root_of now)) 0 (Misfit (p ++ need.step ∷ []))) (sym (leads x.told t.entry x.are_told t.at))
-              (misfit_at (root_of now) x.told n r need.step need.ty t.entry tests.value lawful.lawful x.explored t.at t.needed field tests.tested.0);
+              (misfit_at (root_of now) x.told n r need.step need.ty t.entry tests.value lawful.lawful x.explored t.at t.needed t.asked field tests.tested.0);
         });
       }

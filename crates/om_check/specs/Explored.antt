@@ -1,21 +1,22 @@
 -- What a check knows from turn to turn.
-use Rattle.std.specs.Prelude.{ℕ, ◌≡◌, ◌⊎◌, ◌<◌, List, [], ◌∷◌, ◌++◌, length, Some, slice_get}
+use Rattle.std.specs.Prelude.{ℕ, ◌≡◌, ◌⊎◌, ◌<◌, List, [], ◌∷◌, ◌++◌, length, Some, slice_get, IsTrue}
 use Rattle.om_model.specs.declared.value.Val.{Val}
 use Rattle.om_model.specs.declared.value.Val.TheVariants as vals
 use Rattle.om_model.specs.declared.value.Obj.{Obj}
 use Rattle.om_types.specs.Fault.{IsBefore, field_of, value_at}
 use Rattle.om_types.specs.Searched.{Entry, IsEntered}
-use Rattle.om_types.specs.Table.{Table, table_shapes}
+use Rattle.om_types.specs.Table.{Table, table_shapes, typed_fields, is_asked_in}
 use Rattle.om_check.specs.declared.visits.Visit.{Visit}
 use Rattle.om_check.specs.Told.{AreOrdered, AreTold}
 
--- need j of visit k comes before need r of visit n
+-- field j of visit k comes before field r of visit n, by their places among those that have types
 abbrev pub ComesBefore : ℕ → ℕ → ℕ → ℕ → Type 0
 ComesBefore k j n r = (k < n) ⊎ ((k ≡ n) × (j < r))
 
--- what an object needs at its type
-abbrev pub needs_at : Table → List Obj → Entry ℕ → List (ℕ × ℕ)
-needs_at table graph e = (table_shapes table).needs graph (vals.Ref e.object) e.type
+-- the fields of an object that have types at its type, by their places; those are needed of whose
+-- values something is asked
+abbrev pub entry_fields : Table → List Obj → Entry ℕ → List (ℕ × ℕ)
+entry_fields table graph e = typed_fields table graph (vals.Ref e.object) e.type
 
 -- A need of an entry, at a type, is there, fits, and is entered.
 pub record IsMetNeed (table : Table) (graph : List Obj) (told : List (Entry ℕ)) (e : Entry ℕ)
@@ -35,7 +36,8 @@ pub record IsLedTo (table : Table) (graph : List Obj) (told : List (Entry ℕ)) 
   pub before : ComesBefore parent need n r
   pub number : ℕ
   pub type : ℕ
-  pub needed : slice_get (needs_at table graph entry) need ≡ Some (number, type)
+  pub needed : slice_get (entry_fields table graph entry) need ≡ Some (number, type)
+  pub asked : IsTrue (is_asked_in table type)
   pub path : e.path ≡ entry.path ++ number ∷ []
 
 -- The entries so far, where all needs before need r of entry n were tested.
@@ -60,7 +62,8 @@ pub record AreExplored (table : Table) (graph : List Obj) (root : ℕ) (told : L
       → IsLedTo table graph told n r e
   pub done :
       (k j i a : ℕ) (e : Entry ℕ) → ComesBefore k j n r → slice_get told k ≡ Some e
-      → slice_get (needs_at table graph e) j ≡ Some (i, a) → IsMetNeed table graph told e i a
+      → slice_get (entry_fields table graph e) j ≡ Some (i, a) → IsTrue (is_asked_in table a)
+      → IsMetNeed table graph told e i a
 
 -- the first visit's object
 abbrev pub root_of : List Visit → ℕ

@@ -7,7 +7,7 @@ use Rattle.om_model.specs.Graph.{IsValue}
 use Rattle.om_types.specs.declared.fault.Fault.TheVariants.{Misfit}
 use Rattle.om_types.specs.Fault.{field_of}
 use Rattle.om_types.specs.LeastFault.{IsLeastFault}
-use Rattle.om_types.specs.Table.{Table, table_shapes}
+use Rattle.om_types.specs.Table.{Table, table_shapes, typed_fields}
 use Rattle.om_heap.specs.Heap as heap
 use Rattle.om_scan.specs.declared.taken.Taken.{Taken}
 use Rattle.om_scan.specs.Taken.{types_in, seen_of, size_of, rest_of}
@@ -60,7 +60,7 @@ pub record Grows (old new : List Visit) : Type 0 where
   pub added : List Visit
   pub extends : new ≡ old ++ added
 
--- The first r needs of visit n were tested.
+-- The first r fields of visit n were tested, where something is asked of them.
 pub record IsTesting (table : Table) (graph : List Obj) (old now : List Visit) (n r : ℕ)
     : Type 0 where
   pub grows : Grows old now
@@ -76,6 +76,10 @@ pub record TestsVisit (table : Table) (graph : List Obj) (old new : List Visit) 
 -- what a visit's object needs at its type
 abbrev pub visit_needs : Table → List Obj → Visit → List (ℕ × ℕ)
 visit_needs table graph v = (table_shapes table).needs graph (vals.Ref v.object) v.ty
+
+-- its fields that have types there, by their places
+abbrev pub visit_fields : Table → List Obj → Visit → List (ℕ × ℕ)
+visit_fields table graph v = typed_fields table graph (vals.Ref v.object) v.ty
 
 -- a scan saw what the visit's object needs at the fields below a number
 abbrev pub AreSeen : Table → List Obj → Taken → Visit → ℕ → Type 0
@@ -128,8 +132,8 @@ pairs_of all = map (λ (v : Visit). (v.object, v.ty)) all
 
 -- ---- loops
 
--- The first r needs of visit n were tested, up to the fields below `reached`, in a step for each
--- field that no scan saw.
+-- The first r fields of visit n that have types were tested, up to the fields below `reached`, in a
+-- step for each field that no scan saw.
 pub record IsTestingVisit (table : Table) (graph : List Obj) (old now : Visits) (v : Visit)
     (n r seen start steps : ℕ) : Type 0 where
   pub linked : AreLinked table (length graph) now
@@ -137,7 +141,7 @@ pub record IsTestingVisit (table : Table) (graph : List Obj) (old now : Visits) 
   pub reached : ℕ
   pub inside : reached ≤ size_of graph v.object
   pub small : reached < 2 ^ 64
-  pub later : (j i a : ℕ) → r ≤ j → slice_get (visit_needs table graph v) j ≡ Some (i, a)
+  pub later : (j i a : ℕ) → r ≤ j → slice_get (visit_fields table graph v) j ≡ Some (i, a)
       → reached ≤ i
   pub few : steps ≤ start + (reached - seen)
 

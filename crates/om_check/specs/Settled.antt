@@ -1,15 +1,15 @@
 -- What is known of objects that a scan noted at second classes, while each is settled.
-use Rattle.std.specs.Prelude.{ℕ, ◌≡◌, ◌<◌, ◌≤◌, ◌+◌, List, ◌++◌, length, take, Some, slice_get, sum_by, Contains}
+use Rattle.std.specs.Prelude.{ℕ, ◌≡◌, ◌<◌, ◌≤◌, ◌+◌, List, ◌++◌, length, take, Some, slice_get, sum_by, Contains, IsTrue}
 use Rattle.om_model.specs.declared.value.Val.{Val}
 use Rattle.om_model.specs.declared.value.Val.TheVariants as vals
 use Rattle.om_model.specs.declared.value.Obj.{Obj}
-use Rattle.om_types.specs.Table.{Table, table_shapes}
+use Rattle.om_types.specs.Table.{Table, table_shapes, is_asked_in}
 use Rattle.om_heap.specs.Heap.{field_at}
 use Rattle.om_scan.specs.declared.seconds.Seconds.{Seconds}
 use Rattle.om_scan.specs.Paths.{HasPath}
 use Rattle.om_scan.specs.Seconds.{noted_in}
 use Rattle.om_scan.specs.Taken.{size_of}
-use Rattle.om_scan.specs.Scanned.{object_needs, IsFoundIn, pairs_with, IsScannedBut}
+use Rattle.om_scan.specs.Scanned.{object_needs, object_typed, IsFoundIn, pairs_with, IsScannedBut}
 
 -- The types of the objects are right but for what was noted, to which paths lead.
 pub record AreOver (table : Table) (graph : List Obj) (types : List ℕ) (seconds : Seconds)
@@ -47,13 +47,15 @@ pub record Finds (table : Table) (graph : List Obj) (types : List ℕ) (old new 
   pub extends : Extends (noted_in old) (noted_in new)
   pub found : IsFoundIn table graph (pairs_with types new) v t
 
--- More may be noted, and the first r needs of an object at a type are found.
+-- More may be noted, and of the first r fields of an object that have types at a type those are
+-- found of which something is asked.
 pub record FindsNeeds (table : Table) (graph : List Obj) (types : List ℕ) (old new : Seconds)
     (o t r : ℕ) : Type 0 where
   pub over : AreOver table graph types new
   pub extends : Extends (noted_in old) (noted_in new)
   pub found :
-      (j i a : ℕ) → j < r → slice_get (object_needs table graph o t) j ≡ Some (i, a)
+      (j i a : ℕ) → j < r → slice_get (object_typed table graph o t) j ≡ Some (i, a)
+      → IsTrue (is_asked_in table a)
       → IsFoundIn table graph (pairs_with types new) (field_at graph o i) a
 
 -- More may be noted, and the one at place n is settled too.

@@ -16,10 +16,10 @@ ghost use Rattle.om_scan.specs.Scanned as scans;
 ghost use Rattle.om_scan.specs.Scanned.{AreTaken, IsSeen, IsSeenObject, left_of};
 ghost use Rattle.om_check.specs.Visits.{listed, AreLinked};
 ghost use Rattle.om_check.specs.Explored.{IsExplored};
-ghost use Rattle.om_check.specs.Search.{FitAll, TestsNeed, TestsVisit, Searches, AreSeen, cost_at, is_taken, visit_needs};
+ghost use Rattle.om_check.specs.Search.{FitAll, TestsNeed, TestsVisit, Searches, AreSeen, cost_at, is_taken, visit_fields};
 
 use crate::visits::{Visit, Visits, is_at};
-use om_fits::{Needs, Row, known_needs};
+use om_fits::{Needs, Row, is_asked, known_needs};
 use om_heap::Heap;
 use om_model::Memory;
 use om_model::value::Val;
@@ -211,7 +211,7 @@ fn test_needs(
     steps: &mut Steps,
 ) -> Result<Option<u64>, Memory>
     requires visit { slice_get (listed visits.old) n ≡ Some visit }
-    requires needs { visit_needs (table_of table.now) heap.now visit ≡ needs_in needs }
+    requires needs { visit_fields (table_of table.now) heap.now visit ≡ needs_in needs }
     requires graph { IsGraph heap.now }
     requires rows { AreRows table.now.nodes rows.now }
     requires lawful { IsLawful (table_of table.now) }
@@ -231,6 +231,9 @@ fn test_needs(
     let mut next = visit.object.wrapping_add(1);
     for k in 0..needs.len() {
         let (step, ty) = needs.get(k);
+        if !is_asked(table.shape(ty)) {
+            continue;
+        }
         let need = Need {
             parent: n,
             object: visit.object,

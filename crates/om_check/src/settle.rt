@@ -1,20 +1,21 @@
 //! Objects that a scan noted at second classes: what is below each of them there is tested.
 
-ghost use Rattle.std.specs.Prelude.{ℕ, ◌≡◌, ◌<◌, ◌≤◌, ◌+◌, length, Some, slice_get, IfOk, IfSome};
+ghost use Rattle.std.specs.Prelude.{ℕ, ◌≡◌, ◌<◌, ◌≤◌, ◌+◌, length, Some, slice_get, IfOk, IfSome, ◌^◌, IsTrue};
 ghost use Rattle.std.specs.Bool.{OnTrue};
 ghost use Rattle.om_model.specs.Graph.{IsGraph};
 ghost use Rattle.om_model.specs.declared.value.Val.TheVariants as vals;
 ghost use Rattle.om_heap.specs.Heap.{field_at, word_of};
+ghost use Rattle.om_types.specs.Table.{table_shapes, is_asked_in};
 ghost use Rattle.om_fits.specs.Needs.{needs_in};
 ghost use Rattle.om_type_table.specs.Made.{table_of, IsLawful};
 ghost use Rattle.om_scan.specs.FittingRows.{AreRows};
 ghost use Rattle.om_scan.specs.Paths.{HasPath};
 ghost use Rattle.om_scan.specs.Seconds.{noted_in};
 ghost use Rattle.om_scan.specs.Taken.{size_of};
-ghost use Rattle.om_scan.specs.Scanned.{object_needs};
+ghost use Rattle.om_scan.specs.Scanned.{object_typed};
 ghost use Rattle.om_check.specs.Settled.{AreOver, IsSettling, Finds, FindsNeeds, Settles, IsSettled, cost_of_pairs};
 
-use om_fits::{Needs, Row, is_mutable, known_needs};
+use om_fits::{Needs, Row, is_asked, is_mutable, known_needs};
 use om_heap::Heap;
 use om_model::Memory;
 use om_model::value::Val;
@@ -116,13 +117,13 @@ fn settle_needs(
     requires lawful { IsLawful (table_of table.now) }
     requires object { object < length heap.now }
     requires node { ty < length table.now.nodes }
-    requires needs { object_needs (table_of table.now) heap.now object ty ≡ needs_in needs }
+    requires needs { object_typed (table_of table.now) heap.now object ty ≡ needs_in needs }
     requires over { AreOver (table_of table.now) heap.now types.now seconds.old }
     requires path { HasPath (table_of table.now) heap.now (vals.Ref 0) object ty }
     ensures finds { IfOk result
         (λ met. OnTrue met
         (FindsNeeds (table_of table.now) heap.now types.now seconds.old seconds.new object ty
-        (length (object_needs (table_of table.now) heap.now object ty)))) }
+        (length (object_typed (table_of table.now) heap.now object ty)))) }
 {
     if needs.len() == 0 {
         return Ok(true);
@@ -130,6 +131,9 @@ fn settle_needs(
     let words = heap.fields(object);
     for k in 0..needs.len() {
         let (field, needed) = needs.get(k);
+        if !is_asked(table.shape(needed)) {
+            continue;
+        }
         let word = words[field as usize];
         if !settle_need(
             heap, table, rows, types, seconds, object, ty, k, field, word, needed,
@@ -160,8 +164,9 @@ fn settle_need(
     requires lawful { IsLawful (table_of table.now) }
     requires object { _object < length heap.now }
     requires node { _ty < length table.now.nodes }
-    requires need { slice_get (object_needs (table_of table.now) heap.now _object _ty) _place
+    requires need { slice_get (object_typed (table_of table.now) heap.now _object _ty) _place
         ≡ Some (_field, needed) }
+    requires asked { IsTrue (is_asked_in (table_of table.now) needed) }
     requires word { word ≡ word_of heap.now (field_at heap.now _object _field) }
     requires over { AreOver (table_of table.now) heap.now types.now seconds.old }
     requires path { HasPath (table_of table.now) heap.now (vals.Ref 0) _object _ty }

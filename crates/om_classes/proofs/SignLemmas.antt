@@ -46,7 +46,7 @@ module _ {A B : Type 0} (R : A → B → Type 0) where
 
 abbrev in_order : List Predeclared
 in_order = bases.Int ∷ bases.Char ∷ bases.Bool ∷ bases.Unit ∷ bases.String ∷ bases.Bytes ∷ bases.Float ∷ bases.Int32
-    ∷ bases.Int64 ∷ bases.Nativeint ∷ bases.Floatarray ∷ bases.List ∷ bases.Option ∷ bases.Array ∷ bases.Ref ∷ []
+    ∷ bases.Int64 ∷ bases.Nativeint ∷ bases.Floatarray ∷ bases.List ∷ bases.Option ∷ bases.Array ∷ bases.Ref ∷ bases.Any ∷ []
 
 at_code : (b : Predeclared) → slice_get in_order (code_of b) ≡ Some b
 at_code bases.Int = refl
@@ -64,6 +64,7 @@ at_code bases.List = refl
 at_code bases.Option = refl
 at_code bases.Array = refl
 at_code bases.Ref = refl
+at_code bases.Any = refl
 
 same_base : (b c : Predeclared) → code_of b ≡ code_of c → b ≡ c
 same_base b c is = same_Some b c (sym (at_code b) ∙ ap (slice_get in_order) is ∙ at_code c)

@@ -26,6 +26,7 @@ code_of bases.List = 11
 code_of bases.Option = 12
 code_of bases.Array = 13
 code_of bases.Ref = 14
+code_of bases.Any = 15
 
 -- the tag by the number of its name
 pub record IsTagForm (names : List (List ℕ)) (tag : TagOf ℕ) (form : TagForm) : Type 0 where

@@ -131,5 +131,6 @@ fn code_of(base: Predeclared) -> usize
         Predeclared::Option => 12,
         Predeclared::Array => 13,
         Predeclared::Ref => 14,
+        Predeclared::Any => 15,
     }
 }

@@ -45,7 +45,8 @@ use Rattle.om_equal.proofs.ShapeAgreement.{same_int32}
 use Rattle.om_equal.proofs.ShapeAgreement.{same_int64, same_native, same_sum, same_product}
 use Rattle.om_equal.proofs.ShapeAgreement.{same_flat}
 use Rattle.om_equal.proofs.ShapeAgreement.{same_array, same_float_array, same_poly, same_variable}
-use Rattle.om_equal.proofs.ShapeAgreement.{same_array_of_variable}
+use Rattle.om_equal.proofs.ShapeAgreement.{same_array_of_variable, same_anything}
+use Rattle.om_equal.proofs.ShapeAgreement.{same_array_of_anything}
 
 -- ---- tags by their hashes
 
@@ -171,6 +172,7 @@ own_shape Likes decls bases.Int32 = same_int32
 own_shape Likes decls bases.Int64 = same_int64
 own_shape Likes decls bases.Nativeint = same_native
 own_shape Likes decls bases.Floatarray = same_float_array
+own_shape Likes decls bases.Any = same_anything
 own_shape Likes decls b = same_variable
 
 -- with several they have no values
@@ -190,6 +192,7 @@ module _ (Likes : Ty → Ty → Type 0) where
         own : (b : Predeclared) → ShapesAgree Likes (array_of (heads.Predeclared b ts) t)
             (array_of (heads.Predeclared b us) u)
         own bases.Float = same_float_array
+        own bases.Any = same_array_of_anything t u alike
         own b = same_array t u alike
 
   arrays_agree : (h k : HeadOf Ty) (t u : Ty) → HeadsAgree Likes h k → Likes t u

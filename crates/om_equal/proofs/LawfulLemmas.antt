@@ -9,7 +9,8 @@ use Rattle.om_types.specs.declared.decl.Decl.{Decl}
 use Rattle.om_types.specs.Ty.{Ty}
 use Rattle.om_types.specs.Head.{head}
 use Rattle.om_types.specs.Shape.{shape}
-use Rattle.om_types.specs.Fitting.{fields_of, is_mutable, or_none}
+use Rattle.om_types.specs.Fitting.{fields_of, is_mutable, or_none, is_asked, asked_of}
+use Rattle.om_types.proofs.AskedLemmas.{asked_is, is_needed}
 use Rattle.om_types.specs.Accepted.{AreSound, AreKnownByHash}
 use Rattle.om_types.specs.Equal.{Equal, declared_shapes}
 use Rattle.om_types.specs.Reached.{named_in, parts_of, reached_from, IsReached}
@@ -24,7 +25,7 @@ use Rattle.om_equal.proofs.RankedLemmas.{are_ranked}
 use Rattle.om_equal.proofs.ReachedLemmas.{reached_listed, needs_named}
 use Rattle.om_equal.proofs.NeedAgreement.{FieldsAgree, both_some, both_some_back, need_matched}
 use Rattle.om_equal.proofs.NeedAgreement.{turned_fields}
-use Rattle.om_equal.proofs.ShapeAgreement.{ShapesAgree, fields_agree, mutable_agrees}
+use Rattle.om_equal.proofs.ShapeAgreement.{ShapesAgree, fields_agree, mutable_agrees, asked_same}
 use Rattle.om_equal.proofs.TyEquality.{types_same_or_not}
 
 -- ---- reached types
@@ -66,8 +67,11 @@ module _ (decls : List Decl) (sound : AreSound decls) (types : List Ty)
   abbrev Fits : List Obj → Val → Ty → Type 0
   Fits graph v t = IsSome (fields_of graph v (shape decls t))
 
+  abbrev fields_at : List Obj → Val → Ty → List (ℕ × Ty)
+  fields_at graph v t = or_none (fields_of graph v (shape decls t))
+
   abbrev needs_at : List Obj → Val → Ty → List (ℕ × Ty)
-  needs_at graph v t = or_none (fields_of graph v (shape decls t))
+  needs_at graph v t = asked_of (shape decls) (fields_at graph v t)
 
   turned : (t u : Ty) → Same t u → Same u t
   turned t u equal = equal_turned (head decls) t u equal
@@ -82,16 +86,25 @@ module _ (decls : List Decl) (sound : AreSound decls) (types : List Ty)
       both_some_back (Alike back.pairs) (fields_of graph v (shape decls u))
       (fields_of graph v (shape decls t)) (agree_at u t back among graph v) fits
 
-  need : (graph : List Obj) (v : Val) (t u : Ty) (i : ℕ) (a : Ty) → Contains types t
-      ⊎ Contains types u → Same t u → Contains (needs_at graph v t) (i, a) → (b : Ty)
-      × Contains (needs_at graph v u) (i, b) × Same a b
-  need graph v t u i a (inr among) equal has =
+  -- equal types are asked of alike
+  asked_alike : (t u : Ty) → Contains types t ⊎ Contains types u → Same t u
+      → is_asked (shape decls t) ≡ is_asked (shape decls u)
+  asked_alike t u (inr among) equal =
+      asked_same (Alike equal.pairs) (shapes_agree t u equal among)
+  asked_alike t u (inl among) equal =
+      let back = turned t u equal in
+      sym (asked_same (Alike back.pairs) (shapes_agree u t back among))
+
+  field : (graph : List Obj) (v : Val) (t u : Ty) (i : ℕ) (a : Ty) → Contains types t
+      ⊎ Contains types u → Same t u → Contains (fields_at graph v t) (i, a) → (b : Ty)
+      × Contains (fields_at graph v u) (i, b) × Same a b × (Contains types a ⊎ Contains types b)
+  field graph v t u i a (inr among) equal has =
       let found = need_matched (Alike equal.pairs) (fields_of graph v (shape decls t))
       (fields_of graph v (shape decls u)) (agree_at t u equal among graph v) i a has in
       let listed = named_here u found.0 among
       (needs_named (shape decls u) graph v i found.0 found.1) in
-      (found.0, found.1, alike_equal t u equal a found.0 listed found.2)
-  need graph v t u i a (inl among) equal has =
+      (found.0, found.1, alike_equal t u equal a found.0 listed found.2, inr listed)
+  field graph v t u i a (inl among) equal has =
       let back = turned t u equal in
       let agree = turned_fields (Alike back.pairs) (fields_of graph v (shape decls u))
       (fields_of graph v (shape decls t)) (agree_at u t back among graph v) in
@@ -99,7 +112,16 @@ module _ (decls : List Decl) (sound : AreSound decls) (types : List Ty)
       (fields_of graph v (shape decls u)) agree i a has in
       let listed = named_here t a among
       (needs_named (shape decls t) graph v i a has) in
-      (found.0, found.1, turned found.0 a (alike_equal u t back found.0 a listed found.2))
+      (found.0, found.1, turned found.0 a (alike_equal u t back found.0 a listed found.2), inl listed)
+
+  need : (graph : List Obj) (v : Val) (t u : Ty) (i : ℕ) (a : Ty) → Contains types t
+      ⊎ Contains types u → Same t u → Contains (needs_at graph v t) (i, a) → (b : Ty)
+      × Contains (needs_at graph v u) (i, b) × Same a b
+  need graph v t u i a among equal has =
+      let is = asked_is (shape decls) (fields_at graph v t) i a has in
+      let found = field graph v t u i a among equal is.0 in
+      let asked = subst IsTrue (asked_alike a found.0 found.3 found.2) is.1 in
+      (found.0, is_needed (shape decls) (fields_at graph v u) i found.0 found.1 asked, found.2)
 
   abbrev Mutable : List Obj → ℕ → Ty → Type 0
   Mutable graph o t =
@@ -131,7 +153,8 @@ module _ (decls : List Decl) (sound : AreSound decls) (types : List Ty)
     transitive = λ t u w first second. equal_joined (head decls) types_same_or_not t u w first
         second;
     closed = λ graph v t i a among has. named_here t a among
-        (needs_named (shape decls t) graph v i a has);
+        (needs_named (shape decls t) graph v i a
+        (asked_is (shape decls) (fields_at graph v t) i a has).0);
     fits = fit;
     needs = need;
     mutable = change;

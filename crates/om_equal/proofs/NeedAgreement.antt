@@ -1,8 +1,10 @@
 -- Needs that agree: the same fields are needed, at types that are related.
 use Rattle.std.proofs.Common.{ℕ, ◌≡◌, ◌∙◌, ⊎_elim, List, [], ◌∷◌, Option, Some, None, refl, ap}
-use Rattle.std.proofs.Common.{subst, sym}
+use Rattle.std.proofs.Common.{subst, sym, Bool, true, false, cond}
 use Rattle.std.specs.Prelude.{Contains, IsSome}
-use Rattle.om_types.specs.Fitting.{or_none}
+use Rattle.std.proofs.lemmas.Bool.{false≢true}
+use Rattle.om_types.specs.declared.shape.ShapeOf.{ShapeOf}
+use Rattle.om_types.specs.Fitting.{or_none, is_asked, asked_of}
 use Rattle.om_model.proofs.Options.{Contains-first, Contains-later, Contains-none, Contains-cases}
 
 module _ {T U : Type 0} (Likes : T → U → Type 0) where
@@ -79,3 +81,23 @@ module _ {T U : Type 0} (Likes : T → U → Type 0) where
   turned_fields (Some ns) (Some ms) agree = turned_needs ns ms agree
   turned_fields None (Some ms) agree = absurd agree
   turned_fields (Some ns) None agree = absurd agree
+
+-- where related types are asked of alike, the needs that are asked agree too
+module _ {T U : Type 0} (Likes : T → U → Type 0) (shape : T → ShapeOf T) (other : U → ShapeOf U)
+    (alike : (t : T) (u : U) → Likes t u → is_asked (shape t) ≡ is_asked (other u)) where
+  put_agree : (test test' : Bool) (n : ℕ × T) (m : ℕ × U) (ns : List (ℕ × T)) (ms : List (ℕ × U))
+      → test ≡ test' → n.0 ≡ m.0 → Likes n.1 m.1 → NeedsAgree Likes ns ms
+      → NeedsAgree Likes (cond test (n ∷ ns) ns) (cond test' (m ∷ ms) ms)
+  put_agree true true n m ns ms same number likes agree = (number, likes, agree)
+  put_agree false false n m ns ms same number likes agree = agree
+  put_agree true false n m ns ms same number likes agree = absurd (false≢true (sym same))
+  put_agree false true n m ns ms same number likes agree = absurd (false≢true same)
+
+  pub asked_agree : (ns : List (ℕ × T)) (ms : List (ℕ × U)) → NeedsAgree Likes ns ms
+      → NeedsAgree Likes (asked_of shape ns) (asked_of other ms)
+  asked_agree [] [] agree = tt
+  asked_agree (n ∷ ns) (m ∷ ms) agree =
+      put_agree (is_asked (shape n.1)) (is_asked (other m.1)) n m (asked_of shape ns)
+      (asked_of other ms) (alike n.1 m.1 agree.1) agree.0 agree.1 (asked_agree ns ms agree.2)
+  asked_agree [] (m ∷ ms) agree = absurd agree
+  asked_agree (n ∷ ns) [] agree = absurd agree

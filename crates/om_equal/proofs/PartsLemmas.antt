@@ -16,7 +16,7 @@ use Rattle.om_types.specs.Fitting.{is_number, tag_with, is_bare, fits_int, fits_
 use Rattle.om_types.specs.Fitting.{fields_if, constr_fields, argument_field, tag_fields}
 use Rattle.om_types.specs.Fitting.{block_fields, none_if, is_double, is_bytes, has_doubles}
 use Rattle.om_types.specs.Fitting.{is_int32, is_int64, is_native, object_fields, fields_of}
-use Rattle.om_types.specs.Fitting.{is_mutable, is_mutable_block, tag_of_block}
+use Rattle.om_types.specs.Fitting.{is_mutable, is_mutable_block, tag_of_block, is_asked}
 
 module _ {T U : Type 0} (f : T → U) where
   abbrev need : ℕ × T → ℕ × U
@@ -111,6 +111,9 @@ module _ {T U : Type 0} (f : T → U) where
   block_mapped (shapes.ArrayOf t) tag values =
       ap (fields_if (tag == 0)) (replicate_mapped (length values) t)
       ∙ fields_mapped (tag == 0) (replicate (length values) t)
+  block_mapped (shapes.ArrayOfAnything t) tag values =
+      ap (fields_if (tag == 0)) (replicate_mapped (length values) t)
+      ∙ fields_mapped (tag == 0) (replicate (length values) t)
   block_mapped (shapes.Poly tags) tag values =
       if_mapped (tag == 0) (tag_fields (map polytag tags) values) (tag_fields tags values)
       (tag_fields_mapped tags values)
@@ -164,6 +167,10 @@ module _ {T U : Type 0} (f : T → U) where
   atom_same shapes.FloatArray tag = refl
   atom_same shapes.ArrayOfVariable tag = refl
   atom_same shape tag = refl
+
+  pub asked_same : (shape : ShapeOf T) → is_asked (with_parts f shape) ≡ is_asked shape
+  asked_same shapes.Anything = refl
+  asked_same shape = refl
 
   none_mapped : (one other : Bool) → one ≡ other → Mapped (none_if one) (none_if other)
   none_mapped one other same = ap none_if same ∙ fields_mapped other []

@@ -162,6 +162,8 @@ module _ {T : Type 0} where
   block_named (shapes.Product mutable ts) tag values i a among = if_named _ ts i a among
   block_named (shapes.ArrayOf t) tag values i a among =
       repeated_is _ t a (if_named _ (replicate _ t) i a among)
+  block_named (shapes.ArrayOfAnything t) tag values i a among =
+      repeated_is _ t a (if_named _ (replicate _ t) i a among)
   block_named (shapes.Poly tags) tag values i a among =
       when_named _ (its_arguments tags) (tag_fields tags values) (tags_named tags values) i a among
   block_named s tag values i a among = absurd (Contains-none (i, a) among)

@@ -18,7 +18,7 @@ use Rattle.om_types.specs.Fitting.{tag_with, is_bare, fits_int, fits_atom, numbe
 use Rattle.om_types.specs.Fitting.{constr_fields, argument_field, tag_fields, block_fields, none_if}
 use Rattle.om_types.specs.Fitting.{is_double, is_bytes, has_doubles, is_int32, is_int64, is_native}
 use Rattle.om_types.specs.Fitting.{object_fields, fields_of, is_mutable, is_mutable_block}
-use Rattle.om_types.specs.Fitting.{tag_of_block}
+use Rattle.om_types.specs.Fitting.{tag_of_block, is_asked}
 
 module _ {T : Type 0} (Alike : T → T → Type 0) where
   abbrev pub BlocksAgree : List (Constr T) → List (Constr T) → Type 0
@@ -56,6 +56,9 @@ module _ {T : Type 0} (Alike : T → T → Type 0) where
         → ShapesAgree (shapes.Poly tags) (shapes.Poly others)
     same_variable : ShapesAgree shapes.Variable shapes.Variable
     same_array_of_variable : ShapesAgree shapes.ArrayOfVariable shapes.ArrayOfVariable
+    same_anything : ShapesAgree shapes.Anything shapes.Anything
+    same_array_of_anything : (t u : T) → Alike t u
+        → ShapesAgree (shapes.ArrayOfAnything t) (shapes.ArrayOfAnything u)
 
   -- ---- needs
 
@@ -133,6 +136,11 @@ module _ {T : Type 0} (Alike : T → T → Type 0) where
   native_same same_native = refl
   native_same same = refl
 
+  -- the same values are asked of
+  pub asked_same : {s r : ShapeOf T} → ShapesAgree s r → is_asked s ≡ is_asked r
+  asked_same same_anything = refl
+  asked_same same = refl
+
   -- ---- blocks
 
   -- both have a constructor there, which agree, or none has
@@ -207,6 +215,9 @@ module _ {T : Type 0} (Alike : T → T → Type 0) where
       ((tag == 0) && (length us == length values)) ts us
       (ap (λ n. (tag == 0) && (n == length values)) (lengths_same ts us agree)) agree
   block_agree (same_array t u alike) tag values =
+      if_agree (tag == 0) (replicate (length values) t) (replicate (length values) u)
+      (repeated (length values) t u alike)
+  block_agree (same_array_of_anything t u alike) tag values =
       if_agree (tag == 0) (replicate (length values) t) (replicate (length values) u)
       (repeated (length values) t u alike)
   block_agree (same_poly tags others agree) tag values =

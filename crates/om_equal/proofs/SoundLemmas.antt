@@ -52,7 +52,8 @@ use Rattle.om_equal.proofs.HeadInstance.{no_variable, of_argument, unfolded_is}
 use Rattle.om_equal.proofs.HeadInstance.{weighs, falls_to}
 use Rattle.om_equal.proofs.HeadInstance.{heavier, around, within, again, plain, last_part}
 use Rattle.om_equal.proofs.InstanceLemmas.{type-instance, type-takes, abbreviation_is}
-use Rattle.om_equal.proofs.TagLemmas.{filtered-Contains, Contains-has_tag, not_true, is_new}
+use Rattle.om_types.proofs.ListLemmas.{filtered-Contains}
+use Rattle.om_equal.proofs.TagLemmas.{Contains-has_tag, not_true, is_new}
 
 -- ---- tags of one name are one tag
 
@@ -418,6 +419,7 @@ module _ (decls : List Decl) (well : AreWellFormed decls) where
     by_base : (base : Predeclared) → Contains (named_in (array_of (heads.Predeclared base ts) t)) a
         → Sound a
     by_base bases.Float has = none_of a has
+    by_base bases.Any has = one_of [] t a s none_of has
     by_base base has = one_of [] t a s none_of has
   array_named h t a s among = one_of [] t a s none_of among
 
@@ -581,6 +583,7 @@ module _ (decls : List Decl) (well : AreWellFormed decls) where
   array_hashed (heads.Predeclared b ts) t = by_base b where
     by_base : (base : Predeclared) → HashedShape (array_of (heads.Predeclared base ts) t)
     by_base bases.Float = tt
+    by_base bases.Any = tt
     by_base base = tt
   array_hashed h t = tt
 

@@ -17,6 +17,8 @@ use Rattle.om_types.specs.declared.shape.ShapeOf.TheVariants as shapes
 use Rattle.om_types.specs.Ty.{Ty}
 use Rattle.om_types.specs.Shape.{shape}
 use Rattle.om_types.specs.Fitting.{object_fields, fields_of, is_mutable, or_none}
+use Rattle.om_types.specs.Fitting.{is_asked, asked_of}
+use Rattle.om_types.proofs.AskedLemmas.{asked_is, is_needed}
 use Rattle.om_types.specs.Shapes.{Shapes}
 use Rattle.om_types.specs.Accepted.{AreSound, AreKnownByHash}
 use Rattle.om_types.specs.Equal.{declared_shapes}
@@ -29,8 +31,8 @@ use Rattle.om_model.proofs.Options.{Contains-none, slice_get-Contains, none_is_n
 use Rattle.om_equal.proofs.LawfulLemmas.{reached_lawful}
 use Rattle.om_equal.proofs.NeedAgreement.{NeedsAgree, FieldsAgree, both_some, both_some_back}
 use Rattle.om_equal.proofs.NeedAgreement.{need_matched}
-use Rattle.om_equal.proofs.NeedAgreement.{turned_fields}
-use Rattle.om_equal.proofs.PartsLemmas.{fields_of_mapped, mutable_same}
+use Rattle.om_equal.proofs.NeedAgreement.{turned_fields, asked_agree}
+use Rattle.om_equal.proofs.PartsLemmas.{fields_of_mapped, mutable_same, asked_same}
 use Rattle.om_equal.proofs.SimulationLemmas.{SayTheSame, BothOf, fault_on}
 
 -- ---- mapped lists
@@ -137,12 +139,18 @@ module _ {T U : Type 0} (one : Shapes T) (other : Shapes U) (Of : T → U → Ty
         (find (λ need. need.0 == k) ms) (ap (λ i. i == k) agree.0) agree.1
         (need_types ns ms k agree.2)
 
-    option_types : (ns : Option (List (ℕ × T))) (ms : Option (List (ℕ × U))) (k : ℕ)
-        → FieldsAgree Of ns ms → Both (type_of_field (or_none ns) k) (type_of_field (or_none ms) k)
-    option_types None None k agree = tt
-    option_types (Some ns) (Some ms) k agree = need_types ns ms k agree
-    option_types None (Some ms) k agree = absurd agree
-    option_types (Some ns) None k agree = absurd agree
+    module _ (own : T → ShapeOf T) (its : U → ShapeOf U)
+        (alike : (t : T) (u : U) → Of t u → is_asked (own t) ≡ is_asked (its u)) where
+      option_types : (ns : Option (List (ℕ × T))) (ms : Option (List (ℕ × U))) (k : ℕ)
+          → FieldsAgree Of ns ms
+          → Both (type_of_field (asked_of own (or_none ns)) k)
+          (type_of_field (asked_of its (or_none ms)) k)
+      option_types None None k agree = tt
+      option_types (Some ns) (Some ms) k agree =
+          need_types (asked_of own ns) (asked_of its ms) k
+          (asked_agree Of own its alike ns ms agree)
+      option_types None (Some ms) k agree = absurd agree
+      option_types (Some ns) None k agree = absurd agree
 
 -- ---- tables
 
@@ -170,6 +178,12 @@ module _ (decls : List Decl) (types : List Ty) (table : Table) (made : IsTableOf
     shape_is i u of =
         let s = found i u of in
         ap (λ o. with_parts (slice_get types) (node_or_none o)) s.1 ∙ s.2
+
+    -- and asked of as the type
+    pub asked_at : (i : ℕ) (u : Ty) → Of i u → is_asked (node i) ≡ is_asked (shape decls u)
+    asked_at i u of =
+        sym (asked_same (slice_get types) (node i)) ∙ ap is_asked (shape_is i u of)
+        ∙ asked_same Some (shape decls u)
 
     -- a number with a shape is some type's
     known : (i : ℕ) (s : ShapeOf ℕ) → slice_get table.nodes i ≡ Some s → (u : Ty) × Of i u
@@ -215,8 +229,33 @@ module _ (decls : List Decl) (types : List Ty) (table : Table) (made : IsTableOf
       fit_known v i fits = fit_found v (slice_get table.nodes i) i refl fits
 
       pub need_known :
-          (v : Val) (i k j : ℕ) → Contains (or_none (numbers_at v i)) (k, j) → (u : Ty) × Of i u
-      need_known v i k j has = fit_known v i (needs_some (numbers_at v i) (k, j) has)
+          (v : Val) (i k j : ℕ) → Contains ((table_shapes table).needs graph v i) (k, j)
+          → (u : Ty) × Of i u
+      need_known v i k j has =
+          fit_known v i (needs_some (numbers_at v i) (k, j)
+          (asked_is node (or_none (numbers_at v i)) k j has).0)
+
+      -- what is needed by numbers is needed by types, and back
+      pub need_forth : (v : Val) (i : ℕ) (u : Ty) (k j : ℕ) → Of i u
+          → Contains ((table_shapes table).needs graph v i) (k, j)
+          → (a : Ty) × Contains ((declared_shapes decls).needs graph v u) (k, a) × Of j a
+      need_forth v i u k j of has =
+          let is = asked_is node (or_none (numbers_at v i)) k j has in
+          let found = need_matched Of (numbers_at v i) (types_at v u) (fields_same v i u of) k j
+          is.0 in
+          let asked = subst IsTrue (asked_at j found.0 found.2) is.1 in
+          (found.0, is_needed (shape decls) (or_none (types_at v u)) k found.0 found.1 asked,
+          found.2)
+
+      pub need_back : (v : Val) (i : ℕ) (u : Ty) (k : ℕ) (a : Ty) → Of i u
+          → Contains ((declared_shapes decls).needs graph v u) (k, a)
+          → (j : ℕ) × Contains ((table_shapes table).needs graph v i) (k, j) × Of j a
+      need_back v i u k a of has =
+          let is = asked_is (shape decls) (or_none (types_at v u)) k a has in
+          let found = need_matched (λ t n. Of n t) (types_at v u) (numbers_at v i)
+          (turned_fields Of (numbers_at v i) (types_at v u) (fields_same v i u of)) k a is.0 in
+          let asked = subst IsTrue (sym (asked_at found.0 a found.2)) is.1 in
+          (found.0, is_needed node (or_none (numbers_at v i)) k found.0 found.1 asked, found.2)
 
       -- ---- both say the same
 
@@ -224,19 +263,21 @@ module _ (decls : List Decl) (types : List Ty) (table : Table) (made : IsTableOf
       Types v u = IsSome (types_at v u)
 
       field_types : (v : Val) (i : ℕ) (u : Ty) (k : ℕ) → Of i u → BothOf (table_shapes table)
-          (declared_shapes decls) Of graph (type_of_field (or_none (numbers_at v i)) k)
-          (type_of_field (or_none (types_at v u)) k)
+          (declared_shapes decls) Of graph
+          (type_of_field ((table_shapes table).needs graph v i) k)
+          (type_of_field ((declared_shapes decls).needs graph v u) k)
       field_types v i u k of =
-          option_types (table_shapes table) (declared_shapes decls) Of graph (numbers_at v i)
-          (types_at v u) k (fields_same v i u of)
+          option_types (table_shapes table) (declared_shapes decls) Of graph node (shape decls)
+          asked_at (numbers_at v i) (types_at v u) k (fields_same v i u of)
 
       back_types : (v : Val) (i : ℕ) (u : Ty) (k : ℕ) → Of i u → BothOf (declared_shapes decls)
-          (table_shapes table) (λ t j. Of j t) graph (type_of_field (or_none (types_at v u)) k)
-          (type_of_field (or_none (numbers_at v i)) k)
+          (table_shapes table) (λ t j. Of j t) graph
+          (type_of_field ((declared_shapes decls).needs graph v u) k)
+          (type_of_field ((table_shapes table).needs graph v i) k)
       back_types v i u k of =
           option_types (declared_shapes decls) (table_shapes table) (λ t j. Of j t) graph
-          (types_at v u) (numbers_at v i) k (turned_fields Of (numbers_at v i) (types_at v u)
-          (fields_same v i u of))
+          (shape decls) node (λ t j of'. sym (asked_at j t of')) (types_at v u) (numbers_at v i) k
+          (turned_fields Of (numbers_at v i) (types_at v u) (fields_same v i u of))
 
       abbrev pub Fits : Val → ℕ → Type 0
       Fits v i = IsSome (numbers_at v i)
@@ -367,23 +408,16 @@ module _ (decls : List Decl) (sound : AreSound decls) (root : Ty) (types : List 
       (fits decls types table made graph v i one.0 one.1 fit))
 
   needs_too : (graph : List Obj) (v : Val) (i j k a : ℕ) → Class i j
-      → Contains (or_none (fields_of graph v (node decls types table made i))) (k, a) → (b : ℕ)
-      × Contains (or_none (fields_of graph v (node decls types table made j))) (k, b) × Class a b
+      → Contains ((table_shapes table).needs graph v i) (k, a) → (b : ℕ)
+      × Contains ((table_shapes table).needs graph v j) (k, b) × Class a b
   needs_too graph v i j k a same has =
       let one = need_known decls types table made graph v i k a has in
       let other = class_known i j one.0 one.1 same in
       let equal = made.same_class i j one.0 other.0 one.1 other.1 same in
-      let numbers = fields_of graph v (node decls types table made i) in
-      let numbers' = fields_of graph v (node decls types table made j) in
-      let types_one = fields_of graph v (shape decls one.0) in
-      let types_other = fields_of graph v (shape decls other.0) in
-      let first = need_matched Is numbers types_one (fields_same decls types table made graph v i
-      one.0 one.1) k a has in
+      let first = need_forth decls types table made graph v i one.0 k a one.1 has in
       let second = lawful.needs graph v one.0 other.0 k first.0 (inl (among i one.0 one.1)) equal
       first.1 in
-      let third = need_matched (λ t n. Is n t) types_other numbers'
-      (turned_fields Is numbers' types_other (fields_same decls types table made graph v j
-      other.0 other.1)) k second.0 second.1 in
+      let third = need_back decls types table made graph v j other.0 k second.0 other.1 second.1 in
       (third.0, third.1, made.equal_types a third.0 first.0 second.0 first.2 third.2 second.2)
 
   mutable_too : (graph : List Obj) (o i j : ℕ) → Class i j → Mutable decls types table made graph o

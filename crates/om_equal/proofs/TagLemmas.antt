@@ -7,52 +7,12 @@ use Rattle.std.proofs.lemmas.Bool.{false≢true}
 use Rattle.std.proofs.lemmas.Slice.Eq.{bytes_eq-Decides}
 use Rattle.std.proofs.lemmas.List.Elements.{Contains-append_left, Contains-append_right}
 use Rattle.std.proofs.lemmas.List.Elements.{Contains-append_cases}
+use Rattle.om_types.proofs.ListLemmas.{Contains-filtered, filtered-Contains}
 use Rattle.om_types.specs.declared.head.TagOf.{TagOf}
 use Rattle.om_types.specs.Ty.{Ty}
 use Rattle.om_types.specs.Head.{has_tag, joined}
 use Rattle.om_types.specs.Equal.{TagsAgree}
 use Rattle.om_model.proofs.Options.{Contains-first, Contains-later, Contains-none, Contains-cases}
-
--- ---- a filtered list
-
-kept_here : {X : Type 0} (test : Bool) (x : X) (xs : List X) → test ≡ true
-    → Contains (cond test (x ∷ xs) xs) x
-kept_here true x xs passes = Contains-first x xs
-kept_here false x xs passes = absurd (false≢true passes)
-
-kept_later : {X : Type 0} (test : Bool) (x : X) (xs : List X) (y : X) → Contains xs y
-    → Contains (cond test (x ∷ xs) xs) y
-kept_later true x xs y among = Contains-later x xs y among
-kept_later false x xs y among = among
-
-kept_is : {X : Type 0} (test : Bool) (x : X) (xs : List X) (y : X)
-    → Contains (cond test (x ∷ xs) xs) y → ((test ≡ true) × (x ≡ y)) ⊎ Contains xs y
-kept_is true x xs y among =
-    ⊎_elim (λ here. inl (refl, here)) (λ later. inr later) (Contains-cases x xs y among)
-kept_is false x xs y among = inr among
-
-pub Contains-filtered :
-    {X : Type 0} (p : X → Bool) (xs : List X) (x : X) → Contains xs x → p x ≡ true
-    → Contains (filter p xs) x
-Contains-filtered p [] x among passes = absurd (Contains-none x among)
-Contains-filtered p (y ∷ xs) x among passes = ⊎_elim
-    (λ here. subst (λ z. Contains (filter p (y ∷ xs)) z) here
-    (kept_here (p y) y (filter p xs) (ap p here ∙ passes)))
-    (λ later. kept_later (p y) y (filter p xs) x (Contains-filtered p xs x later passes))
-    (Contains-cases y xs x among)
-
-pub filtered-Contains :
-    {X : Type 0} (p : X → Bool) (xs : List X) (x : X) → Contains (filter p xs) x → Contains xs x
-    × (p x ≡ true)
-filtered-Contains p [] x among = absurd (Contains-none x among)
-filtered-Contains p (y ∷ xs) x among = ⊎_elim
-    (λ here. (
-      subst (λ z. Contains (y ∷ xs) z) here.1 (Contains-first y xs),
-      subst (λ z. p z ≡ true)
-          here.1 here.0,
-    ))
-    (λ later. let is = filtered-Contains p xs x later in (Contains-later y xs x is.0, is.1))
-    (kept_is (p y) y (filter p xs) x among)
 
 -- ---- a tag of a name
 

@@ -1,7 +1,7 @@
 -- What is needed at a number of a table.
 use Rattle.std.proofs.Common.{ℕ, ◌<◌, ◌≡◌, ◌∙◌, List, [], ◌∷◌, length, Bool, true, false, Option, Some, None}
 use Rattle.std.proofs.Common.{ap, subst, sym, cond, ◌==◌, get_or}
-use Rattle.std.specs.Prelude.{Contains, slice_get, option_map, find, IfSome}
+use Rattle.std.specs.Prelude.{Contains, slice_get, option_map, option_and_then, find, IfSome}
 use Rattle.std.proofs.lemmas.List.Elements.{All-contains}
 use Rattle.std.proofs.lemmas.Option.{none-some, same_Some, slice_get_within, get_or_from_slice_get}
 use Rattle.om_model.specs.declared.value.Val.{Val}
@@ -9,10 +9,12 @@ use Rattle.om_model.specs.declared.value.Obj.{Obj}
 use Rattle.om_model.proofs.Options.{Contains-first, Contains-later}
 use Rattle.om_types.specs.declared.shape.ShapeOf.{ShapeOf}
 use Rattle.om_types.specs.Fault.{type_of_field}
-use Rattle.om_types.specs.Fitting.{fields_of, or_none}
+use Rattle.om_types.specs.Fitting.{fields_of, or_none, is_asked}
 use Rattle.om_types.specs.Reached.{named_in}
-use Rattle.om_types.specs.Table.{Table}
+use Rattle.om_types.specs.Table.{Table, table_shapes, node_or_none, typed_fields}
+use Rattle.om_types.proofs.AskedLemmas.{if_asked, asked_type}
 use Rattle.om_equal.proofs.ReachedLemmas.{needs_named}
+use Rattle.om_table.proofs.FieldLemmas.{fields_once}
 use Rattle.om_type_table.specs.Made.{IsLawful}
 
 -- a type that is found is that of a need
@@ -53,3 +55,24 @@ module _ (table : Table) (graph : List Obj) (v : Val) (at : ℕ) (shape : ShapeO
   found_below lawful i needs None fields is = tt
   found_below lawful i needs (Some u) fields is =
       needed_below lawful i u (ap (λ o. type_of_field (or_none o) i) (sym fields) ∙ sym is)
+
+-- the type that is needed for a field is the one that it has, where something is asked there
+module _ (table : Table) (graph : List Obj) (v : Val) (at i : ℕ) where
+  abbrev node : ℕ → ShapeOf ℕ
+  node k = node_or_none (slice_get table.nodes k)
+
+  abbrev needed : Option ℕ
+  needed = type_of_field ((table_shapes table).needs graph v at) i
+
+  needed_is : (typed : Option ℕ) → typed ≡ type_of_field (typed_fields table graph v at) i
+      → option_and_then (if_asked node) typed ≡ needed
+  needed_is typed is =
+      ap (option_and_then (if_asked node)) is
+      ∙ sym (asked_type node (typed_fields table graph v at) i (fields_once (node at) graph v))
+
+  pub none_needed : None ≡ type_of_field (typed_fields table graph v at) i → None ≡ needed
+  none_needed is = needed_is None is
+
+  pub needed_by : (u : ℕ) (test : Bool) → Some u ≡ type_of_field (typed_fields table graph v at) i
+      → is_asked (node u) ≡ test → cond test (Some u) None ≡ needed
+  needed_by u test is asked = ap (λ b. cond b (Some u) None) (sym asked) ∙ needed_is (Some u) is

@@ -3,10 +3,10 @@
 ghost use Rattle.std.specs.Prelude.{◌≡◌, ◌<◌, length, IfSome};
 ghost use Rattle.om_model.specs.Graph.{IsValue};
 ghost use Rattle.om_types.specs.Fault.{field_of, type_of_field, step as step_of, value_at};
-ghost use Rattle.om_types.specs.Table.{table_shapes};
+ghost use Rattle.om_types.specs.Table.{table_shapes, typed_fields};
 ghost use Rattle.om_type_table.specs.Made.{table_of, IsLawful};
 
-use om_fits::needs_of;
+use om_fits::{is_asked, needs_of};
 use om_heap::{Heap, Kind};
 use om_model::path::Path;
 use om_model::value::Val;
@@ -48,7 +48,23 @@ pub fn step(
     Some((next, ty))
 }
 
-/// The type that is needed for field i.
+/// The type that field i has, hidden or not.
+fn typed_field(heap: &Heap, value: Val, table: &TypeTable, at: usize, i: u64) -> Option<usize>
+    requires value { IsValue (length heap.now) value }
+    requires lawful { IsLawful (table_of table.now) }
+    requires number { at < length table.now.nodes }
+    ensures is { result
+        ≡ type_of_field (typed_fields (table_of table.now) heap.now value at) i }
+    ensures number { IfSome result (λ ty. ty < length table.now.nodes) }
+{
+    match needs_of(heap, value, table.shape(at)) {
+        Some(needs) => needs.type_of(i),
+        None => None,
+    }
+}
+
+/// The type that is needed for field i: the one that it has, where something is asked of the values
+/// of that type.
 fn field_type(heap: &Heap, value: Val, table: &TypeTable, at: usize, i: u64) -> Option<usize>
     requires value { IsValue (length heap.now) value }
     requires lawful { IsLawful (table_of table.now) }
@@ -57,9 +73,13 @@ fn field_type(heap: &Heap, value: Val, table: &TypeTable, at: usize, i: u64) -> 
         ≡ type_of_field ((table_shapes (table_of table.now)).needs heap.now value at) i }
     ensures number { IfSome result (λ ty. ty < length table.now.nodes) }
 {
-    match needs_of(heap, value, table.shape(at)) {
-        Some(needs) => needs.type_of(i),
-        None => None,
+    let Some(ty) = typed_field(heap, value, table, at, i) else {
+        return None;
+    };
+    if is_asked(table.shape(ty)) {
+        Some(ty)
+    } else {
+        None
     }
 }
 

@@ -1,4 +1,4 @@
--- The fields that are needed, as the list that the table of representations has of them.
+-- The fields that have types, as the list that the table of representations has of them.
 use Rattle.std.specs.Prelude.{ℕ, List, [], ◌∷◌, replicate}
 use Rattle.om_types.specs.Fitting.{numbered_from}
 use Rattle.om_types.specs.declared.shape.Constr.{Constr}

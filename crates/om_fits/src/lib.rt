@@ -7,5 +7,5 @@ mod parts;
 mod row;
 
 pub use needs::{Needs, known_needs, needs_of};
-pub use parts::is_mutable;
+pub use parts::{is_asked, is_mutable};
 pub use row::{Row, row_of, surely_fits};

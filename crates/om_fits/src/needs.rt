@@ -12,7 +12,8 @@ use om_heap::{Heap, Kind};
 use om_model::value::Val;
 use om_types::shape::{Constr, ShapeOf};
 
-/// The fields that a shape needs in a value that fits it, and their types.
+/// The fields for which a shape has types in a value that fits it, and the types. Those are needed
+/// of whose values something is asked.
 #[derive(Clone, Copy)]
 pub enum Needs<'a> {
     /// No field.
@@ -113,6 +114,7 @@ pub fn known_needs<'a>(heap: &Heap, o: u64, shape: &'a ShapeOf<usize>) -> Option
         ShapeOf::Int32 => Some(Needs::Nothing),
         ShapeOf::Int64 => Some(Needs::Nothing),
         ShapeOf::Native => Some(Needs::Nothing),
+        ShapeOf::Anything => Some(Needs::Nothing),
         _ => object_needs(heap, o, shape),
     }
 }
@@ -146,8 +148,8 @@ fn object_needs<'a>(heap: &Heap, o: u64, shape: &'a ShapeOf<usize>) -> Option<Ne
 {
     match heap.kind(o) {
         Kind::Block(tag, size) => block_needs(heap, o, tag, size, shape),
-        Kind::Bytes(_) => nothing_if(matches!(shape, ShapeOf::Bytes(_))),
-        Kind::Double => nothing_if(matches!(shape, ShapeOf::Double)),
+        Kind::Bytes(_) => nothing_if(matches!(shape, ShapeOf::Bytes(_) | ShapeOf::Anything)),
+        Kind::Double => nothing_if(matches!(shape, ShapeOf::Double | ShapeOf::Anything)),
         Kind::Doubles(size) => nothing_if(fits_doubles(shape, size)),
         Kind::Custom(custom) => nothing_if(fits_custom(shape, custom)),
     }

@@ -25,6 +25,7 @@ pub fn fits_int(shape: &ShapeOf<usize>, z: i64) -> bool
             Some(tag) => tag.arg.is_none(),
             None => false,
         },
+        ShapeOf::Anything => true,
         _ => false,
     }
 }
@@ -58,6 +59,8 @@ pub fn fits_atom(shape: &ShapeOf<usize>, tag: u8) -> bool
         ShapeOf::ArrayOf(_) => tag == 0,
         ShapeOf::FloatArray => tag == 0,
         ShapeOf::ArrayOfVariable => tag == 0,
+        ShapeOf::ArrayOfAnything(_) => tag == 0,
+        ShapeOf::Anything => true,
         _ => false,
     }
 }
@@ -69,6 +72,7 @@ pub fn fits_doubles(shape: &ShapeOf<usize>, size: u64) -> bool
     match shape {
         ShapeOf::FloatArray => true,
         ShapeOf::FlatFloats(_, fields) => *fields == size,
+        ShapeOf::ArrayOfAnything(_) | ShapeOf::Anything => true,
         _ => false,
     }
 }
@@ -78,9 +82,9 @@ pub fn fits_custom(shape: &ShapeOf<usize>, custom: Custom) -> bool
     ensures { fitting.none_if result ≡ fitting.object_fields shape.now (custom_object custom) }
 {
     match custom {
-        Custom::I32(_) => matches!(shape, ShapeOf::Int32),
-        Custom::I64(_) => matches!(shape, ShapeOf::Int64),
-        Custom::Native(_) => matches!(shape, ShapeOf::Native),
+        Custom::I32(_) => matches!(shape, ShapeOf::Int32 | ShapeOf::Anything),
+        Custom::I64(_) => matches!(shape, ShapeOf::Int64 | ShapeOf::Anything),
+        Custom::Native(_) => matches!(shape, ShapeOf::Native | ShapeOf::Anything),
     }
 }
 
@@ -103,7 +107,9 @@ pub fn block_needs<'a>(
             types.as_slice(),
         )),
         ShapeOf::ArrayOf(ty) if tag == 0 => Some(Needs::Each(size, *ty)),
+        ShapeOf::ArrayOfAnything(ty) if tag == 0 => Some(Needs::Each(size, *ty)),
         ShapeOf::Poly(tags) if tag == 0 => tag_needs(heap, o, size, tags.as_slice()),
+        ShapeOf::Anything => Some(Needs::Nothing),
         _ => None,
     }
 }
@@ -161,7 +167,19 @@ pub fn is_mutable(heap: &Heap, o: u64, shape: &ShapeOf<usize>) -> bool
         ShapeOf::FlatFloats(mutable, _) => *mutable,
         ShapeOf::ArrayOf(_) => true,
         ShapeOf::FloatArray => true,
+        ShapeOf::ArrayOfAnything(_) => true,
         _ => false,
+    }
+}
+
+/// Whether anything is asked of the values of a shape.
+#[inline(always)]
+pub fn is_asked(shape: &ShapeOf<usize>) -> bool
+    ensures { result ≡ fitting.is_asked shape.now }
+{
+    match shape {
+        ShapeOf::Anything => false,
+        _ => true,
     }
 }
 

@@ -48,7 +48,7 @@ pub fn row_of(shape: &ShapeOf<usize>) -> Row
         ShapeOf::Bytes(_) => row_of_tag(252),
         ShapeOf::Double => row_of_tag(253),
         ShapeOf::FloatArray => row_of_tag(254),
-        ShapeOf::ArrayOf(_) => row_of_tag(0),
+        ShapeOf::ArrayOf(_) | ShapeOf::ArrayOfAnything(_) => row_of_tag(0),
         ShapeOf::Product(_, types) => Row {
             most: 0,
             header: header_of_fields(types.len()),
@@ -59,6 +59,12 @@ pub fn row_of(shape: &ShapeOf<usize>) -> Row
             most: most_below(*constants),
             header: first_header(blocks.as_slice()),
             more: more_alike(blocks.as_slice()),
+            tag: NONE,
+        },
+        ShapeOf::Anything => Row {
+            most: u64::MAX,
+            header: 0,
+            more: u64::MAX,
             tag: NONE,
         },
         _ => row_of_tag(NONE),

@@ -52,6 +52,7 @@ module _ (head : Ty → HeadOf Ty) where
     by bases.Option = refl
     by bases.Array = refl
     by bases.Ref = refl
+    by bases.Any = refl
   no_float_part (heads.Datatype n ts) a = refl
   no_float_part (heads.Tuple ts) a = refl
   no_float_part (heads.Variants tags) a = refl
@@ -78,6 +79,7 @@ module _ (head : Ty → HeadOf Ty) where
   float_meant (Some bases.Option) name = refl
   float_meant (Some bases.Array) name = refl
   float_meant (Some bases.Ref) name = refl
+  float_meant (Some bases.Any) name = refl
 
   abbrev float_by : Option (List ℕ) → Bool
   float_by (Some name) = is_float_name name

@@ -53,6 +53,7 @@ HasBlock types block found = ⊥
 abbrev pub array_at : {T U : Type 0} → HeadOf T → U → ShapeOf U
 array_at (heads.Variable name) element = shapes.ArrayOfVariable
 array_at (heads.Predeclared bases.Float parts) element = shapes.FloatArray
+array_at (heads.Predeclared bases.Any parts) element = shapes.ArrayOfAnything element
 array_at other element = shapes.ArrayOf element
 
 -- the tag by its hash

@@ -63,6 +63,7 @@ fn alone(base: Predeclared) -> ShapeOf<usize>
         Predeclared::Int64 => ShapeOf::Int64,
         Predeclared::Nativeint => ShapeOf::Native,
         Predeclared::Floatarray => ShapeOf::FloatArray,
+        Predeclared::Any => ShapeOf::Anything,
         Predeclared::List | Predeclared::Option | Predeclared::Array | Predeclared::Ref => {
             ShapeOf::Variable
         }
@@ -135,6 +136,7 @@ fn array_at(at: &HeadOf<usize>, element: usize) -> ShapeOf<usize>
     match at {
         HeadOf::Variable(_) => ShapeOf::ArrayOfVariable,
         HeadOf::Predeclared(Predeclared::Float, _) => ShapeOf::FloatArray,
+        HeadOf::Predeclared(Predeclared::Any, _) => ShapeOf::ArrayOfAnything(element),
         _ => ShapeOf::ArrayOf(element),
     }
 }

@@ -46,6 +46,10 @@ pub(crate) fn trees_of_shape(
         }
         ShapeOf::Variable => Ok(ShapeOf::Variable),
         ShapeOf::ArrayOfVariable => Ok(ShapeOf::ArrayOfVariable),
+        ShapeOf::Anything => Ok(ShapeOf::Anything),
+        ShapeOf::ArrayOfAnything(element) => {
+            Ok(ShapeOf::ArrayOfAnything(types.tree(alloc, *element)?))
+        }
     }
 }
 

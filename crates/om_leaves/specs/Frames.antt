@@ -70,6 +70,10 @@ abbrev pub tag_of_values : List Val → ℤ
 tag_of_values (vals.Int z ∷ values) = z
 tag_of_values values = pos 0
 
+-- what stands for a value of which nothing is asked
+abbrev pub hidden_text : List ℕ
+hidden_text = codes "_"
+
 module _ {T : Type 0} where
   -- ---- values without parts
 
@@ -79,6 +83,11 @@ module _ {T : Type 0} where
       unwrap_or (slice_get names.constants (natural z)) []
   int_text (shapes.Poly tags) names z = tag_text names z
   int_text shape names z = signed_decimal z
+
+  -- a double in one object; in an array of which nothing is asked it is hidden
+  abbrev pub double_text : ShapeOf T → ℕ → List ℕ
+  double_text (shapes.ArrayOfAnything t) bits = hidden_text
+  double_text shape bits = float_text bits
 
   -- ---- what stands around a block's parts
 
@@ -117,7 +126,7 @@ module _ {T : Type 0} where
   object_text shape names (objects.Bytes bytes) = string_text bytes
   object_text shape names (objects.Double bits) = float_text bits
   object_text shape names (objects.Doubles all) =
-      row_text (doubles_frame shape names) (map float_text all)
+      row_text (doubles_frame shape names) (map (double_text shape) all)
   object_text shape names (objects.I32 z) = int32_text z
   object_text shape names (objects.I64 z) = int64_text z
   object_text shape names (objects.Native z) = native_text z

@@ -3,8 +3,8 @@
 ghost use Rattle.std.specs.Prelude.{◌≡◌, ◌<◌, ◌++◌, map, IsTrue, OnOk, unwrap_or, slice_get, []};
 ghost use Rattle.om_types.specs.Fitting.{fits_int, is_below};
 ghost use Rattle.om_heap.specs.Heap.{custom_object, IsReferenceWord, ForNamed};
-ghost use Rattle.om_leaves.specs.Leaves.{below_text, float_text};
-ghost use Rattle.om_leaves.specs.Frames.{int_text, object_text, natural, tag_text, row_from, row_text};
+ghost use Rattle.om_leaves.specs.Leaves.{below_text};
+ghost use Rattle.om_leaves.specs.Frames.{int_text, double_text, object_text, natural, tag_text, row_from, row_text};
 ghost use Rattle.om_leaves.specs.FrameView.{frame_in};
 
 use crate::bytes::{put, put_name};
@@ -91,6 +91,7 @@ pub fn put_object_at(
         Kind::Doubles(_) => put_doubles_at(
             text,
             heap.body_at(word),
+            shape,
             &doubles_frame_of(shape, names),
         ),
         Kind::Custom(custom) => put_custom_at(text, custom, shape, names),
@@ -98,27 +99,49 @@ pub fn put_object_at(
 }
 
 /// Puts doubles in a frame.
-fn put_doubles_at(text: &mut Vec<u8>, doubles: &[u64], frame: &Frame<'_>) -> Result<(), Memory>
+fn put_doubles_at(
+    text: &mut Vec<u8>,
+    doubles: &[u64],
+    shape: &ShapeOf<usize>,
+    frame: &Frame<'_>,
+) -> Result<(), Memory>
     ensures { OnOk result
         (text.new.items
-        ≡ text.old.items ++ row_text (frame_in frame.now) (map float_text doubles.now)) }
+        ≡ text.old.items
+        ++ row_text (frame_in frame.now) (map (double_text shape.now) doubles.now)) }
 {
     frame.put_opening(text)?;
-    put_double_parts(text, doubles, frame)?;
+    put_double_parts(text, doubles, shape, frame)?;
     frame.put_closing(text)
 }
 
 /// Puts the doubles, and what stands before each.
-fn put_double_parts(text: &mut Vec<u8>, doubles: &[u64], frame: &Frame<'_>) -> Result<(), Memory>
+fn put_double_parts(
+    text: &mut Vec<u8>,
+    doubles: &[u64],
+    shape: &ShapeOf<usize>,
+    frame: &Frame<'_>,
+) -> Result<(), Memory>
     ensures { OnOk result
         (text.new.items
-        ≡ text.old.items ++ row_from (frame_in frame.now) 0 (map float_text doubles.now)) }
+        ≡ text.old.items
+        ++ row_from (frame_in frame.now) 0 (map (double_text shape.now) doubles.now)) }
 {
     for i in 0..doubles.len() {
         frame.put_before(text, i as u64)?;
-        put_float(text, doubles[i])?;
+        put_double(text, shape, doubles[i])?;
     }
     Ok(())
+}
+
+/// Puts a double of an object, which is hidden in an array of which nothing is asked.
+fn put_double(text: &mut Vec<u8>, shape: &ShapeOf<usize>, bits: u64) -> Result<(), Memory>
+    ensures { OnOk result (text.new.items ≡ text.old.items ++ double_text shape.now bits) }
+{
+    match shape {
+        ShapeOf::ArrayOfAnything(_) => put(text, b"_"),
+        _ => put_float(text, bits),
+    }
 }
 
 /// Puts a custom, which has one text at each type.

@@ -250,3 +250,5 @@ module _ {T : Type 0} where
   start_at t (shapes.Poly tags) names p = poly_start tags names p
   start_at t shapes.Variable names p = misfit
   start_at t shapes.ArrayOfVariable names p = empty_start p
+  start_at t shapes.Anything names p = misfit
+  start_at t (shapes.ArrayOfAnything u) names p = array_start u p

@@ -140,9 +140,8 @@ fn empty_leaf(shape: &ShapeOf<usize>) -> Leaf<'static>
     ensures sound { IsSound result }
 {
     match shape {
-        ShapeOf::ArrayOf(_) | ShapeOf::FloatArray | ShapeOf::ArrayOfVariable => {
-            Leaf::Small(Val::Atom(0))
-        }
+        ShapeOf::ArrayOf(_) | ShapeOf::FloatArray => Leaf::Small(Val::Atom(0)),
+        ShapeOf::ArrayOfVariable | ShapeOf::ArrayOfAnything(_) => Leaf::Small(Val::Atom(0)),
         _ => Leaf::Misfit,
     }
 }

@@ -126,7 +126,9 @@ pub fn array_opening(shape: &ShapeOf<usize>) -> Opening<'static>
         → opening_in t result ≡ start_at t shape.now names (array ps v) }
 {
     match shape {
-        ShapeOf::ArrayOf(part) => Opening::Block(0, None, Types::Each(*part)),
+        ShapeOf::ArrayOf(part) | ShapeOf::ArrayOfAnything(part) => {
+            Opening::Block(0, None, Types::Each(*part))
+        }
         _ => Opening::Misfit,
     }
 }

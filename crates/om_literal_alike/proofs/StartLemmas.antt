@@ -214,3 +214,5 @@ module _ {T V : Type 0} (f : T → V) where
   start_mapped t (shapes.Poly tags) names p = poly_mapped tags names p
   start_mapped t shapes.Variable names p = to_misfit
   start_mapped t shapes.ArrayOfVariable names p = empty_mapped p
+  start_mapped t shapes.Anything names p = to_misfit
+  start_mapped t (shapes.ArrayOfAnything u) names p = array_mapped u p

@@ -214,4 +214,6 @@ module _ {T : Type 0} (shape : T → ShapeOf T) (names : T → Names) (t : T) wh
   block_at (shapes.Product mutable ts) nm tag values are small some range fits named = product_block mutable ts nm tag values are some fits named
   block_at (shapes.ArrayOf u) nm tag values are small some range fits named = array_block u nm tag values some fits
   block_at (shapes.Poly tags) nm tag values are small some range fits named = tags_block tags nm tag values range are (eqb tag 0) refl fits named
+  block_at shapes.Anything nm tag values are small some range fits named = absurd are
+  block_at (shapes.ArrayOfAnything u) nm tag values are small some range fits named = absurd are
   block_at s nm tag values are small some range fits named = absurd (false≢true fits)

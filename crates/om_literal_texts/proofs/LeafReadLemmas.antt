@@ -169,6 +169,7 @@ module _ {T : Type 0} (t : T) (names : Names) where
   int_plain (shapes.Sum constants blocks) (pos n) are range fits named = constant_plain constants blocks n are (ltb-true n constants fits) named
   int_plain (shapes.Sum constants blocks) (negsuc n) are range fits named = absurd (false≢true fits)
   int_plain (shapes.Poly tags) z are range fits named = tag_plain tags z are range fits named
+  int_plain shapes.Anything z are range fits named = absurd are
   int_plain s z are range fits named = absurd (false≢true fits)
 
   -- `[||]` is the atom 0
@@ -180,8 +181,10 @@ module _ {T : Type 0} (t : T) (names : Names) where
     starts = starts ∙ ap (λ n. small (vals.Atom n)) (sym (eqb-true tag 0 is));
   }
 
-  pub atom_plain : (s : ShapeOf T) (tag : ℕ) → IsTrue (fits_atom s tag) → IsPlain t s names (codes "[||]") (small (vals.Atom tag))
-  atom_plain (shapes.ArrayOf u) tag fits = empty_plain (shapes.ArrayOf u) tag refl fits
-  atom_plain shapes.FloatArray tag fits = empty_plain shapes.FloatArray tag refl fits
-  atom_plain shapes.ArrayOfVariable tag fits = empty_plain shapes.ArrayOfVariable tag refl fits
-  atom_plain s tag fits = absurd (false≢true fits)
+  pub atom_plain : (s : ShapeOf T) (tag : ℕ) → IsReadable s names → IsTrue (fits_atom s tag) → IsPlain t s names (codes "[||]") (small (vals.Atom tag))
+  atom_plain (shapes.ArrayOf u) tag are fits = empty_plain (shapes.ArrayOf u) tag refl fits
+  atom_plain shapes.FloatArray tag are fits = empty_plain shapes.FloatArray tag refl fits
+  atom_plain shapes.ArrayOfVariable tag are fits = empty_plain shapes.ArrayOfVariable tag refl fits
+  atom_plain shapes.Anything tag are fits = absurd are
+  atom_plain (shapes.ArrayOfAnything u) tag are fits = absurd are
+  atom_plain s tag are fits = absurd (false≢true fits)

@@ -137,6 +137,8 @@ module _ {T : Type 0} (t : T) (names : Names) where
           subst (λ m. IsPlain t (shapes.FlatFloats mutable m) names (row_text (named_frame [] names.fields) (map float_text (b ∷ bs))) (whole (objects.Doubles (b ∷ bs)))) (sym many)
           (subst (λ fs. IsPlain t (shapes.FlatFloats mutable (suc (length bs))) names (row_text (named_frame [] fs) (map float_text (b ∷ bs))) (whole (objects.Doubles (b ∷ bs)))) (sym e)
           (flat_plain mutable field rest b bs e (subst AreFieldNames e are) (omega (arith, named, ap length e)) h))
+  doubles_plain shapes.Anything (b ∷ bs) are some h has named = absurd are
+  doubles_plain (shapes.ArrayOfAnything u) (b ∷ bs) are some h has named = absurd are
   doubles_plain s (b ∷ bs) are some h has named = absurd (false≢true has)
 
   pub object_plain : (s : ShapeOf T) (object : Obj) → IsReadable s names → IsLeaf object → IsSome (object_fields s object) → HasObjectNames s names object
@@ -148,6 +150,7 @@ module _ {T : Type 0} (t : T) (names : Names) where
     begins = begins_with 34 _ (λ e. absurd (omega arith));
     starts = refl;
   }
+  object_plain shapes.Anything (objects.Bytes bytes) are leaf fits named = absurd are
   object_plain s (objects.Bytes bytes) are leaf fits named = absurd (false≢true fits)
   object_plain shapes.Double (objects.Double bits) are leaf fits named = record {
     plain = double bits;
@@ -155,11 +158,15 @@ module _ {T : Type 0} (t : T) (names : Names) where
     begins = begins_with 36 _ (λ e. absurd (omega arith));
     starts = refl;
   }
+  object_plain shapes.Anything (objects.Double bits) are leaf fits named = absurd are
   object_plain s (objects.Double bits) are leaf fits named = absurd (false≢true fits)
   object_plain s (objects.Doubles all) are leaf fits named = doubles_plain s all are leaf.0 leaf.1 (none_if_true T (has_doubles s (length all)) fits) named
   object_plain shapes.Int32 (objects.I32 z) are leaf fits named = custom_plain shapes.Int32 z suffixes.Int32 31 (objects.I32 z) (omega arith) leaf (rw (in_bits 31 z leaf) refl)
+  object_plain shapes.Anything (objects.I32 z) are leaf fits named = absurd are
   object_plain s (objects.I32 z) are leaf fits named = absurd (false≢true fits)
   object_plain shapes.Int64 (objects.I64 z) are leaf fits named = custom_plain shapes.Int64 z suffixes.Int64 63 (objects.I64 z) (omega arith) leaf (rw (in_bits 63 z leaf) refl)
+  object_plain shapes.Anything (objects.I64 z) are leaf fits named = absurd are
   object_plain s (objects.I64 z) are leaf fits named = absurd (false≢true fits)
   object_plain shapes.Native (objects.Native z) are leaf fits named = custom_plain shapes.Native z suffixes.Native 63 (objects.Native z) (omega arith) leaf (rw (in_bits 63 z leaf) refl)
+  object_plain shapes.Anything (objects.Native z) are leaf fits named = absurd are
   object_plain s (objects.Native z) are leaf fits named = absurd (false≢true fits)

@@ -20,7 +20,7 @@ pub record ValuesAreLiterals {T : Type 0} (shape : T → ShapeOf T) (names : T �
   pub integers : (t : T) (z : ℤ) → IsReadable (shape t) (names t) → IsInteger z
       → IsTrue (fits_int (shape t) z) → HasIntName (shape t) (names t) z
       → IsPlain t (shape t) (names t) (int_text (shape t) (names t) z) (small (vals.Int z))
-  pub atoms : (t : T) (tag : ℕ) → IsTrue (fits_atom (shape t) tag)
+  pub atoms : (t : T) (tag : ℕ) → IsReadable (shape t) (names t) → IsTrue (fits_atom (shape t) tag)
       → IsPlain t (shape t) (names t) (codes "[||]") (small (vals.Atom tag))
   pub objects : (t : T) (object : Obj) → IsReadable (shape t) (names t) → IsLeaf object
       → IsSome (object_fields (shape t) object) → HasObjectNames (shape t) (names t) object

@@ -1,5 +1,5 @@
 -- What the names of a type must be like so that a text by them is read back: each is a lexeme, and
--- stands for one thing.
+-- stands for one thing. What is hidden is not read back.
 use Rattle.std.specs.Prelude.{ℕ, ℤ, ◌≡◌, ◌≤◌, ◌⊎◌, List, [], length, slice_get, find, Some, Contains}
 use Rattle.std.specs.List.{position, AllByRecursion}
 use Rattle.std.specs.Str.{bytes_eq}
@@ -60,6 +60,8 @@ module _ {T : Type 0} where
   IsReadable (shapes.FlatFloats mutable n) names = AreFieldNames names.fields
   IsReadable (shapes.Poly tags) names =
       (z : ℤ) (tag : TagName) → find (is_hash z) names.tags ≡ Some tag → IsTagName tags names z tag
+  IsReadable shapes.Anything names = ⊥
+  IsReadable (shapes.ArrayOfAnything t) names = ⊥
   IsReadable shape names = Unit {0}
 
 -- so it is at each of these types

@@ -14,7 +14,7 @@ use Rattle.om_format.specs.Header.{magic, small_magic, big_magic, header_length,
 use Rattle.om_format.specs.Token.{Token, shared, measure_of}
 use Rattle.om_format.specs.Spelled.{StatesWords32}
 use Rattle.om_format.proofs.TokenStepLemmas.{magic-take, header_length-take, header_length-from, head_of-take}
-use Rattle.om_pass_law.specs.Asked.{Need, of_type, type_in, IsBack}
+use Rattle.om_pass_law.specs.Asked.{Need, of_type, type_in, IsBackAt}
 use Rattle.om_pass_law.specs.Noted.{IsFlatNoted}
 use Rattle.om_pass_law.specs.OnePass.{IsPassing, IsTypedFront}
 use Rattle.om_pass_law.proofs.GrowLemmas.{passing_start, passing_further}
@@ -122,7 +122,7 @@ leads_noted :
     (table : Table) (limit : ℕ) (bytes : List ℕ) (head : Head) (start n m : ℕ) (marks : List ℕ) (first middle : State) (t offset : ℕ) → (l : Leads table limit bytes head start n marks first)
     → types_in middle ≡ types_in first → needs_in first ≡ of_type t ∷ needs_in middle → middle.words ≡ first.words → 0 < head.objects → IsReference (drop n bytes) offset m
     → (1 ≤ offset) × (offset ≤ length (types_in middle))
-    → (more : List (ℕ × ℕ)) → ((o u : ℕ) → Contains l.noted (o, u) → Contains more (o, u)) → IsBack more table (types_in middle) t offset → AreNoted table (types_in middle) more (l.tokens ++ shared offset ∷ [])
+    → (more : List (ℕ × ℕ)) → ((o u : ℕ) → Contains l.noted (o, u) → Contains more (o, u)) → IsBackAt more table (types_in middle) t offset → AreNoted table (types_in middle) more (l.tokens ++ shared offset ∷ [])
     → Leads table limit bytes head start (n + m) marks middle
 leads_noted table limit bytes head start n m marks first middle t offset l types needs words some r back more kept is_back are =
     let token = shared offset in
@@ -162,9 +162,9 @@ leads_known :
     → Leads table limit bytes head start (n + m) marks middle
 leads_known table limit bytes head start n m marks first middle t offset l types needs words some r (inl back) =
     let none : (o u : ℕ) → Contains [] (o, u) → Contains l.noted (o, u) = λ o u among. absurd (Contains-none {X = ℕ × ℕ} (o, u) among) in
-    let asks = asks_weaker table [] l.noted none (types_in middle) (of_type t) (shared offset) [] (back, refl) in
+    let asks = asks_weaker table [] l.noted none (types_in middle) (of_type t) (shared offset) [] (back.2, refl) in
     let are = noted_further table (types_in middle) [] l.noted l.tokens (shared offset ∷ []) (subst (λ ts. AreNoted table ts l.noted l.tokens) (sym types) l.are_noted) in
-    leads_noted table limit bytes head start n m marks first middle t offset l types needs words some r (back.some, back.few) l.noted (λ o u kept. kept) asks.0
+    leads_noted table limit bytes head start n m marks first middle t offset l types needs words some r (back.0, back.1) l.noted (λ o u kept. kept) asks.0
     (subst (λ ts. AreNoted table ts l.noted (l.tokens ++ shared offset ∷ [])) (append-nil (types_in middle)) are)
 leads_known table limit bytes head start n m marks first middle t offset l types needs words some r (inr known) =
     let o : ℕ = length (types_in middle) - offset in
@@ -172,7 +172,7 @@ leads_known table limit bytes head start n m marks first middle t offset l types
     let few = known.1 in
     let more = l.noted ++ (o, t) ∷ [] in
     leads_noted table limit bytes head start n m marks first middle t offset l types needs words some r (least, few) more (λ p u kept. Contains-append_left l.noted ((o, t) ∷ []) (p, u) kept)
-    (record { some = least; few = few; type = t; at = inr (Contains-append_right l.noted ((o, t) ∷ []) (o, t) (Contains-first {X = ℕ × ℕ} (o, t) [])); equal = refl })
+    (inr record { some = least; few = few; type = t; at = inr (Contains-append_right l.noted ((o, t) ∷ []) (o, t) (Contains-first {X = ℕ × ℕ} (o, t) [])); equal = refl })
     (noted_also table (types_in middle) l.noted o t l.tokens (shared offset ∷ []) (omega (arith, least, few)) (subst (λ ts. AreNoted table ts l.noted l.tokens) (sym types) l.are_noted) (known.2 l.tokens l.are_marks))
 
 pub leads_turn :

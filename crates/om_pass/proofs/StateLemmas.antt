@@ -6,7 +6,7 @@ use Rattle.om_types.specs.declared.shape.PolyTag.{PolyTag}
 use Rattle.om_types.specs.Fitting.{fits_int, fits_atom, tag_with}
 use Rattle.om_types.specs.Table.{Table}
 use Rattle.om_format.specs.Token.{integer, atom, shared, block}
-use Rattle.om_pass_law.specs.Asked.{Need, of_type, hash_of, shape_at, block_needs, IsBack}
+use Rattle.om_pass_law.specs.Asked.{Need, of_type, hash_of, shape_at, fields_ask, IsBackAt}
 use Rattle.om_pass.specs.declared.state.State.{State}
 use Rattle.om_pass.specs.State.{types_in, needs_in, Took}
 use Rattle.om_pass.specs.declared.words.Words.{Words}
@@ -32,7 +32,7 @@ module _ (table : Table) (state : State) where
     w64 = omega arith;
   }
 
-  pub took_shared : (t offset : ℕ) → IsBack [] table (types_in state) t offset → Took table state state (of_type t) (shared offset)
+  pub took_shared : (t offset : ℕ) → IsBackAt [] table (types_in state) t offset → Took table state state (of_type t) (shared offset)
   took_shared t offset back = record {
     next = [];
     asks = (back, refl);
@@ -55,7 +55,7 @@ took_hash table old new tags z tag t has_hash has_argument types needs words = r
 }
 
 pub took_block :
-    (table : Table) (old new : State) (t tag size : ℕ) (next : List Need) → block_needs (shape_at table t) tag size ≡ Some next → types_in new ≡ types_in old ++ t ∷ [] → needs_in new ≡ next ++ needs_in old
+    (table : Table) (old new : State) (t tag size : ℕ) (next : List Need) → fields_ask table t tag size ≡ Some next → types_in new ≡ types_in old ++ t ∷ [] → needs_in new ≡ next ++ needs_in old
     → new.words.w32 + (1 + size) ≡ old.words.w32 → new.words.w64 + (1 + size) ≡ old.words.w64 → Took table old new (of_type t) (block tag size)
 took_block table old new t tag size next asks types needs w32 w64 = record {
   next = next;

@@ -5,7 +5,7 @@ use Rattle.om_model.specs.declared.value.Obj.{Obj}
 use Rattle.om_types.specs.Table.{Table}
 use Rattle.om_format.specs.Words.{objects}
 use Rattle.om_format.specs.Token.{Token, integer, atom, shared, block, leaf, IsToken, Spells, measure_of}
-use Rattle.om_pass_law.specs.Asked.{of_type, IsBack}
+use Rattle.om_pass_law.specs.Asked.{of_type, IsBackAt}
 use Rattle.om_pass_law.specs.Noted.{AreAt, AreFlat, flat_values, IsFlatNoted}
 use Rattle.om_pass.specs.declared.again.Seen.{Seen}
 use Rattle.om_pass.specs.declared.again.Seen.TheVariants as sights
@@ -84,10 +84,11 @@ pub record AreFields
   pub are_flat : AreFlat flat
   pub at : AreAt table types [] (flat_values object flat) (map of_type fields)
 
--- a reference leads back to an object of an equal type, or to a flat one that has this type too
+-- a reference leads back to an object of an equal type, or to any in a hidden place, or to a flat
+-- one that has this type too
 abbrev pub IsKnown : Table → List ℕ → List ℕ → List ℕ → ℕ → ℕ → Type 0
 IsKnown table types front marks type offset =
-    IsBack [] table types type offset
+    ((1 ≤ offset) × (offset ≤ length types) × IsBackAt [] table types type offset)
     ⊎ ((1 ≤ offset) × (offset ≤ length types)
     × ((tokens : List Token) → AreMarks front marks tokens
     → IsFlatNoted table types [] tokens (length types - offset) type))

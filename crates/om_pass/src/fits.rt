@@ -9,7 +9,8 @@ ghost use Rattle.om_type_table.specs.Made.{table_of};
 ghost use Rattle.om_types.specs.Table.{table_shapes};
 ghost use Rattle.std.specs.Bool.{OnTrue};
 ghost use Rattle.std.specs.Prelude.{slice_get};
-ghost use Rattle.om_pass_law.specs.Asked.{shape_at, block_needs, constr_needs};
+ghost use Rattle.om_pass_law.specs.Asked.{shape_at, block_needs, constr_needs, shape_asks};
+ghost use Rattle.om_pass_law.specs.Asked.{IsHidden};
 ghost use Rattle.om_pass.specs.Places.{open_needs};
 
 use crate::places::Open;
@@ -41,6 +42,7 @@ pub fn fits_int(shape: &ShapeOf<usize>, z: i64) -> bool
             Some(tag) => tag.arg.is_none(),
             None => false,
         },
+        ShapeOf::Anything => true,
         _ => false,
     }
 }
@@ -75,6 +77,8 @@ pub fn fits_atom(shape: &ShapeOf<usize>, tag: u8) -> bool
         ShapeOf::ArrayOf(_) => tag == 0,
         ShapeOf::FloatArray => tag == 0,
         ShapeOf::ArrayOfVariable => tag == 0,
+        ShapeOf::ArrayOfAnything(_) => tag == 0,
+        ShapeOf::Anything => true,
         _ => false,
     }
 }
@@ -86,11 +90,13 @@ pub fn fits_doubles(shape: &ShapeOf<usize>, size: u64) -> bool
     match shape {
         ShapeOf::FloatArray => true,
         ShapeOf::FlatFloats(_, fields) => *fields == size,
+        ShapeOf::ArrayOfAnything(_) => true,
+        ShapeOf::Anything => true,
         _ => false,
     }
 }
 
-/// The places of a block, if it fits.
+/// The places of a block, if it fits a type of which something is asked.
 #[inline(always)]
 pub fn block_places(shape: &ShapeOf<usize>, tag: u8, size: u64) -> Option<Open<'_>>
     ensures { option_map open_needs result ≡ block_needs shape.now tag size }
@@ -102,7 +108,31 @@ pub fn block_places(shape: &ShapeOf<usize>, tag: u8, size: u64) -> Option<Open<'
         }
         ShapeOf::ArrayOf(ty) if tag == 0 => Some(Open::Each(size, *ty)),
         ShapeOf::Poly(tags) if tag == 0 && size == 2 => Some(Open::Tagged(tags.as_slice())),
+        ShapeOf::ArrayOfAnything(ty) if tag == 0 => Some(Open::Each(size, *ty)),
         _ => None,
+    }
+}
+
+/// The places of a block at a type of this shape, if it fits; those of a hidden one are hidden,
+/// too.
+#[inline(always)]
+pub fn places_at(shape: &ShapeOf<usize>, ty: usize, tag: u8, size: u64) -> Option<Open<'_>>
+    ensures { option_map open_needs result ≡ shape_asks shape.now ty tag size }
+{
+    match shape {
+        ShapeOf::Anything => Some(Open::Each(size, ty)),
+        _ => block_places(shape, tag, size),
+    }
+}
+
+/// Whether nothing is asked of the values of a type.
+#[inline(always)]
+pub fn is_hidden(table: &TypeTable, ty: usize) -> bool
+    ensures { OnTrue result (IsHidden (table_of table.now) ty) }
+{
+    match shape_of(table, ty) {
+        Some(ShapeOf::Anything) => true,
+        _ => false,
     }
 }
 
@@ -150,6 +180,7 @@ pub fn may_change(shape: &ShapeOf<usize>, tag: u8) -> bool
         ShapeOf::FlatFloats(mutable, _) => *mutable,
         ShapeOf::ArrayOf(_) => true,
         ShapeOf::FloatArray => true,
+        ShapeOf::ArrayOfAnything(_) => true,
         _ => false,
     }
 }

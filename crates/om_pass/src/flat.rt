@@ -11,11 +11,13 @@ ghost use Rattle.om_pass_law.specs.Noted.{IsAt, IsFlat, IsFlatNoted};
 ghost use Rattle.om_pass.specs.Again.{IsSeen, SpellAll, AreMarks, AreFields, IsKnown};
 
 use crate::again::{Seen, block_at, look};
-use crate::fits::{block_places, fits_atom, fits_int, is_equal, may_change, shape_of, type_at};
+use crate::fits::{block_places, fits_atom, fits_int, is_equal, is_hidden, may_change, shape_of};
+use crate::fits::{type_at};
 use crate::places::Open;
 use om_type_table::TypeTable;
 
-/// Whether a reference in an object, back by so many, leads to an object of an equal type.
+/// Whether a reference in an object, back by so many, leads to an object of an equal type, or is
+/// hidden.
 fn fits_back(table: &TypeTable, types: &[u16], object: usize, ty: usize, offset: u64) -> bool
     requires { object < length types.now }
     ensures { OnTrue result
@@ -26,7 +28,7 @@ fn fits_back(table: &TypeTable, types: &[u16], object: usize, ty: usize, offset:
         return false;
     }
     let target = type_at(types, (next - offset) as usize);
-    is_equal(table, target, ty)
+    is_equal(table, target, ty) || is_hidden(table, ty)
 }
 
 /// Whether a field of an object is flat and has the type.
@@ -135,5 +137,6 @@ pub fn is_known(
     }
     let object = (made - offset) as usize;
     is_equal(table, type_at(types, object), ty)
+        || is_hidden(table, ty)
         || is_flat(table, types, front, marks, left, object, ty)
 }

@@ -1,8 +1,8 @@
 //! The common tokens, taken while a pass holds its places and words in hand; no memory is asked
 //! for.
 
-ghost use Rattle.std.specs.Prelude.{◌≡◌, ◌<◌, ◌+◌, ◌++◌, [], ◌^◌, ℕ, List, length, Ok, MatchOption};
-ghost use Rattle.std.specs.Prelude.{IsTrue, slice_index, vec_len, vec_capacity};
+ghost use Rattle.std.specs.Prelude.{◌≡◌, ◌<◌, ◌≤◌, ◌+◌, ◌++◌, [], ◌^◌, ℕ, List, length, Ok};
+ghost use Rattle.std.specs.Prelude.{IsTrue, MatchOption, slice_index, vec_len, vec_capacity};
 ghost use Rattle.std.specs.Bool.{OnTrue};
 ghost use Rattle.om_model.specs.declared.value.Obj.TheVariants as objects;
 ghost use Rattle.om_types.specs.Fitting as fitting;
@@ -11,14 +11,14 @@ ghost use Rattle.om_format.specs.Raw.{fixed_bytes, variable_bytes};
 ghost use Rattle.om_format.specs.Token.{block, leaf};
 ghost use Rattle.om_headers.specs.Counting.{IsCountable};
 ghost use Rattle.om_type_table.specs.Made.{table_of};
-ghost use Rattle.om_pass_law.specs.Asked.{of_type, shape_at, IsBack};
+ghost use Rattle.om_pass_law.specs.Asked.{of_type, shape_at, IsBackAt};
 ghost use Rattle.om_pass.specs.State.{Took, TookPiece, TookFront};
 ghost use Rattle.std.specs.Global.{Vec};
 ghost use Rattle.om_pass.specs.declared.places.Open.{Open};
 ghost use Rattle.om_pass.specs.Hot.{held, IsLeafAdded};
 ghost use Rattle.om_pass.specs.Places.{open_needs, need_of, waiting_needs};
 
-use crate::fits::{block_places, fits_int, is_equal, shape_of, type_at};
+use crate::fits::{fits_int, is_equal, is_hidden, places_at, shape_of, type_at};
 use crate::piece::piece_len;
 use crate::places::{Asked, Open, is_done};
 use crate::words::{Words, offset_of, signed_few};
@@ -75,7 +75,7 @@ fn hot_block<'a>(
     let Some(shape) = shape_of(table, ty) else {
         return None;
     };
-    let Some(inside) = block_places(shape, tag, size) else {
+    let Some(inside) = places_at(shape, ty, tag, size) else {
         return None;
     };
     if words.w32 <= size || words.w64 <= size || !has_room(types, ty) {
@@ -138,6 +138,7 @@ fn hot_bytes(
 {
     match shape_of(table, ty) {
         Some(ShapeOf::Bytes(_)) => hot_leaf(ty, Measure::Bytes(size), types, words),
+        Some(ShapeOf::Anything) => hot_leaf(ty, Measure::Bytes(size), types, words),
         _ => false,
     }
 }
@@ -153,20 +154,23 @@ fn hot_double(table: &TypeTable, ty: usize, types: &mut Vec<u16>, words: &mut Wo
 {
     match shape_of(table, ty) {
         Some(ShapeOf::Double) => hot_leaf(ty, Measure::Double, types, words),
+        Some(ShapeOf::Anything) => hot_leaf(ty, Measure::Double, types, words),
         _ => false,
     }
 }
 
-/// Whether so many places back an object stands that has an equal type.
+/// Whether so many places back an object stands that has an equal type, or any in a hidden place.
 #[inline(always)]
 fn is_hot_back(table: &TypeTable, types: &[u16], ty: usize, offset: u64) -> bool
-    ensures { OnTrue result (IsBack [] (table_of table.now) types.now ty offset) }
+    ensures { OnTrue result
+        ((1 ≤ offset) × (offset ≤ length types.now)
+        × IsBackAt [] (table_of table.now) types.now ty offset) }
 {
     let made = types.len() as u64;
     if offset == 0 || made < offset {
         return false;
     }
-    is_equal(table, type_at(types, (made - offset) as usize), ty)
+    is_equal(table, type_at(types, (made - offset) as usize), ty) || is_hidden(table, ty)
 }
 
 /// The token comes of this kind, after whose code stands the piece: what is then open in the

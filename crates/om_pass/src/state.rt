@@ -11,7 +11,7 @@ ghost use Rattle.om_pass_law.specs.Asked.{hash_of};
 ghost use Rattle.om_pass.specs.Places.{need_of};
 ghost use Rattle.om_pass.specs.State.{Took, TookLeaf, IfTook, custom_leaf};
 
-use crate::fits::{block_places, fits_atom, fits_doubles, fits_int, shape_of, tag_of_hash};
+use crate::fits::{fits_atom, fits_doubles, fits_int, places_at, shape_of, tag_of_hash};
 use crate::places::{Asked, Open, Places};
 use crate::words::Words;
 use om_model::Memory;
@@ -119,7 +119,7 @@ impl<'a> State<'a> {
         let Some(shape) = shape_of(table, ty) else {
             return Ok(false);
         };
-        let Some(fields) = block_places(shape, tag, size) else {
+        let Some(fields) = places_at(shape, ty, tag, size) else {
             return Ok(false);
         };
         if !self.words.spend(Measure::Block(size)) || !add_type(&mut self.types, ty)? {
@@ -175,6 +175,7 @@ impl<'a> State<'a> {
         };
         match shape_of(table, ty) {
             Some(ShapeOf::Bytes(_)) if size < 1 << 60 => self.leaf(ty, Measure::Bytes(size)),
+            Some(ShapeOf::Anything) if size < 1 << 60 => self.leaf(ty, Measure::Bytes(size)),
             _ => Ok(false),
         }
     }
@@ -192,6 +193,7 @@ impl<'a> State<'a> {
         };
         match shape_of(table, ty) {
             Some(ShapeOf::Double) => self.leaf(ty, Measure::Double),
+            Some(ShapeOf::Anything) => self.leaf(ty, Measure::Double),
             _ => Ok(false),
         }
     }
@@ -240,14 +242,17 @@ impl<'a> State<'a> {
         match kind {
             CustomKind::Int32 => match shape {
                 ShapeOf::Int32 => self.leaf(ty, Measure::Custom(4, 4)),
+                ShapeOf::Anything => self.leaf(ty, Measure::Custom(4, 4)),
                 _ => Ok(false),
             },
             CustomKind::Int64 => match shape {
                 ShapeOf::Int64 => self.leaf(ty, Measure::Custom(8, 8)),
+                ShapeOf::Anything => self.leaf(ty, Measure::Custom(8, 8)),
                 _ => Ok(false),
             },
             CustomKind::Native => match shape {
                 ShapeOf::Native => self.leaf(ty, Measure::Custom(4, 8)),
+                ShapeOf::Anything => self.leaf(ty, Measure::Custom(4, 8)),
                 _ => Ok(false),
             },
         }

@@ -13,10 +13,10 @@ use Rattle.om_types.specs.declared.shape.Constr.{Constr}
 use Rattle.om_types.specs.declared.shape.PolyTag.{PolyTag}
 use Rattle.om_types.specs.declared.shape.ShapeOf.{ShapeOf}
 use Rattle.om_types.specs.declared.shape.ShapeOf.TheVariants as shapes
-use Rattle.om_types.specs.Fitting.{or_none, fields_if, constr_fields, block_fields, tag_fields, argument_field}
-use Rattle.om_types.specs.Table.{Table}
+use Rattle.om_types.specs.Fitting.{or_none, fields_if, constr_fields, block_fields, tag_fields, argument_field, is_asked}
+use Rattle.om_types.specs.Table.{Table, is_asked_in}
 use Rattle.om_scan.proofs.ScanLemmas.{pair_at}
-use Rattle.om_pass_law.specs.Asked.{Need, of_type, hash_of, shape_at, needs_if, constr_needs, block_needs, values_in}
+use Rattle.om_pass_law.specs.Asked.{Need, of_type, hash_of, shape_at, needs_if, constr_needs, block_needs, values_in, IsHidden, fields_ask}
 use Rattle.om_pass_law.specs.Noted.{IsAt, AreAt}
 use Rattle.om_pass_law.proofs.Kernel.{IsGood}
 
@@ -42,7 +42,7 @@ hash_many : (test : Bool) (tags : List (PolyTag ℕ)) (size : ℕ) (next : List 
 hash_many true tags size next two is = ap values_in (sym (same_Some (hash_of tags ∷ []) next is)) ∙ sym (two refl)
 hash_many false tags size next two is = absurd (none-some next is)
 
-pub needs_many : (shape : ShapeOf ℕ) (tag size : ℕ) (next : List Need) → block_needs shape tag size ≡ Some next → values_in next ≡ size
+needs_many : (shape : ShapeOf ℕ) (tag size : ℕ) (next : List Need) → block_needs shape tag size ≡ Some next → values_in next ≡ size
 needs_many shapes.AnyInt tag size next is = absurd (none-some next is)
 needs_many (shapes.Below k) tag size next is = absurd (none-some next is)
 needs_many (shapes.Bytes mutable) tag size next is = absurd (none-some next is)
@@ -63,6 +63,17 @@ needs_many (shapes.Poly tags) tag size next is =
     hash_many ((tag == 0) && (size == 2)) tags size next (λ yes'. (Decides-eqb size 2).0 (both_true (tag == 0) (size == 2) yes').1) is
 needs_many shapes.Variable tag size next is = absurd (none-some next is)
 needs_many shapes.ArrayOfVariable tag size next is = absurd (none-some next is)
+needs_many shapes.Anything tag size next is = absurd (none-some next is)
+needs_many (shapes.ArrayOfAnything t) tag size next is =
+    let r = fields_if_needed (tag == 0) (replicate size t) next is in
+    r.1 ∙ length-replicate size t
+
+-- the fields of a block are as many as it has, hidden or not
+pub fields_many : (table : Table) (t tag size : ℕ) (next : List Need) → fields_ask table t tag size ≡ Some next → values_in next ≡ size
+fields_many table t tag size next is = by (is_asked_in table t) is where
+  by : (asked : Bool) → (if asked then block_needs (shape_at table t) tag size else Some (map of_type (replicate size t))) ≡ Some next → values_in next ≡ size
+  by true is = needs_many (shape_at table t) tag size next is
+  by false is = ap values_in (sym (same_Some (map of_type (replicate size t)) next is)) ∙ values_of_types (replicate size t) ∙ length-replicate size t
 
 module _ (table : Table) (all : List ℕ) (noted : List (ℕ × ℕ)) where
   -- there are needs, and the values meet them
@@ -126,9 +137,30 @@ module _ (table : Table) (all : List ℕ) (noted : List (ℕ × ℕ)) where
   shape_met (shapes.Poly tags) tag values next is at = poly_met (tag == 0) (length values == 2) tags values next is at
   shape_met shapes.Variable tag values next is at = absurd (none-some next is)
   shape_met shapes.ArrayOfVariable tag values next is at = absurd (none-some next is)
+  shape_met shapes.Anything tag values next is at = absurd (none-some next is)
+  shape_met (shapes.ArrayOfAnything t) tag values next is at = listed_met (tag == 0) (replicate (length values) t) values next is at
 
   -- a block whose fields have what they are asked for is good
   pub block_good : (t tag : ℕ) (values : List Val) (next : List Need) → block_needs (shape_at table t) tag (length values) ≡ Some next → AreAt table all noted values next → IsGood table all noted (objects.Block tag values) t
   block_good t tag values next is at =
       let met = shape_met (shape_at table t) tag values next is at in
-      record { fits = met.some; held = met.held }
+      record { fits = met.some; held = λ i a typed asked. met.held i a typed }
+
+  -- a block of which nothing is asked is good at its type
+  hidden_good : (t tag : ℕ) (values : List Val) → IsHidden table t → IsGood table all noted (objects.Block tag values) t
+  hidden_good t tag values hidden = by (shape_at table t) hidden refl where
+    by : (shape : ShapeOf ℕ) → is_asked shape ≡ false → shape_at table t ≡ shape → IsGood table all noted (objects.Block tag values) t
+    by shapes.Anything hidden is =
+        let none' : block_fields (shape_at table t) tag values ≡ Some [] = ap (λ shape. block_fields shape tag values) is in
+        record {
+          fits = subst IsSome (sym none') refl;
+          held = λ i a typed asked. absurd (Contains-none (i, a) (subst (λ fields. Contains (or_none fields) (i, a)) none' typed));
+        }
+    by shape hidden is = absurd (false≢true (sym hidden))
+
+  -- a block whose fields have what the type asks for is good, hidden or not
+  pub asked_good : (t tag : ℕ) (values : List Val) (next : List Need) → fields_ask table t tag (length values) ≡ Some next → AreAt table all noted values next → IsGood table all noted (objects.Block tag values) t
+  asked_good t tag values next is at = by (is_asked_in table t) refl is where
+    by : (asked : Bool) → is_asked_in table t ≡ asked → (if asked then block_needs (shape_at table t) tag (length values) else Some (map of_type (replicate (length values) t))) ≡ Some next → IsGood table all noted (objects.Block tag values) t
+    by true asked is = block_good t tag values next is at
+    by false hidden is = hidden_good t tag values hidden

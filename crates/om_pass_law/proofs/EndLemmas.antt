@@ -8,9 +8,10 @@ use Rattle.om_format.specs.Tree.{tokens}
 use Rattle.om_format.specs.Preorder.{OpenBefore}
 use Rattle.om_format.proofs.Pending.{pending_push, OpenBefore-append}
 use Rattle.om_format.proofs.Counts.{leaf_fields}
-use Rattle.om_pass_law.specs.Asked.{Need, of_type, hash_of, shape_at, values_in, Asks}
+use Rattle.om_pass_law.specs.Asked.{Need, of_type, hash_of, Asks, values_in}
 use Rattle.om_pass_law.specs.OnePass.{Passed, start, further}
-use Rattle.om_pass_law.proofs.BlockLemmas.{needs_many}
+use Rattle.om_pass_law.proofs.BlockLemmas.{fields_many}
+
 
 -- ---- the open places are the values to come
 
@@ -26,7 +27,7 @@ module _ (noted : List (ℕ × ℕ)) (table : Table) where
   asked_many types (of_type t) (atom tag) needs next asks = let is = ap (λ xs. values_in (xs ++ needs)) asks.1 in omega (arith, is)
   asked_many types (of_type t) (shared offset) needs next asks = let is = ap (λ xs. values_in (xs ++ needs)) asks.1 in omega (arith, is)
   asked_many types (of_type t) (block tag size) needs next asks =
-      let many = needs_many (shape_at table t) tag size next asks in
+      let many = fields_many table t tag size next asks in
       let both = values_in-append next needs in omega (arith, many, both)
   asked_many types (of_type t) (leaf object) needs next asks =
       let is = ap (λ xs. values_in (xs ++ needs)) asks.1 in let none' = leaf_fields object in omega (arith, is, none')

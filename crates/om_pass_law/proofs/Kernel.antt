@@ -1,6 +1,7 @@
 -- Values whose tokens have what their places ask for have the type.
 use Rattle.std.proofs.Common.{ℕ, zero, suc, ◌+◌, ◌≡◌, ◌∙◌, refl, List, [], ◌∷◌, ◌++◌, length, Bool, true, false, ◌⊎◌, inl, inr, ⊎_elim, Option, Some, None, sym, ap, subst, arith}
 use Rattle.std.specs.Prelude.{slice_get, IsSome, IsSomeAnd, IsTrue, Contains, option_and_then}
+use Rattle.std.proofs.lemmas.Bool.{false≢true}
 use Rattle.std.proofs.lemmas.List.Elements.{Contains-append_left, Contains-append_right, Contains-append_cases}
 use Rattle.std.proofs.lemmas.Option.{same_Some, none-some, slice_get_within}
 use Rattle.om_model.proofs.Options.{slice_get_there}
@@ -9,8 +10,9 @@ use Rattle.om_model.specs.declared.value.Val.TheVariants as vals
 use Rattle.om_model.specs.declared.value.Obj.{Obj}
 use Rattle.om_types.specs.Fitting.{fits_int, fits_atom, object_fields, or_none, numbered_from, none_if}
 use Rattle.om_types.specs.Lawful.{AreLawful, Everything}
-use Rattle.om_types.specs.Table.{Table, table_shapes}
+use Rattle.om_types.specs.Table.{Table, table_shapes, is_asked_in}
 use Rattle.om_types.specs.Typing.{values_of, IsHeld, IsTyping}
+use Rattle.om_types.proofs.AskedLemmas.{need_typed}
 use Rattle.om_scan.proofs.ScanLemmas.{pair_at, pair_there}
 use Rattle.om_pass_law.specs.Asked.{shape_at}
 use Rattle.om_pass_law.specs.Noted.{IsAt}
@@ -18,7 +20,7 @@ use Rattle.om_pass_law.specs.Noted.{IsAt}
 module _ (table : Table) (all : List ℕ) (noted : List (ℕ × ℕ)) where
   pub record IsGood (object : Obj) (t : ℕ) : Type 0 where
     pub fits : IsSome (object_fields (shape_at table t) object)
-    pub held : (i a : ℕ) → Contains (or_none (object_fields (shape_at table t) object)) (i, a) → IsSomeAnd (slice_get (values_of object) i) (λ v. IsAt table all noted v a)
+    pub held : (i a : ℕ) → Contains (or_none (object_fields (shape_at table t) object)) (i, a) → IsTrue (is_asked_in table a) → IsSomeAnd (slice_get (values_of object) i) (λ v. IsAt table all noted v a)
 
   -- the objects numbered from c on are good, each at its type
   abbrev pub AreGood : ℕ → List Obj → Type 0
@@ -42,7 +44,7 @@ module _ (table : Table) (all : List ℕ) (noted : List (ℕ × ℕ)) where
       let r = good_at (suc c) xs k object h.1 at_k in
       (r.0, subst (λ n. slice_get all n ≡ Some r.0) same r.1, r.2)
 
-some_if : (test : Bool) → IsTrue test → IsSome (none_if {T = ℕ} test)
+pub some_if : (test : Bool) → IsTrue test → IsSome (none_if {T = ℕ} test)
 some_if true holds = refl
 some_if false holds = holds
 
@@ -78,17 +80,18 @@ module _ (table : Table) (graph : List Obj) (all : List ℕ) (noted : List (ℕ 
   known_by : (o t : ℕ) → Contains (numbered_from 0 all ++ noted) (o, t) → (slice_get all o ≡ Some t) ⊎ Contains noted (o, t)
   known_by o t among = ⊎_elim (λ first. inl (pair_at all o t first)) (λ second. inr second) (Contains-append_cases (numbered_from 0 all) noted (o, t) among)
 
-  pub is_held : (v : Val) (t : ℕ) → IsAt table all noted v t → IsHeld (table_shapes table) graph (numbered_from 0 all ++ noted) v t
-  is_held (vals.Int z) t at = record { fits = some_if (fits_int (shape_at table t) z) at; listed = tt }
-  is_held (vals.Atom tag) t at = record { fits = some_if (fits_atom (shape_at table t) tag) at; listed = tt }
-  is_held (vals.Ref o) t at = record {
+  is_held : (v : Val) (t : ℕ) → IsTrue (is_asked_in table t) → IsAt table all noted v t → IsHeld (table_shapes table) graph (numbered_from 0 all ++ noted) v t
+  is_held (vals.Int z) t asked at = record { fits = some_if (fits_int (shape_at table t) z) at; listed = tt }
+  is_held (vals.Atom tag) t asked at = record { fits = some_if (fits_atom (shape_at table t) tag) at; listed = tt }
+  is_held (vals.Ref o) t asked (inl hidden) = absurd (false≢true (sym hidden ∙ asked))
+  is_held (vals.Ref o) t asked (inr at) = record {
     fits = lawful.fits graph (vals.Ref o) at.0 t (inl tt) at.2 (object_fits o at.0 at.1);
     listed = (at.0, in_pairs o at.0 at.1, at.2);
   }
 
-  IsSomeAnd-weaker : (v : Option Val) (t : ℕ) → IsSomeAnd v (λ v. IsAt table all noted v t) → IsSomeAnd v (λ v. IsHeld (table_shapes table) graph (numbered_from 0 all ++ noted) v t)
-  IsSomeAnd-weaker None t h = h
-  IsSomeAnd-weaker (Some v) t h = is_held v t h
+  IsSomeAnd-weaker : (v : Option Val) (t : ℕ) → IsTrue (is_asked_in table t) → IsSomeAnd v (λ v. IsAt table all noted v t) → IsSomeAnd v (λ v. IsHeld (table_shapes table) graph (numbered_from 0 all ++ noted) v t)
+  IsSomeAnd-weaker None t asked h = h
+  IsSomeAnd-weaker (Some v) t asked h = is_held v t asked h
 
   one_type : (o t u : ℕ) → (slice_get all o ≡ Some t) ⊎ Contains noted (o, t) → (slice_get all o ≡ Some u) ⊎ Contains noted (o, u) → (table_shapes table).mutable graph o t → (table_shapes table).equal t u
   one_type o t u (inl first) (inl second) mutable =
@@ -102,8 +105,9 @@ module _ (table : Table) (graph : List Obj) (all : List ℕ) (noted : List (ℕ 
     fits = λ o t among. object_fits o t (known_by o t among);
     held = λ o t i a among needed.
         let r = object_good o t (known_by o t among) in
-        let needed' = subst (λ x. Contains (or_none (option_and_then (object_fields (shape_at table t)) x)) (i, a)) r.1 needed in
+        let typed = need_typed table graph (vals.Ref o) t i a needed in
+        let typed' = subst (λ x. Contains (or_none (option_and_then (object_fields (shape_at table t)) x)) (i, a)) r.1 typed.0 in
         subst (λ x. IsSomeAnd (option_and_then (λ object. slice_get (values_of object) i) x) (λ v. IsHeld (table_shapes table) graph (numbered_from 0 all ++ noted) v a)) (sym r.1)
-        (IsSomeAnd-weaker (slice_get (values_of r.0) i) a (r.2.held i a needed'));
+        (IsSomeAnd-weaker (slice_get (values_of r.0) i) a typed.1 (r.2.held i a typed' typed.1));
     one_type = λ o t u first second mutable. one_type o t u (known_by o t first) (known_by o u second) mutable;
   }

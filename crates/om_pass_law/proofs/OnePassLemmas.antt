@@ -1,8 +1,11 @@
 -- A tree whose tokens have what their places ask for has the type; and what a pass knows in the end.
-use Rattle.std.proofs.Common.{ℕ, ◌≡◌, refl, List, [], ◌∷◌, ◌++◌, length, sym, ap, subst, arith}
+use Rattle.std.proofs.Common.{ℕ, ◌≡◌, refl, inl, List, [], ◌∷◌, ◌++◌, length, sym, ap, subst, arith}
+use Rattle.std.specs.Prelude.{Some, slice_get}
 use Rattle.std.proofs.lemmas.List.{append_assoc, append-nil}
 use Rattle.std.proofs.lemmas.List.Elements.{Contains-append_left}
-use Rattle.om_types.specs.Fitting.{numbered_from}
+use Rattle.om_model.specs.declared.value.Val.{Val}
+use Rattle.om_model.specs.declared.value.Val.TheVariants as vals
+use Rattle.om_types.specs.Fitting.{numbered_from, fits_int, fits_atom}
 use Rattle.om_types.specs.Lawful.{AreLawful, Everything}
 use Rattle.om_types.specs.Table.{Table, table_shapes}
 use Rattle.om_types.specs.Typing.{IsTyped, IsTyping}
@@ -10,9 +13,9 @@ use Rattle.om_format.specs.Token.{Token, integer, atom, shared, block, leaf}
 use Rattle.om_format.specs.Tree.{Tree, node, IsTree, tokens, forest_tokens, root, objects_of, ReferBack}
 use Rattle.om_format.proofs.Counts.{length-objects_of}
 use Rattle.om_scan.proofs.ScanLemmas.{pair_there}
-use Rattle.om_pass_law.specs.Asked.{Need, of_type, Passes}
+use Rattle.om_pass_law.specs.Asked.{Need, of_type, shape_at, Passes}
 use Rattle.om_pass_law.specs.OnePass.{AreTypesOf, Passed, start, further}
-use Rattle.om_pass_law.proofs.Kernel.{AreNoted, is_typing, is_held}
+use Rattle.om_pass_law.proofs.Kernel.{AreNoted, some_if, is_typing, object_fits}
 use Rattle.om_pass_law.proofs.PassLemmas.{last_at, tree_read}
 
 module _ (table : Table) (all : List ℕ) (noted : List (ℕ × ℕ)) where
@@ -23,6 +26,14 @@ module _ (table : Table) (all : List ℕ) (noted : List (ℕ × ℕ)) where
   rooted (node (shared offset) f) back h typing = absurd (let some = back.0.0 in let few = back.0.1 in omega (arith, some, few))
   rooted (node (block tag size) f) back h typing = (numbered_from 0 all ++ noted, typing, Contains-append_left (numbered_from 0 all) noted (0, 0) (pair_there all 0 0 (last_at table all noted [] 0 (h.0 ++ []) (forest_tokens f) h.2)))
   rooted (node (leaf object) f) back h typing = (numbered_from 0 all ++ noted, typing, Contains-append_left (numbered_from 0 all) noted (0, 0) (pair_there all 0 0 (last_at table all noted [] 0 (h.0 ++ []) (forest_tokens f) h.2)))
+
+  -- and it fits that type, as the value does where it is none
+  root_fits : (tree : Tree) → ReferBack tree 0 → Passes noted table [] (of_type 0 ∷ []) (tokens tree) all → ((o : ℕ) → slice_get all o ≡ Some 0 → (table_shapes table).fits (objects_of tree 0) (vals.Ref o) 0) → (table_shapes table).fits (objects_of tree 0) (root tree 0) 0
+  root_fits (node (integer z) f) back h fits = some_if (fits_int (shape_at table 0) z) h.1.0
+  root_fits (node (atom tag) f) back h fits = some_if (fits_atom (shape_at table 0) tag) h.1.0
+  root_fits (node (shared offset) f) back h fits = absurd (let some = back.0.0 in let few = back.0.1 in omega (arith, some, few))
+  root_fits (node (block tag size) f) back h fits = fits 0 (last_at table all noted [] 0 (h.0 ++ []) (forest_tokens f) h.2)
+  root_fits (node (leaf object) f) back h fits = fits 0 (last_at table all noted [] 0 (h.0 ++ []) (forest_tokens f) h.2)
 
   -- THE KERNEL
   pub types_of_tree : (tree : Tree) → AreLawful (table_shapes table) Everything → IsTree tree → ReferBack tree 0 → AreNoted table (objects_of tree 0) all noted → Passes noted table [] (of_type 0 ∷ []) (tokens tree) all → AreTypesOf noted table tree all
@@ -39,7 +50,7 @@ module _ (table : Table) (all : List ℕ) (noted : List (ℕ × ℕ)) where
         many = many;
         typing = typing;
         typed = record {
-          fits = (is_held table (objects_of tree 0) all noted many lawful r.good are_noted (root tree 0) 0 r.value).fits;
+          fits = root_fits tree back h (λ o at_o. object_fits table (objects_of tree 0) all noted many lawful r.good are_noted o 0 (inl at_o));
           typed = rooted tree back h typing;
         };
       }

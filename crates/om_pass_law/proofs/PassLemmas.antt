@@ -13,10 +13,10 @@ use Rattle.om_format.specs.Words.{of_object}
 use Rattle.om_format.specs.Token.{Token, integer, atom, shared, block, leaf, IsLeaf, leaf_measure}
 use Rattle.om_format.specs.Tree.{Tree, Forest, node, none, more, trees_in, IsTree, AreTrees, tokens, forest_tokens, root, roots, made, all_made, objects_of, all_objects}
 use Rattle.om_format.proofs.Counts.{leaf_fields, length-roots, length-objects_of}
-use Rattle.om_pass_law.specs.Asked.{Need, of_type, hash_of, shape_at, block_needs, type_in, Passes, values_in}
+use Rattle.om_pass_law.specs.Asked.{Need, of_type, hash_of, shape_at, block_needs, type_in, Passes, values_in, fields_ask}
 use Rattle.om_pass_law.specs.Noted.{IsAt, AreAt}
 use Rattle.om_pass_law.proofs.Kernel.{IsGood, AreGood, good_append}
-use Rattle.om_pass_law.proofs.BlockLemmas.{needs_many, block_good}
+use Rattle.om_pass_law.proofs.BlockLemmas.{needs_many, block_good, fields_many, asked_good}
 
 -- ---- leaves
 
@@ -62,7 +62,7 @@ module _ (table : Table) (all : List ℕ) (noted : List (ℕ × ℕ)) where
   last_at types t needs ts h = kept_at (types ++ t ∷ []) needs ts (length types) t h (slice_get-last types t)
 
   leaf_good : (t : ℕ) (object : Obj) → IsLeaf object → IsSome (object_fields (shape_at table t) object) → IsGood table all noted object t
-  leaf_good t object is fits = record { fits = fits; held = λ i a needed. absurd (leaf_needs (shape_at table t) object i a is needed) }
+  leaf_good t object is fits = record { fits = fits; held = λ i a typed asked. absurd (leaf_needs (shape_at table t) object i a is typed) }
 
   -- The tokens of a tree from c on have what a place of the type asks for: so has its value, its objects are good, and then the
   -- rest of the tokens has what the other places ask for.
@@ -100,11 +100,13 @@ module _ (table : Table) (all : List ℕ) (noted : List (ℕ × ℕ)) where
       passes = subst (λ next. Passes noted table (types ++ []) (next ++ needs) rest all) h.1.1 h.2;
     }
     tree_read (node (shared offset) none) t types needs rest is h =
-        let back = h.1.0 in
         record {
           after = types ++ [];
           many = let same = length-append types [] in omega (arith, same);
-          value = (back.type, ⊎_elim (λ first. inl (kept_at types (of_type t ∷ needs) (shared offset ∷ rest) (length types - offset) back.type h first)) (λ second. inr second) back.at, back.equal);
+          value = ⊎_elim
+              (λ hidden. inl hidden)
+              (λ back. inr (back.type, ⊎_elim (λ first. inl (kept_at types (of_type t ∷ needs) (shared offset ∷ rest) (length types - offset) back.type h first)) (λ second. inr second) back.at, back.equal))
+              h.1.0;
           good = tt;
           passes = subst (λ next. Passes noted table (types ++ []) (next ++ needs) rest all) h.1.1 h.2;
         }
@@ -113,25 +115,25 @@ module _ (table : Table) (all : List ℕ) (noted : List (ℕ × ℕ)) where
         record {
           after = types ++ t ∷ [];
           many = let same = length-append types (t ∷ []) in let one = leaf_made object is.0 in omega (arith, same, one);
-          value = (t, inl at, refl);
+          value = inr (t, inl at, refl);
           good = ((t, at, leaf_good t object is.0 h.1.0), tt);
           passes = subst (λ next. Passes noted table (types ++ t ∷ []) (next ++ needs) rest all) h.1.1 h.2;
         }
     tree_read (node (block tag size) f) t types needs rest is h =
         let at = last_at types t (h.0 ++ needs) (forest_tokens f ++ rest) h.2 in
         let long : length (types ++ t ∷ []) ≡ length types + 1 = length-append types (t ∷ []) in
-        let many' : values_in h.0 ≡ trees_in f = needs_many (shape_at table t) tag size h.0 h.1 ∙ sym is.1 in
+        let many' : values_in h.0 ≡ trees_in f = fields_many table t tag size h.0 h.1 ∙ sym is.1 in
         let r = forest_read f h.0 (types ++ t ∷ []) needs rest is.2 many' h.2 in
         let values = subst (λ n. AreAt table all noted (roots f n) h.0) long r.values in
         let size_is : size ≡ length (roots f (length types + 1)) = sym is.1 ∙ sym (length-roots f (length types + 1)) in
-        let asked = subst (λ n. block_needs (shape_at table t) tag n ≡ Some h.0) size_is h.1 in
+        let asked = subst (λ n. fields_ask table t tag n ≡ Some h.0) size_is h.1 in
         let next : length (types ++ t ∷ []) ≡ suc (length types) = omega (arith, long) in
         record {
           after = r.after;
           many = let rest_many = r.many in omega (arith, rest_many, long);
-          value = (t, inl at, refl);
+          value = inr (t, inl at, refl);
           good = (
-            (t, at, block_good table all noted t tag (roots f (length types + 1)) h.0 asked values),
+            (t, at, asked_good table all noted t tag (roots f (length types + 1)) h.0 asked values),
             subst (λ n. AreGood table all noted n (all_objects f (length types + 1))) next (subst (λ n. AreGood table all noted (length (types ++ t ∷ [])) (all_objects f n)) long r.good),
           );
           passes = r.passes;

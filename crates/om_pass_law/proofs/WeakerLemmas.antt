@@ -23,7 +23,7 @@ module _ (table : Table) (noted more : List (ℕ × ℕ)) (kept : (o t : ℕ) �
   pub asks_weaker : (types : List ℕ) (need : Need) (token : Token) (next : List Need) → Asks noted table types need token next → Asks more table types need token next
   asks_weaker types (of_type t) (integer z) next asks = asks
   asks_weaker types (of_type t) (atom tag) next asks = asks
-  asks_weaker types (of_type t) (shared offset) next asks = (back_weaker types t offset asks.0, asks.1)
+  asks_weaker types (of_type t) (shared offset) next asks = (⊎_elim (λ hidden. inl hidden) (λ back. inr (back_weaker types t offset back)) asks.0, asks.1)
   asks_weaker types (of_type t) (block tag size) next asks = asks
   asks_weaker types (of_type t) (leaf object) next asks = asks
   asks_weaker types (hash_of tags) (integer z) next asks = asks
@@ -41,5 +41,6 @@ module _ (table : Table) (noted more : List (ℕ × ℕ)) (kept : (o t : ℕ) �
   pub at_weaker : (types later : List ℕ) (v : Val) (t : ℕ) → IsAt table types noted v t → IsAt table (types ++ later) more v t
   at_weaker types later (vals.Int z) t at = at
   at_weaker types later (vals.Atom tag) t at = at
-  at_weaker types later (vals.Ref o) t at =
-      (at.0, ⊎_elim (λ first. inl (slice_get-append_left types later o at.0 first)) (λ second. inr (kept o at.0 second)) at.1, at.2)
+  at_weaker types later (vals.Ref o) t (inl hidden) = inl hidden
+  at_weaker types later (vals.Ref o) t (inr at) =
+      inr (at.0, ⊎_elim (λ first. inl (slice_get-append_left types later o at.0 first)) (λ second. inr (kept o at.0 second)) at.1, at.2)

@@ -1,14 +1,14 @@
 -- What the places of a value ask for, told token by token: each object has the type that its first
 -- place asks for.
-use Rattle.std.specs.Prelude.{ℕ, suc, ◌-◌, ◌==◌, ◌≤◌, ◌≡◌, ◌&&◌, Bool, if◌then◌else◌}
+use Rattle.std.specs.Prelude.{ℕ, suc, ◌-◌, ◌==◌, ◌≤◌, ◌≡◌, ◌&&◌, Bool, if◌then◌else◌, false}
 use Rattle.std.specs.Prelude.{List, [], ◌∷◌, ◌++◌, length, map, replicate, slice_get}
 use Rattle.std.specs.Prelude.{Option, Some, None, IsTrue, IsSome, ℤ, ◌⊎◌, Contains}
 use Rattle.om_types.specs.declared.shape.Constr.{Constr}
 use Rattle.om_types.specs.declared.shape.PolyTag.{PolyTag}
 use Rattle.om_types.specs.declared.shape.ShapeOf.{ShapeOf}
 use Rattle.om_types.specs.declared.shape.ShapeOf.TheVariants as shapes
-use Rattle.om_types.specs.Fitting.{tag_with, fits_int, fits_atom, object_fields}
-use Rattle.om_types.specs.Table.{Table, node_or_none, table_shapes}
+use Rattle.om_types.specs.Fitting.{tag_with, fits_int, fits_atom, object_fields, is_asked}
+use Rattle.om_types.specs.Table.{Table, node_or_none, table_shapes, is_asked_in}
 use Rattle.om_format.specs.Token.{Token, integer, atom, shared, block, leaf}
 
 -- what a place asks for: a value of a type, or the hash of a tag that has an argument
@@ -41,7 +41,21 @@ block_needs (shapes.Product mutable ts) tag size = needs_if ((tag == 0) && (leng
 block_needs (shapes.ArrayOf t) tag size = needs_if (tag == 0) (replicate size t)
 block_needs (shapes.Poly tags) tag size =
     if (tag == 0) && (size == 2) then Some (hash_of tags ∷ []) else None
+block_needs (shapes.ArrayOfAnything t) tag size = needs_if (tag == 0) (replicate size t)
 block_needs shape tag size = None
+
+-- nothing is asked of the values of the type
+abbrev pub IsHidden : Table → ℕ → Type 0
+IsHidden table t = is_asked_in table t ≡ false
+
+-- what the fields of a block ask for at a type of the shape; those of a hidden block are hidden
+-- as it is
+abbrev pub shape_asks : ShapeOf ℕ → ℕ → ℕ → ℕ → Option (List Need)
+shape_asks shape t tag size =
+    if is_asked shape then block_needs shape tag size else Some (map of_type (replicate size t))
+
+abbrev pub fields_ask : Table → ℕ → ℕ → ℕ → Option (List Need)
+fields_ask table t tag size = shape_asks (shape_at table t) t tag size
 
 -- ---- a token in a place
 
@@ -56,6 +70,10 @@ pub record IsBack
       (slice_get types (length types - offset) ≡ Some type)
       ⊎ Contains noted (length types - offset, type)
   pub equal : (table_shapes table).equal type t
+
+-- a reference back has what a place of the type asks for; nothing is asked in a hidden place
+abbrev pub IsBackAt : List (ℕ × ℕ) → Table → List ℕ → ℕ → ℕ → Type 0
+IsBackAt noted table types t offset = IsHidden table t ⊎ IsBack noted table types t offset
 
 -- a tag with this hash has an argument of the type
 pub record IsTagged (tags : List (PolyTag ℕ)) (z : ℤ) (next : List Need) : Type 0 where
@@ -73,9 +91,9 @@ Asks noted table types (of_type t) (integer z) next =
 Asks noted table types (of_type t) (atom tag) next =
     IsTrue (fits_atom (shape_at table t) tag) × (next ≡ [])
 Asks noted table types (of_type t) (shared offset) next =
-    IsBack noted table types t offset × (next ≡ [])
+    IsBackAt noted table types t offset × (next ≡ [])
 Asks noted table types (of_type t) (block tag size) next =
-    block_needs (shape_at table t) tag size ≡ Some next
+    fields_ask table t tag size ≡ Some next
 Asks noted table types (of_type t) (leaf object) next =
     IsSome (object_fields (shape_at table t) object) × (next ≡ [])
 Asks noted table types (hash_of tags) (integer z) next = IsTagged tags z next

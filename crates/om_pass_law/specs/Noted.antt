@@ -10,7 +10,7 @@ use Rattle.om_types.specs.Fitting.{tag_with, fits_int, fits_atom, is_mutable}
 use Rattle.om_types.specs.Table.{Table, table_shapes}
 use Rattle.om_format.specs.Token.{Token, integer, atom, shared, block, leaf}
 use Rattle.om_format.specs.Tree.{made_by, value_of}
-use Rattle.om_pass_law.specs.Asked.{Need, of_type, hash_of, shape_at, block_needs}
+use Rattle.om_pass_law.specs.Asked.{Need, of_type, hash_of, shape_at, block_needs, IsHidden}
 
 module _ (table : Table) (all : List ℕ) (noted : List (ℕ × ℕ)) where
   -- a value has what a place of the type asks for, where these are the types of all objects
@@ -18,8 +18,9 @@ module _ (table : Table) (all : List ℕ) (noted : List (ℕ × ℕ)) where
   IsAt (vals.Int z) t = IsTrue (fits_int (shape_at table t) z)
   IsAt (vals.Atom tag) t = IsTrue (fits_atom (shape_at table t) tag)
   IsAt (vals.Ref o) t =
-      (u : ℕ) × ((slice_get all o ≡ Some u) ⊎ Contains noted (o, u))
-      × (table_shapes table).equal u t
+      IsHidden table t
+      ⊎ ((u : ℕ) × ((slice_get all o ≡ Some u) ⊎ Contains noted (o, u))
+      × (table_shapes table).equal u t)
 
   -- a place for the argument comes once the hash is known
   pub record HasHash (tags : List (PolyTag ℕ)) (v : Val) (type : ℕ) : Type 0 where

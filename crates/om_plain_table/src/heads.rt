@@ -162,3 +162,8 @@ pub fn head_of<'a>(
 pub fn is_float(head: &Head<'_>) -> bool {
     head.root.kind == Kind::Named && head.root.name == b"float".as_slice()
 }
+
+/// Whether a head is `_`.
+pub fn is_any(head: &Head<'_>) -> bool {
+    head.root.kind == Kind::Named && head.root.name == b"_".as_slice()
+}

@@ -1,6 +1,6 @@
 //! Shapes: what the values of a type look like.
 
-use crate::heads::{Head, Part, declaration_of, head_of, is_float, types_of};
+use crate::heads::{Head, Part, declaration_of, head_of, is_any, is_float, types_of};
 use crate::trees::{Kind, Node, instance, more, place, root};
 use om_model::Memory;
 use om_model::list::List;
@@ -11,7 +11,7 @@ use om_types::ty::Ty;
 use std::alloc::Global;
 
 /// The predeclared types by their names.
-const PREDECLARED: [(&[u8], Predeclared); 15] = [
+const PREDECLARED: [(&[u8], Predeclared); 16] = [
     (b"int", Predeclared::Int),
     (b"char", Predeclared::Char),
     (b"bool", Predeclared::Bool),
@@ -27,6 +27,7 @@ const PREDECLARED: [(&[u8], Predeclared); 15] = [
     (b"option", Predeclared::Option),
     (b"array", Predeclared::Array),
     (b"ref", Predeclared::Ref),
+    (b"_", Predeclared::Any),
 ];
 
 /// The predeclared type of a name.
@@ -199,6 +200,8 @@ fn array_of<'a>(
         ShapeOf::ArrayOfVariable
     } else if is_float(&head) {
         ShapeOf::FloatArray
+    } else if is_any(&head) {
+        ShapeOf::ArrayOfAnything(element)
     } else {
         ShapeOf::ArrayOf(element)
     })
@@ -238,6 +241,7 @@ fn plain_shape(base: Predeclared) -> ShapeOf<usize> {
         Predeclared::Int64 => ShapeOf::Int64,
         Predeclared::Nativeint => ShapeOf::Native,
         Predeclared::Floatarray => ShapeOf::FloatArray,
+        Predeclared::Any => ShapeOf::Anything,
         _ => ShapeOf::Variable,
     }
 }

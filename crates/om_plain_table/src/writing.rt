@@ -218,6 +218,8 @@ fn word(shape: &ShapeOf<usize>) -> &'static [u8] {
         ShapeOf::Poly(_) => b"tags",
         ShapeOf::Variable => b"variable",
         ShapeOf::ArrayOfVariable => b"array of a variable",
+        ShapeOf::Anything => b"anything",
+        ShapeOf::ArrayOfAnything(_) => b"array of anything",
     }
 }
 
@@ -244,7 +246,9 @@ fn put_shape(
         ShapeOf::Sum(constants, blocks) => put_sum(out, met, *constants, blocks.as_slice()),
         ShapeOf::Product(_, fields) => put_places(out, met, fields.as_slice()),
         ShapeOf::FlatFloats(_, many) => put_place(out, None, *many as usize),
-        ShapeOf::ArrayOf(element) => put_place(out, met, *element),
+        ShapeOf::ArrayOf(element) | ShapeOf::ArrayOfAnything(element) => {
+            put_place(out, met, *element)
+        }
         ShapeOf::Poly(tags) => put_tags(out, met, tags.as_slice()),
         _ => Ok(()),
     }

@@ -63,6 +63,9 @@ pub fn predeclared_arity(name: &[u8]) -> Option<usize>
     if is(b"ref", name) {
         return Some(1);
     }
+    if is(b"_", name) {
+        return Some(0);
+    }
     None
 }
 

@@ -70,6 +70,7 @@ module _ (table : TypeTable) (graph : List Obj) where
   pub some_piece : (step : Step) → 1 ≤ length (step_pieces table graph step)
   some_piece (steps.Integer z t) = omega arith
   some_piece steps.Empty = omega arith
+  some_piece steps.Hidden = omega arith
   some_piece (steps.Again o) = omega arith
   some_piece (steps.Leaf o t) = omega arith
   some_piece (steps.Opening o frame) = omega arith
@@ -83,6 +84,7 @@ module _ (table : TypeTable) (graph : List Obj) where
   pub markable : (n : ℕ) (step : Step) → n ≡ length graph → IsStep table graph step → IsMarkable n step
   markable n (steps.Integer z t) many is = tt
   markable n steps.Empty many is = tt
+  markable n steps.Hidden many is = tt
   markable n (steps.Again o) many is = omega (arith, many, is)
   markable n (steps.Leaf o t) many is = tt
   markable n (steps.Opening o frame) many is = tt
@@ -92,6 +94,7 @@ module _ (table : TypeTable) (graph : List Obj) where
   pub step_agains : (step : Step) → agains (step_pieces table graph step) ≡ agains_of step
   step_agains (steps.Integer z t) = refl
   step_agains steps.Empty = refl
+  step_agains steps.Hidden = refl
   step_agains (steps.Again o) = refl
   step_agains (steps.Leaf o t) = refl
   step_agains (steps.Opening o frame) = refl
@@ -101,6 +104,7 @@ module _ (table : TypeTable) (graph : List Obj) where
   marks_more : (step : Step) (marks : List Bool) (x : ℕ) → IsMarkable (length marks) step → get_or (marks_after step marks) x false ≡ (has (agains_of step) x || get_or marks x false)
   marks_more (steps.Integer z t) marks x inside = refl
   marks_more steps.Empty marks x inside = refl
+  marks_more steps.Hidden marks x inside = refl
   marks_more (steps.Again o) marks x inside = mark_set marks o x inside ∙ ap (λ b. b || get_or marks x false) (one (o == x)) where
     one : (b : Bool) → b ≡ (b || false)
     one true = refl
@@ -113,6 +117,7 @@ module _ (table : TypeTable) (graph : List Obj) where
   marks_length : (step : Step) (marks : List Bool) → length (marks_after step marks) ≡ length marks
   marks_length (steps.Integer z t) marks = refl
   marks_length steps.Empty marks = refl
+  marks_length steps.Hidden marks = refl
   marks_length (steps.Again o) marks = length-set marks o true
   marks_length (steps.Leaf o t) marks = refl
   marks_length (steps.Opening o frame) marks = refl

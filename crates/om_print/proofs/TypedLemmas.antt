@@ -9,9 +9,12 @@ use Rattle.om_model.specs.declared.value.Val.{Val}
 use Rattle.om_model.specs.declared.value.Val.TheVariants as vals
 use Rattle.om_model.specs.declared.value.Obj.{Obj}
 use Rattle.om_model.specs.declared.value.Obj.TheVariants as objects
-use Rattle.om_model.proofs.Options.{IsSomeAnd-some, Contains-none, slice_get-Contains}
+use Rattle.om_model.specs.Graph.{IsValue}
+use Rattle.om_model.proofs.Options.{IsSomeAnd-some, Contains-first, Contains-none, slice_get-Contains, slice_get_there}
 use Rattle.om_types.specs.declared.shape.ShapeOf.{ShapeOf}
-use Rattle.om_types.specs.Fitting.{fields_of, or_none, none_if, fits_int}
+use Rattle.om_types.specs.Fitting.{fields_of, or_none, none_if, fits_int, is_asked}
+use Rattle.om_types.proofs.AskedLemmas.{asked_is}
+use Rattle.om_types.proofs.HiddenLemmas.{int_fits, atom_fits, object_fits, pair_typing}
 use Rattle.om_types.specs.Reached.{named_in}
 use Rattle.om_types.specs.Table.{Table, table_shapes, node_or_none}
 use Rattle.om_types.specs.Typing.{values_of, field_at, IsListed, IsHeld, IsTyping, HasType}
@@ -56,6 +59,25 @@ typed_at table graph (vals.Ref o) t number has = record {
   held = record { fits = has.fits; listed = (t, has.typed.2, refl) };
 }
 
+-- each value of the graph is typed where nothing is asked
+module _ (table : Table) (graph : List Obj) where
+  abbrev node : ℕ → ShapeOf ℕ
+  node i = node_or_none (slice_get table.nodes i)
+
+  abbrev Same : ℕ → ℕ → Type 0
+  Same i j = slice_get table.classes i ≡ slice_get table.classes j
+
+  pub hidden_at : (v : Val) (u : ℕ) → IsValue (length graph) v → u < length table.nodes → is_asked (node_or_none (slice_get table.nodes u)) ≡ false → IsTypedAt table graph v u
+  hidden_at (vals.Int z) u valid number hidden = record { number = number; pairs = []; typing = nothing_typed table graph; held = record { fits = int_fits node Same graph u hidden refl z; listed = tt } }
+  hidden_at (vals.Atom tag) u valid number hidden = record { number = number; pairs = []; typing = nothing_typed table graph; held = record { fits = atom_fits node Same graph u hidden refl tag; listed = tt } }
+  hidden_at (vals.Ref o) u valid number hidden =
+      let at = slice_get_there graph o valid in record {
+        number = number;
+        pairs = (o, u) ∷ [];
+        typing = pair_typing node Same graph u hidden refl o at.0 at.1;
+        held = record { fits = object_fits node Same graph u hidden refl o at.0 at.1; listed = (u, Contains-first {X = ℕ × ℕ} (o, u) [], refl) };
+      }
+
 -- ---- fields that are there
 
 same_parts : (object : Obj) → values_of object ≡ parts_of object
@@ -86,8 +108,8 @@ there graph o i v is = there_in graph o i v (slice_get graph o) refl is
 -- ---- the parts of a typed object
 
 module _ (table : Table) (graph : List Obj) (lawful : IsLawful table) where
-  -- the types that are needed are numbers of the table
-  named_below : (i u : ℕ) (node : ShapeOf ℕ) (v : Val) (found : Option (ShapeOf ℕ)) (t : ℕ) → slice_get table.nodes t ≡ found → Contains (or_none (fields_of graph v (node_or_none found))) (i, u) → t < length table.nodes → u < length table.nodes
+  -- the types that fields have are numbers of the table
+  pub named_below : (i u : ℕ) (node : ShapeOf ℕ) (v : Val) (found : Option (ShapeOf ℕ)) (t : ℕ) → slice_get table.nodes t ≡ found → Contains (or_none (fields_of graph v (node_or_none found))) (i, u) → t < length table.nodes → u < length table.nodes
   named_below i u node v None t at_t needed within = absurd (no_node t table.nodes within at_t) where
     no_node : {X : Type 0} (t : ℕ) (xs : List X) → t < length xs → slice_get xs t ≡ None → ⊥
     no_node t [] less is = omega arith
@@ -103,7 +125,7 @@ module _ (table : Table) (graph : List Obj) (lawful : IsLawful table) where
   listed_too pairs (vals.Atom tag) b u equal listed = tt
   listed_too pairs (vals.Ref o) b u equal listed = (listed.0, listed.1, listed.2 ∙ equal)
 
-  pub part_typed : (o t i u : ℕ) → IsTypedAt table graph (vals.Ref o) t → Contains (or_none (fields_of graph (vals.Ref o) (node_or_none (slice_get table.nodes t)))) (i, u)
+  pub part_typed : (o t i u : ℕ) → IsTypedAt table graph (vals.Ref o) t → Contains ((table_shapes table).needs graph (vals.Ref o) t) (i, u)
       → (v : Val) × (field_at graph o i ≡ Some v) × IsTypedAt table graph v u
   part_typed o t i u typed needed =
       let shapes = table_shapes table in
@@ -115,7 +137,7 @@ module _ (table : Table) (graph : List Obj) (lawful : IsLawful table) where
         found.0,
         found.1,
         record {
-          number = named_below i u (node_or_none (slice_get table.nodes t)) (vals.Ref o) (slice_get table.nodes t) t refl needed typed.number;
+          number = named_below i u (node_or_none (slice_get table.nodes t)) (vals.Ref o) (slice_get table.nodes t) t refl (asked_is (λ k. node_or_none (slice_get table.nodes k)) (or_none (fields_of graph (vals.Ref o) (node_or_none (slice_get table.nodes t)))) i u needed).0 typed.number;
           pairs = typed.pairs;
           typing = typed.typing;
           held = record {

@@ -1,6 +1,6 @@
 -- One step of a walk.
 use Rattle.std.proofs.Common.{ℕ, suc, ◌≡◌, ◌+◌, ◌-◌, ◌<◌, ◌≤◌, ◌∙◌, true, false, cond, List, [], ◌∷◌, ◌++◌, length, drop, reverse, get_or, set, replicate, refl, sym, ap, subst, arith, append-nil, Some, None, ℤ, pos, length-set}
-use Rattle.std.specs.Prelude.{All, Contains, slice_get, codes}
+use Rattle.std.specs.Prelude.{All, Contains, IsTrue, Bool, slice_get, codes}
 use Rattle.std.proofs.lemmas.List.{length-append, length-replicate, length-map, drop_all}
 use Rattle.std.proofs.lemmas.List.Elements.{All-nil, All-push, All-pop, All-contains}
 use Rattle.std.proofs.lemmas.Option.{slice_get-get_or}
@@ -10,16 +10,18 @@ use Rattle.om_model.specs.declared.value.Obj.{Obj}
 use Rattle.om_model.specs.declared.value.Obj.TheVariants as objects
 use Rattle.om_model.specs.Graph.{IsValue, IsObject, IsGraph}
 use Rattle.om_model.proofs.Options.{slice_get-Contains}
-use Rattle.om_types.specs.Fitting.{or_none, fields_of as needed_of}
+use Rattle.om_types.specs.Fitting.{or_none, is_asked, fields_of as needed_of}
+use Rattle.om_types.proofs.AskedLemmas.{is_needed}
+use Rattle.om_table.proofs.FieldLemmas.{fields_there}
 use Rattle.om_type_table.specs.declared.table.TypeTable.{TypeTable}
 use Rattle.om_type_table.specs.Made.{table_of, IsLawful}
 use Rattle.om_heap.specs.Heap.{object_at, fields_of, field_at, word_of, IsFieldWord}
 use Rattle.om_heap.proofs.ReadLemmas.{field_word-at, word_of-inj}
 use Rattle.om_fits.specs.Needs.{needs_in}
-use Rattle.om_leaves.specs.Frames.{Frame, frame_of, before_part, int_text, object_text}
+use Rattle.om_leaves.specs.Frames.{Frame, frame_of, before_part, int_text, object_text, hidden_text}
 use Rattle.om_leaves.specs.FrameView.{frame_in}
 use Rattle.om_show.specs.Pieces.{Piece, Text, First, Again, has, firsts}
-use Rattle.om_show.specs.Shown.{Met, met, led_by, object_met, parts_from}
+use Rattle.om_show.specs.Shown.{Met, met, led_by, asked_met, object_met, parts_from}
 use Rattle.om_show.specs.Tables.{shape_in, names_in}
 use Rattle.om_print.specs.Typed.{IsTypedAt}
 use Rattle.om_print.specs.declared.block.OpenBlock.{OpenBlock}
@@ -29,7 +31,7 @@ use Rattle.om_print.specs.declared.walk.Walk.{Walk}
 use Rattle.om_print.specs.Walking.{how_many, meet, parts_left, left_of, step_pieces, IsStep, IsPart, IsOpen, IsBegun, IsWalk, Goes}
 use Rattle.om_print.proofs.LeftLemmas.{value_left, block_left, closing_left, before_left}
 use Rattle.om_print.proofs.MarkLemmas.{reversed_more, marked_more, how_many_none, how_many_within, how_many_set, no_marks}
-use Rattle.om_print.proofs.TypedLemmas.{integer_fits, there, part_typed}
+use Rattle.om_print.proofs.TypedLemmas.{integer_fits, there, named_below, hidden_at, part_typed}
 
 pub field_word_at : (graph : List Obj) (words : List ℕ) (i : ℕ) → All (IsFieldWord graph) words → i < length words → IsFieldWord graph (get_or words i 0)
 field_word_at graph words i valid inside = All-contains (IsFieldWord graph) words (get_or words i 0) valid (slice_get-Contains words i (get_or words i 0) (slice_get-get_or words i 0 inside))
@@ -53,40 +55,57 @@ module _ (table : TypeTable) (graph : List Obj) where
     walk = is_new;
   }
 
+  -- ---- values of which nothing is asked
+
+  pub hidden_goes : (walk : Walk) (v : Val) (t : ℕ) → IsWalk table graph walk → walk.value ≡ None → is_asked (shape_in table t) ≡ false
+      → Goes table graph (left_of table graph walk.stack.items (Some (v, t)) walk.order) walk.order steps.Hidden walk
+  hidden_goes walk v t is none hidden =
+      let k = length graph - length walk.stack.items in
+      let seen = reverse walk.order in
+      let meets : meet table graph (suc k) seen v t ≡ met (Text hidden_text ∷ []) seen =
+      ap (λ b. cond b (asked_met (shape_in table) (names_in table) graph (meet table graph k) seen v t) (met (Text hidden_text ∷ []) seen)) hidden in
+      value_goes walk walk v t steps.Hidden is refl none meets (sym (append-nil walk.order)) tt is
+
+  meet_asked : (k : ℕ) (seen : List ℕ) (v : Val) (t : ℕ) → IsTrue (is_asked (shape_in table t))
+      → meet table graph (suc k) seen v t ≡ asked_met (shape_in table) (names_in table) graph (meet table graph k) seen v t
+  meet_asked k seen v t asked = ap (λ b. cond b (asked_met (shape_in table) (names_in table) graph (meet table graph k) seen v t) (met (Text hidden_text ∷ []) seen)) asked
+
   -- ---- values that are no objects, and objects that are met again
 
-  pub integer_goes : (walk : Walk) (v : Val) (z : ℤ) (t : ℕ) → v ≡ vals.Int z → IsWalk table graph walk → walk.value ≡ None → IsTypedAt (table_of table) graph v t
+  pub integer_goes : (walk : Walk) (v : Val) (z : ℤ) (t : ℕ) → v ≡ vals.Int z → IsWalk table graph walk → walk.value ≡ None → IsTypedAt (table_of table) graph v t → IsTrue (is_asked (shape_in table t))
       → Goes table graph (left_of table graph walk.stack.items (Some (v, t)) walk.order) walk.order (steps.Integer z t) walk
-  integer_goes walk v z t v_is is none typed =
+  integer_goes walk v z t v_is is none typed asked =
       let meets : meet table graph (suc (length graph - length walk.stack.items)) (reverse walk.order) v t ≡ met (Text (int_text (shape_in table t) (names_in table t) z) ∷ []) (reverse walk.order) =
-      ap (λ x. meet table graph (suc (length graph - length walk.stack.items)) (reverse walk.order) x t) v_is in
+      meet_asked (length graph - length walk.stack.items) (reverse walk.order) v t asked
+      ∙ ap (λ x. asked_met (shape_in table) (names_in table) graph (meet table graph (length graph - length walk.stack.items)) (reverse walk.order) x t) v_is in
       value_goes walk walk v t (steps.Integer z t) is refl none meets (sym (append-nil walk.order))
       (typed.number, integer_fits (table_of table) graph z t (subst (λ x. IsTypedAt (table_of table) graph x t) v_is typed)) is
 
-  pub atom_goes : (walk : Walk) (v : Val) (tag t : ℕ) → v ≡ vals.Atom tag → IsWalk table graph walk → walk.value ≡ None
+  pub atom_goes : (walk : Walk) (v : Val) (tag t : ℕ) → v ≡ vals.Atom tag → IsWalk table graph walk → walk.value ≡ None → IsTrue (is_asked (shape_in table t))
       → Goes table graph (left_of table graph walk.stack.items (Some (v, t)) walk.order) walk.order steps.Empty walk
-  atom_goes walk v tag t v_is is none =
+  atom_goes walk v tag t v_is is none asked =
       let meets : meet table graph (suc (length graph - length walk.stack.items)) (reverse walk.order) v t ≡ met (Text (codes "[||]") ∷ []) (reverse walk.order) =
-      ap (λ x. meet table graph (suc (length graph - length walk.stack.items)) (reverse walk.order) x t) v_is in
+      meet_asked (length graph - length walk.stack.items) (reverse walk.order) v t asked
+      ∙ ap (λ x. asked_met (shape_in table) (names_in table) graph (meet table graph (length graph - length walk.stack.items)) (reverse walk.order) x t) v_is in
       value_goes walk walk v t steps.Empty is refl none meets (sym (append-nil walk.order)) tt is
 
   -- what is met where an object is met first
   abbrev first_met : ℕ → List ℕ → ℕ → ℕ → Met
   first_met k seen o t = object_met (shape_in table) (names_in table) graph (meet table graph k) (o ∷ seen) o t (slice_get graph o)
 
-  met_marked : (k : ℕ) (seen : List ℕ) (o t : ℕ) → has seen o ≡ true → meet table graph (suc k) seen (vals.Ref o) t ≡ met (Again o ∷ []) seen
-  met_marked k seen o t marked = ap (λ b. cond b (met (Again o ∷ []) seen) (first_met k seen o t)) marked
+  met_marked : (k : ℕ) (seen : List ℕ) (o t : ℕ) → IsTrue (is_asked (shape_in table t)) → has seen o ≡ true → meet table graph (suc k) seen (vals.Ref o) t ≡ met (Again o ∷ []) seen
+  met_marked k seen o t asked marked = meet_asked k seen (vals.Ref o) t asked ∙ ap (λ b. cond b (met (Again o ∷ []) seen) (first_met k seen o t)) marked
 
-  met_unmarked : (k : ℕ) (seen : List ℕ) (o t : ℕ) → has seen o ≡ false → meet table graph (suc k) seen (vals.Ref o) t ≡ first_met k seen o t
-  met_unmarked k seen o t unmarked = ap (λ b. cond b (met (Again o ∷ []) seen) (first_met k seen o t)) unmarked
+  met_unmarked : (k : ℕ) (seen : List ℕ) (o t : ℕ) → IsTrue (is_asked (shape_in table t)) → has seen o ≡ false → meet table graph (suc k) seen (vals.Ref o) t ≡ first_met k seen o t
+  met_unmarked k seen o t asked unmarked = meet_asked k seen (vals.Ref o) t asked ∙ ap (λ b. cond b (met (Again o ∷ []) seen) (first_met k seen o t)) unmarked
 
-  pub again_goes : (walk : Walk) (v : Val) (o t : ℕ) → v ≡ vals.Ref o → IsWalk table graph walk → walk.value ≡ None → o < length graph → get_or walk.marks.items o false ≡ true
+  pub again_goes : (walk : Walk) (v : Val) (o t : ℕ) → v ≡ vals.Ref o → IsWalk table graph walk → walk.value ≡ None → o < length graph → get_or walk.marks.items o false ≡ true → IsTrue (is_asked (shape_in table t))
       → Goes table graph (left_of table graph walk.stack.items (Some (v, t)) walk.order) walk.order (steps.Again o) walk
-  again_goes walk v o t v_is is none inside marked =
+  again_goes walk v o t v_is is none inside marked asked =
       let k = length graph - length walk.stack.items in
       let seen = reverse walk.order in
       let meets : meet table graph (suc k) seen v t ≡ met (Again o ∷ []) seen =
-      ap (λ x. meet table graph (suc k) seen x t) v_is ∙ met_marked k seen o t (sym (is.marked o) ∙ marked) in
+      ap (λ x. meet table graph (suc k) seen x t) v_is ∙ met_marked k seen o t asked (sym (is.marked o) ∙ marked) in
       value_goes walk walk v t (steps.Again o) is refl none meets (sym (append-nil walk.order)) inside is
 
   -- ---- objects that are met first
@@ -125,15 +144,15 @@ module _ (table : TypeTable) (graph : List Obj) where
   object_there o inside = slice_get-get_or graph o (objects.I32 (pos 0)) inside
 
   pub leaf_goes : (walk new : Walk) (o t : ℕ) → IsWalk table graph walk → o < length graph → t < length table.nodes → get_or walk.marks.items o false ≡ false → IsMarked walk new o
-      → ((tag : ℕ) (values : List Val) → object_at graph o ≡ objects.Block tag values → ⊥)
+      → ((tag : ℕ) (values : List Val) → object_at graph o ≡ objects.Block tag values → ⊥) → IsTrue (is_asked (shape_in table t))
       → Goes table graph (left_of table graph walk.stack.items (Some (vals.Ref o, t)) walk.order) walk.order (steps.Leaf o t) new
-  leaf_goes walk new o t is inside number unmet marked no_block =
+  leaf_goes walk new o t is inside number unmet marked no_block asked =
       let k = length graph - length walk.stack.items in
       let seen = reverse walk.order in
       let p : List Piece = First o ∷ Text (object_text (shape_in table t) (names_in table t) (object_at graph o)) ∷ [] in
       let later : reverse new.order ≡ o ∷ seen = ap reverse marked.order ∙ reversed_more walk.order o in
       let meets : meet table graph (suc k) seen (vals.Ref o) t ≡ met p (reverse new.order) =
-      met_unmarked k seen o t (sym (is.marked o) ∙ unmet)
+      met_unmarked k seen o t asked (sym (is.marked o) ∙ unmet)
       ∙ ap (object_met (shape_in table) (names_in table) graph (meet table graph k) (o ∷ seen) o t) (object_there o inside)
       ∙ leaf_met (meet table graph k) (o ∷ seen) o t (object_at graph o) no_block
       ∙ ap (met p) (sym later) in
@@ -155,16 +174,16 @@ module _ (table : TypeTable) (graph : List Obj) where
 
   pub opening_goes : (walk marked new : Walk) (block : OpenBlock) (o t tag : ℕ) → IsWalk table graph walk → o < length graph → get_or walk.marks.items o false ≡ false → IsMarked walk marked o
       → object_at graph o ≡ objects.Block tag (fields_of (object_at graph o)) → IsBegun table graph o t tag block
-      → new.value ≡ None → new.marks.items ≡ marked.marks.items → new.order ≡ marked.order → new.stack.items ≡ marked.stack.items ++ block ∷ []
+      → new.value ≡ None → new.marks.items ≡ marked.marks.items → new.order ≡ marked.order → new.stack.items ≡ marked.stack.items ++ block ∷ [] → IsTrue (is_asked (shape_in table t))
       → Goes table graph (left_of table graph walk.stack.items (Some (vals.Ref o, t)) walk.order) walk.order (steps.Opening o block.frame) new
-  opening_goes walk marked new block o t tag is inside unmet is_marked is_block begun value marks order blocks =
+  opening_goes walk marked new block o t tag is inside unmet is_marked is_block begun value marks order blocks asked =
       let k = length graph - length walk.stack.items in
       let seen = reverse walk.order in
       let p : List Piece = First o ∷ Text (frame_in block.frame).opening ∷ [] in
       let all : new.order ≡ walk.order ++ o ∷ [] = order ∙ is_marked.order in
       let later : reverse new.order ≡ o ∷ seen = ap reverse all ∙ reversed_more walk.order o in
       let meets : meet table graph (suc k) seen (vals.Ref o) t ≡ led_by p (parts_left table graph k block (reverse new.order)) =
-      met_unmarked k seen o t (sym (is.marked o) ∙ unmet) ∙ opening_met k seen o t tag block inside is_block begun ∙ ap (λ s. led_by p (parts_left table graph k block s)) (sym later) in
+      met_unmarked k seen o t asked (sym (is.marked o) ∙ unmet) ∙ opening_met k seen o t tag block inside is_block begun ∙ ap (λ s. led_by p (parts_left table graph k block s)) (sym later) in
       let m = marked_walk walk marked o is inside unmet is_marked in
       let deeper : new.stack.items ≡ walk.stack.items ++ block ∷ [] = blocks ∙ ap (λ bs. bs ++ block ∷ []) is_marked.blocks in record {
         pieces = block_left table graph walk.stack.items block (vals.Ref o) t walk.order new.order p (few_blocks walk is) meets
@@ -182,17 +201,6 @@ module _ (table : TypeTable) (graph : List Obj) where
           inside = subst (All (λ x. x < length graph)) (sym order) m.inside;
           depth = omega (arith, is.depth, ap length deeper, length-append walk.stack.items (block ∷ []), ap length all, length-append walk.order (o ∷ []));
         };
-      }
-
-  pub open_parts : (o t : ℕ) (needs : List (ℕ × ℕ)) → IsLawful (table_of table) → IsTypedAt (table_of table) graph (vals.Ref o) t → needs ≡ or_none (needed_of graph (vals.Ref o) (shape_in table t))
-      → (k i u : ℕ) → slice_get needs k ≡ Some (i, u) → IsPart table graph o i u
-  open_parts o t needs lawful typed is k i u at_k =
-      let needed = subst (λ (ns : List (ℕ × ℕ)). Contains ns (i, u)) is (slice_get-Contains needs k (i, u) at_k) in
-      let part = part_typed (table_of table) graph lawful o t i u typed needed in
-      let here = there graph o i part.0 part.1 in record {
-        there = here.inside;
-        field = part.1 ∙ ap Some (sym here.is);
-        typed = subst (λ v. IsTypedAt (table_of table) graph v u) (sym here.is) part.2;
       }
 
   -- ---- where no value comes next
@@ -257,6 +265,32 @@ module _ (table : TypeTable) (graph : List Obj) where
   some_fields o tag valid inside is =
       no_fields_none (length graph) tag (fields_of (object_at graph o))
       (subst (IsObject (length graph)) is (All-contains (IsObject (length graph)) graph (object_at graph o) valid (slice_get-Contains graph o (object_at graph o) (object_there o inside))))
+
+  -- ---- the parts of an object that is opened
+
+  -- a part is there and typed, hidden or not
+  pub open_parts : (o t : ℕ) (needs : List (ℕ × ℕ)) → IsGraph graph → o < length graph → IsLawful (table_of table) → IsTypedAt (table_of table) graph (vals.Ref o) t → needs ≡ or_none (needed_of graph (vals.Ref o) (shape_in table t))
+      → (k i u : ℕ) → slice_get needs k ≡ Some (i, u) → IsPart table graph o i u
+  open_parts o t needs is_graph inside lawful typed is k i u at_k = by (is_asked (shape_in table u)) refl where
+    among : Contains (or_none (needed_of graph (vals.Ref o) (shape_in table t))) (i, u)
+    among = subst (λ (ns : List (ℕ × ℕ)). Contains ns (i, u)) is (slice_get-Contains needs k (i, u) at_k)
+
+    by : (test : Bool) → is_asked (shape_in table u) ≡ test → IsPart table graph o i u
+    by true asked =
+        let part = part_typed (table_of table) graph lawful o t i u typed (is_needed (shape_in table) (or_none (needed_of graph (vals.Ref o) (shape_in table t))) i u among asked) in
+        let here = there graph o i part.0 part.1 in record {
+          there = here.inside;
+          field = part.1 ∙ ap Some (sym here.is);
+          typed = subst (λ v. IsTypedAt (table_of table) graph v u) (sym here.is) part.2;
+        }
+    by false hidden =
+        let part = fields_there (shape_in table t) graph (vals.Ref o) i u among in
+        let here = there graph o i part.0 part.1 in record {
+          there = here.inside;
+          field = part.1 ∙ ap Some (sym here.is);
+          typed = hidden_at (table_of table) graph (field_at graph o i) u (field_valid o i is_graph inside here.inside)
+              (named_below (table_of table) graph lawful i u (shape_in table t) (vals.Ref o) (slice_get table.nodes t) t refl among typed.number) hidden;
+        }
 
   -- the value of a field's word is the field
   pub word_is_field : (block : OpenBlock) (i : ℕ) (v : Val) → IsGraph graph → IsOpen table graph block → i < length (fields_of (object_at graph block.object))

@@ -10,7 +10,7 @@ use Rattle.om_type_table.specs.declared.table.TypeTable.{TypeTable}
 use Rattle.om_type_table.specs.Made.{table_of}
 use Rattle.om_heap.specs.Heap.{object_at, fields_of, field_at, word_of, IsFieldWord}
 use Rattle.om_fits.specs.Needs.{needs_in}
-use Rattle.om_leaves.specs.Frames.{frame_of, before_part, int_text, object_text}
+use Rattle.om_leaves.specs.Frames.{frame_of, before_part, int_text, object_text, hidden_text}
 use Rattle.om_leaves.specs.FrameView.{frame_in}
 use Rattle.om_show.specs.Pieces.{Piece, Text, First, Again, has, firsts}
 use Rattle.om_show.specs.Shown.{Met, met, led_by, met_within, parts_from}
@@ -74,6 +74,7 @@ module _ (table : TypeTable) (graph : List Obj) where
   abbrev pub step_pieces : Step → List Piece
   step_pieces (steps.Integer z t) = Text (int_text (shape_in table t) (names_in table t) z) ∷ []
   step_pieces steps.Empty = Text (codes "[||]") ∷ []
+  step_pieces steps.Hidden = Text hidden_text ∷ []
   step_pieces (steps.Again o) = Again o ∷ []
   step_pieces (steps.Leaf o t) =
       First o ∷ Text (object_text (shape_in table t) (names_in table t) (object_at graph o)) ∷ []

@@ -1,9 +1,10 @@
 //! The text of the values that are left, as long as no object is met again.
 
-ghost use Rattle.std.specs.Prelude.{◌≡◌, ◌<◌, ◌++◌, length, Some, None, [], true, false, slice_index, slice_index_or, IfOk, OnOk, vec_len};
+ghost use Rattle.std.specs.Prelude.{◌≡◌, ◌<◌, ◌++◌, length, Some, None, [], true, false, slice_index, slice_index_or, IfOk, IsTrue, OnOk, vec_len};
 ghost use Rattle.om_model.specs.Graph.{IsValue, IsGraph};
 ghost use Rattle.om_model.specs.declared.value.Val.TheVariants as vals;
 ghost use Rattle.om_model.specs.declared.value.Obj.TheVariants as objects;
+ghost use Rattle.om_types.specs.Fitting.{is_asked};
 ghost use Rattle.om_heap.specs.Heap.{object_at, fields_of, word_of};
 ghost use Rattle.om_leaves.specs.Frames.{object_text};
 ghost use Rattle.om_show.specs.Tables.{shape_in, names_in};
@@ -14,6 +15,7 @@ ghost use Rattle.om_print.specs.Plain.{IsPutOn, IsOpened};
 
 use crate::block::OpenBlock;
 use crate::walk::{Walk, open_block, value_at};
+use om_fits::is_asked;
 use om_heap::{Heap, Kind};
 use om_leaves::{put_few, put_int_at, put_object_at};
 use om_model::Memory;
@@ -138,6 +140,10 @@ fn put_value<'a>(
         (left_of table.now heap.now walk.old.stack.items (Some (v, at)) walk.old.order)
         walk.old.order text.old.items text.new.items walk.new) }
 {
+    if !is_asked(table.shape(at)) {
+        put_few(text, b"_")?;
+        return Ok(true);
+    }
     match v {
         Val::Int(z) => {
             put_int_at(text, z, table.shape(at), table.names(at))?;
@@ -175,6 +181,7 @@ fn put_object<'a>(
     requires inside { o < length heap.now }
     requires word { word ≡ word_of heap.now (vals.Ref o) }
     requires typed { IsTypedAt (table_of table.now) heap.now (vals.Ref o) at }
+    requires asked { IsTrue (is_asked (shape_in table.now at)) }
     requires lawful { IsLawful (table_of table.now) }
     requires named { length table.now.names ≡ length table.now.nodes }
     ensures none { OnOk result (walk.new.value ≡ None) }

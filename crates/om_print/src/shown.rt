@@ -144,6 +144,7 @@ fn put_step(
         }
         Step::Integer(_, _) => put_plain(text, heap, table, step),
         Step::Empty => put_plain(text, heap, table, step),
+        Step::Hidden => put_plain(text, heap, table, step),
         Step::Before(_, _) => put_plain(text, heap, table, step),
         Step::Closing(_) => put_plain(text, heap, table, step),
     }
@@ -167,6 +168,7 @@ fn put_plain(
     match step {
         Step::Integer(z, at) => put_int_at(text, z, table.shape(at), table.names(at)),
         Step::Empty => put(text, b"[||]"),
+        Step::Hidden => put(text, b"_"),
         Step::Again(_) => put_label(text, 0),
         Step::Leaf(o, at) => put_leaf(text, heap, table, o, heap.word(Val::Ref(o)), at),
         Step::Opening(_, frame) => frame.put_opening(text),

@@ -1,10 +1,10 @@
 //! The pieces of a value at a type, depth first and parts from left to right.
 
-ghost use Rattle.std.specs.Prelude.{◌≡◌, ◌<◌, option_map, length, Some, None, All, IfOk, [], false, slice_index, slice_index_or};
+ghost use Rattle.std.specs.Prelude.{◌≡◌, ◌<◌, option_map, length, Some, None, All, IfOk, IsTrue, [], false, slice_index, slice_index_or};
 ghost use Rattle.om_model.specs.Graph.{IsValue, IsGraph};
 ghost use Rattle.om_model.specs.declared.value.Val.TheVariants as vals;
 ghost use Rattle.om_model.specs.declared.value.Obj.TheVariants as objects;
-ghost use Rattle.om_types.specs.Fitting.{or_none, fields_of as needed_of};
+ghost use Rattle.om_types.specs.Fitting.{or_none, is_asked, fields_of as needed_of};
 ghost use Rattle.om_heap.specs.Heap.{object_at, fields_of, word_of, IsFieldWord};
 ghost use Rattle.om_fits.specs.Needs.{needs_in};
 ghost use Rattle.om_leaves.specs.Frames.{frame_of};
@@ -16,7 +16,7 @@ ghost use Rattle.om_print.specs.Walking.{left_of, pieces_left, IsOpen, IsWalk, G
 
 use crate::block::OpenBlock;
 use crate::order::Order;
-use om_fits::{Needs, known_needs};
+use om_fits::{Needs, is_asked, known_needs};
 use om_heap::{Heap, Kind};
 use om_leaves::{Frame, block_frame};
 use om_model::Memory;
@@ -31,6 +31,8 @@ pub enum Step<'a> {
     Integer(i64, usize),
     /// The array without elements.
     Empty,
+    /// A value of which nothing is asked.
+    Hidden,
     /// An object that was met before.
     Again(u64),
     /// An object without parts at the type of this number.
@@ -117,6 +119,9 @@ impl<'a> Walk<'a> {
             (left_of table.now heap.now self.old.stack.items (Some (v, at)) self.old.order)
             self.old.order step self.new) }
     {
+        if !is_asked(table.shape(at)) {
+            return Ok(Step::Hidden);
+        }
         match v {
             Val::Int(z) => Ok(Step::Integer(z, at)),
             Val::Atom(_) => Ok(Step::Empty),
@@ -139,6 +144,7 @@ impl<'a> Walk<'a> {
         requires unmet { slice_index_or self.old.marks.items o false ≡ false }
         requires inside { o < length heap.now }
         requires typed { IsTypedAt (table_of table.now) heap.now (vals.Ref o) at }
+        requires asked { IsTrue (is_asked (shape_in table.now at)) }
         requires lawful { IsLawful (table_of table.now) }
         requires named { length table.now.names ≡ length table.now.nodes }
         ensures none { IfOk result (λ _. self.new.value ≡ None) }

@@ -9,7 +9,9 @@ use Rattle.om_types.specs.Accepted.{AreWellFormed, IsSoundType}
 use Rattle.om_types.specs.Lawful.{AreLawful}
 use Rattle.om_types.specs.Typing.{IsHeld, IsTyping}
 use Rattle.om_types.specs.Fault.{field_of, type_of_field, value_at}
-use Rattle.om_types.proofs.FaultLemmas.{held_by_some, place_is_held}
+use Rattle.om_types.proofs.FaultLemmas.{held_by_some, place_is_held, named_is_needed, field_is_held}
+use Rattle.om_types.specs.Fitting.{fields_of, or_none}
+use Rattle.om_types.proofs.AskedLemmas.{is_needed}
 use Rattle.om_types.specs.Equal.{declared_shapes}
 use Rattle.om_types.specs.Names.{names_of}
 use Rattle.om_types.specs.Reached.{IsReached}
@@ -17,13 +19,13 @@ use Rattle.om_types.specs.Shape.{shape}
 use Rattle.om_types.specs.Ty.{Ty}
 use Rattle.om_format.specs.Tree.{root, objects_of}
 use Rattle.om_equal.proofs.LawfulLemmas.{reached_lawful}
-use Rattle.om_equal.proofs.ReachedLemmas.{root_listed}
+use Rattle.om_equal.proofs.ReachedLemmas.{root_listed, named_listed, needs_named}
 use Rattle.om_equal.proofs.SoundLemmas.{known_by_hash}
 use Rattle.om_show.proofs.NamedLemmas.{has_its_names}
 use Rattle.om_literal_texts.specs.Readable.{AreReadable}
 use Rattle.om_readback.specs.Back.{AreShowable}
 use Rattle.om_readback.specs.Laws.{TextsAreReadBack}
-use Rattle.om_readback.proofs.WholeReadLemmas.{shown_back}
+use Rattle.om_readback.proofs.WholeReadLemmas.{readable_asked, shown_back}
 
 module _ (decls : List Decl) (t : Ty) (types : List Ty) (well : AreWellFormed decls) (sound : IsSoundType decls t) (reached : IsReached decls t types) (readable : AreReadable decls types) (graph : List Obj) where
   abbrev Among : Ty → Type 0
@@ -37,12 +39,16 @@ module _ (decls : List Decl) (t : Ty) (types : List Ty) (well : AreWellFormed de
     abbrev Holds : Val → Ty → Type 0
     Holds v u = Contains types u × IsHeld (declared_shapes decls) graph pairs v u
 
-    part_holds : (v : Val) (u : Ty) (i : ℕ) (a : Ty) (w : Val) → Holds v u → type_of_field ((declared_shapes decls).needs graph v u) i ≡ Some a → field_of graph v i ≡ Some w → Holds w a
-    part_holds (vals.Int z) u i a w holds need field = absurd cc
-    part_holds (vals.Atom tag) u i a w holds need field = absurd cc
-    part_holds (vals.Ref o) u i a w holds need field =
-        let leads : value_at (declared_shapes decls) graph (vals.Ref o) u (i ∷ []) ≡ Some (w, a) = rw (field, need) refl in
-        place_is_held (declared_shapes decls) Among lawful graph pairs typing (i ∷ []) (vals.Ref o) u w a holds.0 holds.1 leads
+    -- no part is hidden, since each is read back
+    part_holds : (v : Val) (u : Ty) (i : ℕ) (a : Ty) (w : Val) → Holds v u → type_of_field (or_none (fields_of graph v (shape decls u))) i ≡ Some a → field_of graph v i ≡ Some w → Holds w a
+    part_holds (vals.Int z) u i a w holds named field = absurd cc
+    part_holds (vals.Atom tag) u i a w holds named field = absurd cc
+    part_holds (vals.Ref o) u i a w holds named field =
+        let fields = or_none (fields_of graph (vals.Ref o) (shape decls u)) in
+        let typed = named_is_needed fields i a named in
+        let listed = named_listed decls t types reached u a holds.0 (needs_named (shape decls u) graph (vals.Ref o) i a typed) in
+        let asked = readable_asked (shape decls a) (names_of decls a) (readable a listed) in
+        (listed, field_is_held (declared_shapes decls) Among lawful graph pairs typing o i u w a holds.0 holds.1 field (is_needed (shape decls) fields i a typed asked))
 
     are_showable : AreShowable (shape decls) (names_of decls) graph Holds
     are_showable = record {

@@ -12,19 +12,21 @@ use Rattle.om_model.specs.declared.value.Obj.{Obj}
 use Rattle.om_model.specs.declared.value.Obj.TheVariants as objects
 use Rattle.om_types.specs.declared.names.Names.{Names}
 use Rattle.om_types.specs.declared.shape.ShapeOf.{ShapeOf}
-use Rattle.om_types.specs.Fitting.{fields_of, or_none, none_if, fits_int, fits_atom, object_fields, numbered_from}
+use Rattle.om_types.specs.declared.shape.ShapeOf.TheVariants as shapes
+use Rattle.om_types.specs.Fitting.{fields_of, or_none, none_if, fits_int, fits_atom, object_fields, numbered_from, is_asked}
 use Rattle.om_types.specs.Fault.{field_of, type_of_field}
 use Rattle.om_format.specs.Token.{integer, atom, shared, block, leaf, IsLeaf}
 use Rattle.om_format.specs.Tree.{Tree, Forest, node, none, more, trees_in, IsTree, AreTrees, root, roots, made, made_by, all_made, objects_of, all_objects, ReferBack, AllReferBack}
 use Rattle.om_format.proofs.Counts.{leaf_fields, length-objects_of, length-roots}
 use Rattle.om_show.specs.Pieces.{Text, First, Again, has, firsts, agains}
-use Rattle.om_leaves.specs.Frames.{Frame, before_part, frame_of, int_text, tag_of_values}
-use Rattle.om_show.specs.Shown.{Met, met, led_by, met_within, object_met, parts_from}
+use Rattle.om_leaves.specs.Frames.{Frame, before_part, frame_of, int_text, tag_of_values, hidden_text}
+use Rattle.om_show.specs.Shown.{Met, met, led_by, met_within, asked_met, object_met, parts_from}
 use Rattle.om_show.specs.Named.{HasObjectNames}
 use Rattle.om_lexed.specs.Lexed.{Begins}
 use Rattle.om_lexed.proofs.LexedLemmas.{lexed_whole}
 use Rattle.om_lexed.proofs.LineLemmas.{lexed_one_line}
 use Rattle.om_literal_texts.specs.Blocks.{ReadsRow, IsBlockAt}
+use Rattle.om_literal_texts.specs.Readable.{IsReadable}
 use Rattle.om_literal_texts.specs.Numbered.{count_from, down, AreIncreasing, before}
 use Rattle.om_literal_texts.proofs.BlockAtLemmas.{block_at}
 use Rattle.om_literal_texts.proofs.LeafReadLemmas.{int_plain, atom_plain}
@@ -77,9 +79,17 @@ tag_integer (more (node (shared offset) f) fs) c are = omega arith
 tag_integer (more (node (block tag size) f) fs) c are = omega arith
 tag_integer (more (node (leaf object) f) fs) c are = omega arith
 
+-- what is read back is asked for
+pub readable_asked : {T : Type 0} (s : ShapeOf T) (names : Names) → IsReadable s names → IsTrue (is_asked s)
+readable_asked shapes.Anything names readable = absurd readable
+readable_asked s names readable = refl
+
 module _ {T : Type 0} (shape : T → ShapeOf T) (names : T → Names) (graph : List Obj) (Holds : Val → T → Type 0) (showable : AreShowable shape names graph Holds) where
   abbrev meet : ℕ → List ℕ → Val → T → Met
   meet n = met_within shape names graph n
+
+  met_asked : (n : ℕ) (seen : List ℕ) (v : Val) (t : T) → Holds v t → meet (suc n) seen v t ≡ asked_met shape names graph (meet n) seen v t
+  met_asked n seen v t holds = ap (λ b. cond b (asked_met shape names graph (meet n) seen v t) (met (Text hidden_text ∷ []) seen)) (readable_asked (shape t) (names t) (showable.readable v t holds))
 
   abbrev TreeClaim : Tree → Type 0
   TreeClaim s = (n c : ℕ) (t : T) → IsPlaced graph (objects_of s c) c → IsTree s → ReferBack s c → c ≤ length graph → length graph < n + c → Holds (root s c) t
@@ -100,13 +110,15 @@ module _ {T : Type 0} (shape : T → ShapeOf T) (names : T → Names) (graph : L
   int_claim : (z : ℤ) → TreeClaim (node (integer z) none)
   int_claim z zero c t placed is back low fuel holds = absurd (omega arith)
   int_claim z (suc n) c t placed is back low fuel holds =
-      small_back shape names t c (vals.Int z) (int_text (shape t) (names t) z)
-      (int_plain t (names t) (shape t) z (showable.readable (vals.Int z) t holds) is.0 (none_if_true (fits_int (shape t) z) (showable.fits (vals.Int z) t holds)) (showable.named (vals.Int z) t holds))
+      subst (IsMetBack shape names c 0 (vals.Int z) [] t) (sym (met_asked n (down c) (vals.Int z) t holds))
+      (small_back shape names t c (vals.Int z) (int_text (shape t) (names t) z)
+      (int_plain t (names t) (shape t) z (showable.readable (vals.Int z) t holds) is.0 (none_if_true (fits_int (shape t) z) (showable.fits (vals.Int z) t holds)) (showable.named (vals.Int z) t holds)))
 
   atom_claim : (tag : ℕ) → TreeClaim (node (atom tag) none)
   atom_claim tag zero c t placed is back low fuel holds = absurd (omega arith)
   atom_claim tag (suc n) c t placed is back low fuel holds =
-      small_back shape names t c (vals.Atom tag) _ (atom_plain t (names t) (shape t) tag (none_if_true (fits_atom (shape t) tag) (showable.fits (vals.Atom tag) t holds)))
+      subst (IsMetBack shape names c 0 (vals.Atom tag) [] t) (sym (met_asked n (down c) (vals.Atom tag) t holds))
+      (small_back shape names t c (vals.Atom tag) _ (atom_plain t (names t) (shape t) tag (showable.readable (vals.Atom tag) t holds) (none_if_true (fits_atom (shape t) tag) (showable.fits (vals.Atom tag) t holds))))
 
   -- an object that was met
   shared_claim : (offset : ℕ) → TreeClaim (node (shared offset) none)
@@ -116,7 +128,7 @@ module _ {T : Type 0} (shape : T → ShapeOf T) (names : T → Names) (graph : L
       let lt : o < c = let a = back.0.0 in let b = back.0.1 in omega arith in
       let here : c ≡ c + 0 = omega arith in
       let there : has (down c) o ≡ true = has_down c o ∙ lt-ltb o c lt in
-      subst (IsMetBack shape names c 0 (vals.Ref o) [] t) (sym (ap (λ b. cond b (met (Again o ∷ []) (down c)) (object_met shape names graph (meet n) (o ∷ down c) o t (slice_get graph o))) there)) (record {
+      subst (IsMetBack shape names c 0 (vals.Ref o) [] t) (sym (met_asked n (down c) (vals.Ref o) t holds ∙ ap (λ b. cond b (met (Again o ∷ []) (down c)) (object_met shape names graph (meet n) (o ∷ down c) o t (slice_get graph o))) there)) (record {
         seen = ap down here;
         firsts_are = refl;
         agains_are = λ p e. by_object p (eqb o p) refl e;
@@ -129,10 +141,11 @@ module _ {T : Type 0} (shape : T → ShapeOf T) (names : T → Names) (graph : L
 
   -- ---- an object that is met for the first time
 
-  first_met : (n c : ℕ) (t : T) (object : Obj) → slice_get graph c ≡ Some object
+  first_met : (n c : ℕ) (t : T) (object : Obj) → Holds (vals.Ref c) t → slice_get graph c ≡ Some object
       → meet (suc n) (down c) (vals.Ref c) t ≡ object_met shape names graph (meet n) (c ∷ down c) c t (Some object)
-  first_met n c t object at =
-      ap (λ b. cond b (met (Again c ∷ []) (down c)) (object_met shape names graph (meet n) (c ∷ down c) c t (slice_get graph c))) (has_down c c ∙ le-ltb c c (omega arith))
+  first_met n c t object holds at =
+      met_asked n (down c) (vals.Ref c) t holds
+      ∙ ap (λ b. cond b (met (Again c ∷ []) (down c)) (object_met shape names graph (meet n) (c ∷ down c) c t (slice_get graph c))) (has_down c c ∙ le-ltb c c (omega arith))
       ∙ ap (object_met shape names graph (meet n) (c ∷ down c) c t) at
 
   -- what a value is that refers to an object
@@ -188,7 +201,7 @@ module _ {T : Type 0} (shape : T → ShapeOf T) (names : T → Names) (graph : L
     met_is : meet (suc n) (down c) (vals.Ref c) t
         ≡ led_by (First c ∷ Text (frame_of (shape t) (names t) tag (roots f (c + 1))).opening ∷ []) (parts_from shape names graph (meet n) (frame_of (shape t) (names t) tag (roots f (c + 1))) (vals.Ref c) 0 (numbered_from (length found.skip) found.ts) (c ∷ down c))
     met_is =
-        first_met n c t (objects.Block tag (roots f (c + 1))) at
+        first_met n c t (objects.Block tag (roots f (c + 1))) holds at
         ∙ ap (λ o. led_by (First c ∷ Text (frame_of (shape t) (names t) tag (roots f (c + 1))).opening ∷ []) (parts_from shape names graph (meet n) (frame_of (shape t) (names t) tag (roots f (c + 1))) (vals.Ref c) 0 (or_none o) (c ∷ down c))) needs_are
 
     -- the parts hold
@@ -260,7 +273,7 @@ module _ {T : Type 0} (shape : T → ShapeOf T) (names : T → Names) (graph : L
         let holds' : Holds (vals.Ref c) t = holds in
         let first = leaf_claim object is.0 n c t at holds' in
         subst (λ k. IsMetBack shape names c k (vals.Ref c) (object ∷ []) t (meet (suc n) (down c) (vals.Ref c) t)) (sym (ap (λ n. n + 0) one))
-        (subst (IsMetBack shape names c 1 (vals.Ref c) (object ∷ []) t) (sym (first_met n c t object at)) first)
+        (subst (IsMetBack shape names c 1 (vals.Ref c) (object ∷ []) t) (sym (first_met n c t object holds' at)) first)
 
     forest_back : (fs : Forest) → ForestClaim fs
     forest_back none n c f [] frame i o placed trees back many low fuel field holds = no_more shape names c frame i

@@ -7,13 +7,13 @@ use Rattle.om_rebuild.proofs.SpokenTextLemmas.{declared_spoken, type_spoken}
 use Rattle.om_rebuild.proofs.SpokenTypeLemmas.{reached_readable}
 
 pub names_are_read_back : NamesAreReadBack
-names_are_read_back file_text type_text decls t types declared written reached =
-    reached_readable decls (declared_spoken file_text decls declared) t (type_spoken decls type_text t written) types reached
+names_are_read_back file_text type_text decls t types declared written reached none =
+    reached_readable decls (declared_spoken file_text decls declared) t (type_spoken decls type_text t written) types reached none
 
 pub declared_texts_are_read_back : DeclaredTextsAreReadBack
-declared_texts_are_read_back file_text type_text decls t types declared written well sound reached =
-    texts_are_read_back decls t types well sound reached (names_are_read_back file_text type_text decls t types declared written reached)
+declared_texts_are_read_back file_text type_text decls t types declared written well sound reached none =
+    texts_are_read_back decls t types well sound reached (names_are_read_back file_text type_text decls t types declared written reached none)
 
 pub literals_are_read_back : LiteralsAreReadBack
-literals_are_read_back file_text type_text decls t table declared written well sound is =
-    texts_are_read_again decls t table well sound is (names_are_read_back file_text type_text decls t (types_of table) declared written is.reached)
+literals_are_read_back file_text type_text decls t table declared written well sound is none =
+    texts_are_read_again decls t table well sound is (names_are_read_back file_text type_text decls t (types_of table) declared written is.reached none)

@@ -12,12 +12,12 @@ use Rattle.om_rebuild.specs.Rebuilt.{ValuesAreRebuilt}
 use Rattle.om_rebuild.proofs.LawLemmas.{literals_are_read_back}
 
 pub values_are_rebuilt : ValuesAreRebuilt
-values_are_rebuilt file_text type_text decls t table declared written well sound is g v tree of few has =
+values_are_rebuilt file_text type_text decls t table declared written well sound is none g v tree of few has =
     let typed = type_is_kept (shape decls) (Equal decls) g (objects_of tree 0) v (root tree 0) t of.same has in
     let kept = text_is_kept (shape decls) (names_of decls) g (objects_of tree 0) v (root tree 0) t of.same in
     record {
       reads = subst (ReadsAgain table tree) (sym kept)
-          (literals_are_read_back file_text type_text decls t table declared written well sound is tree of.is_tree of.refers_back few typed);
+          (literals_are_read_back file_text type_text decls t table declared written well sound is none tree of.is_tree of.refers_back few typed);
       same = of.same;
       typed = typed;
       shown = sym kept;

@@ -1,6 +1,7 @@
 -- Where names are lexemes, what a type's text names is read back.
 use Rattle.std.proofs.Common.{◌≡◌, ◌≢◌, ℕ, ℤ, pos, negsuc, zero, suc, ◌+◌, ◌<◌, ◌≤◌, inl, inr, Bool, true, false, cond, List, [], ◌∷◌, length, Option, Some, None, refl, sym, ap, subst, ◌∙◌, arith}
-use Rattle.std.specs.Prelude.{slice_get, find, map, codes, option_and_then}
+use Rattle.std.specs.Prelude.{slice_get, find, map, codes, option_and_then, Contains}
+use Rattle.om_model.proofs.Options.{Contains-first}
 use Rattle.std.specs.List.{AllByRecursion}
 use Rattle.std.specs.Str.{bytes_eq}
 use Rattle.std.specs.Char.{is_ascii_uppercase}
@@ -9,7 +10,7 @@ use Rattle.std.proofs.lemmas.Slice.Eq.{bytes_eq-Decides}
 use Rattle.std.proofs.lemmas.List.{length-map}
 use Rattle.std.proofs.lemmas.Option.{same_Some}
 use Rattle.om_types.specs.Head.{head}
-use Rattle.om_types.specs.Reached.{listed_if}
+use Rattle.om_types.specs.Reached.{listed_if, parts_of, is_any_head}
 use Rattle.om_lex.specs.declared.lexeme.Keyword.{Keyword}
 use Rattle.om_lex.specs.declared.lexeme.Keyword.TheVariants as keywords
 use Rattle.om_lex.specs.Lexeme.{Lower, Upper, Tag, IsForm, keyword_text}
@@ -150,27 +151,32 @@ ref_names : AreSumNames (predeclared_type_names bases.Ref)
 ref_names = single_names (predeclared_type_names bases.Ref) tt
     ((record { head = ref_head; lexed = lexed_lower (codes "ref") ref_word; named = refl; begins = begins_with 114 _ (λ e. absurd (omega arith)) }, tt), tt) tt (tt, tt)
 
-array_readable : (h : HeadOf Ty) (t : Ty) → IsReadable (array_of h t) no_names
-array_readable (heads.Variable name) t = tt
-array_readable h t = by (is_float_head h) where
-  by : (float : Bool) → IsReadable (cond float shapes.FloatArray (shapes.ArrayOf t)) no_names
-  by true = tt
-  by false = tt
+array_readable : (h : HeadOf Ty) (t : Ty) → is_any_head h ≡ false → IsReadable (array_of h t) no_names
+array_readable (heads.Variable name) t other = tt
+array_readable (heads.Predeclared b ts) t other = by_base b other where
+  by_base : (base : Predeclared) → is_any_head (heads.Predeclared base ts) ≡ false → IsReadable (array_of (heads.Predeclared base ts) t) no_names
+  by_base bases.Float other = tt
+  by_base bases.Any other = absurd (true≢false other)
+  by_base base other = tt
+array_readable h t other = tt
 
-predeclared_readable : (decls : List Decl) (base : Predeclared) (ts : List Ty) → IsReadable (predeclared_shape decls base ts) (predeclared_type_names base)
-predeclared_readable decls bases.List (t ∷ []) = list_names
-predeclared_readable decls bases.Option (t ∷ []) = option_names
-predeclared_readable decls bases.Ref (t ∷ []) = ref_names
-predeclared_readable decls bases.Array (t ∷ []) = array_readable (head decls t) t
-predeclared_readable decls bases.Int [] = tt
-predeclared_readable decls bases.Char [] = inr (inr refl)
-predeclared_readable decls bases.Bool [] = inr (inl refl)
-predeclared_readable decls bases.Unit [] = inl refl
-predeclared_readable decls base [] = tt
-predeclared_readable decls bases.Int (t ∷ []) = tt
-predeclared_readable decls base (t ∷ []) = tt
-predeclared_readable decls bases.Int (t ∷ u ∷ ts) = tt
-predeclared_readable decls base (t ∷ u ∷ ts) = tt
+-- it is not `_`, nor is one of its parts
+predeclared_readable : (decls : List Decl) (base : Predeclared) (ts : List Ty) → is_any_head (heads.Predeclared base ts) ≡ false
+    → ((a : Ty) → Contains ts a → is_any_head (head decls a) ≡ false) → IsReadable (predeclared_shape decls base ts) (predeclared_type_names base)
+predeclared_readable decls bases.List (t ∷ []) other parts = list_names
+predeclared_readable decls bases.Option (t ∷ []) other parts = option_names
+predeclared_readable decls bases.Ref (t ∷ []) other parts = ref_names
+predeclared_readable decls bases.Array (t ∷ []) other parts = array_readable (head decls t) t (parts t (Contains-first t []))
+predeclared_readable decls bases.Int [] other parts = tt
+predeclared_readable decls bases.Char [] other parts = inr (inr refl)
+predeclared_readable decls bases.Bool [] other parts = inr (inl refl)
+predeclared_readable decls bases.Unit [] other parts = inl refl
+predeclared_readable decls bases.Any [] other parts = absurd (true≢false other)
+predeclared_readable decls base [] other parts = tt
+predeclared_readable decls bases.Int (t ∷ []) other parts = tt
+predeclared_readable decls base (t ∷ []) other parts = tt
+predeclared_readable decls bases.Int (t ∷ u ∷ ts) other parts = tt
+predeclared_readable decls base (t ∷ u ∷ ts) other parts = tt
 
 -- ---- declared ones
 
@@ -231,10 +237,12 @@ IsSpokenHead k (heads.Tuple ts) = (2 ≤ length ts + k) × AllByRecursion (IsSpo
 IsSpokenHead k (heads.Variants tags) = AllByRecursion IsSpokenTag tags
 IsSpokenHead k heads.Absent = Unit {0}
 
-pub head_readable : (decls : List Decl) → AreSpoken decls → (h : HeadOf Ty) → IsSpokenHead 0 h → IsReadable (head_shape decls h) (head_names decls h)
-head_readable decls spoken (heads.Variable x) is = tt
-head_readable decls spoken (heads.Predeclared base ts) is = predeclared_readable decls base ts
-head_readable decls spoken (heads.Datatype name ts) is = datatype_readable decls (declaration_of decls name) ts (λ d e. declaration_spoken decls spoken name d e)
-head_readable decls spoken (heads.Tuple ts) is = (tt, λ none. let two = is.0 in omega arith)
-head_readable decls spoken (heads.Variants tags) is = tags_readable tags is
-head_readable decls spoken heads.Absent is = tt
+-- where it is not `_`, nor one of its parts is
+pub head_readable : (decls : List Decl) → AreSpoken decls → (h : HeadOf Ty) → IsSpokenHead 0 h → is_any_head h ≡ false
+    → ((a : Ty) → Contains (parts_of h) a → is_any_head (head decls a) ≡ false) → IsReadable (head_shape decls h) (head_names decls h)
+head_readable decls spoken (heads.Variable x) is other parts = tt
+head_readable decls spoken (heads.Predeclared base ts) is other parts = predeclared_readable decls base ts other parts
+head_readable decls spoken (heads.Datatype name ts) is other parts = datatype_readable decls (declaration_of decls name) ts (λ d e. declaration_spoken decls spoken name d e)
+head_readable decls spoken (heads.Tuple ts) is other parts = (tt, λ none. let two = is.0 in omega arith)
+head_readable decls spoken (heads.Variants tags) is other parts = tags_readable tags is
+head_readable decls spoken heads.Absent is other parts = tt

@@ -26,7 +26,8 @@ use Rattle.om_types.specs.Declarations.{predeclared, declaration_of, instance_of
 use Rattle.om_types.specs.Head.{has_tag, with_tags, tags_in, bare_tag, carrying_tag, head_meant, with_part, plain_head, head_by, head_within, enough, head}
 use Rattle.om_types.specs.Names.{names_of}
 use Rattle.om_types.specs.Shape.{is_flat, is_float_head, array_of, predeclared_shape, record_shape, types_of_fields, block_of, blocks_in, body_shape, datatype_shape, tag_shape, head_shape, shape}
-use Rattle.om_types.specs.Reached.{listed_if, named_in, parts_of, reached_from, IsReached}
+use Rattle.om_types.specs.Reached.{listed_if, named_in, parts_of, is_any_head, NoneIsHidden, reached_from, IsReached}
+use Rattle.om_equal.proofs.ReachedLemmas.{parts_listed}
 use Rattle.om_literal_texts.specs.Readable.{IsReadable, AreReadable}
 use Rattle.om_rebuild.specs.Spoken.{IsSpoken, IsSpokenField, AreSpokenArguments, IsSpokenConstructor, IsSpokenBody, AreSpoken}
 use Rattle.om_rebuild.proofs.SpokenLemmas.{IsSpokenTag, IsSpokenHead, head_readable, declaration_spoken}
@@ -143,17 +144,21 @@ module _ (decls : List Decl) (spoken : AreSpoken decls) where
   unfolding head
   head_spoken t is = within_spoken (enough decls t) t is
 
-  pub type_readable : (t : Ty) → IsSpoken 0 t → IsReadable (shape decls t) (names_of decls t)
-  type_readable t is = head_readable decls spoken (head decls t) (head_spoken t is)
+  pub type_readable : (t : Ty) → IsSpoken 0 t → is_any_head (head decls t) ≡ false
+      → ((a : Ty) → Contains (parts_of (head decls t)) a → is_any_head (head decls a) ≡ false)
+      → IsReadable (shape decls t) (names_of decls t)
+  type_readable t is other parts = head_readable decls spoken (head decls t) (head_spoken t is) other parts
 
   -- ---- what is reached
 
   array_reached : (h : HeadOf Ty) (t : Ty) → IsSpoken 0 t → AllSpoken (named_in (array_of h t))
   array_reached (heads.Variable x) t is = tt
-  array_reached h t is = by (is_float_head h) where
-    by : (float : Bool) → AllSpoken (named_in (cond float shapes.FloatArray (shapes.ArrayOf t)))
-    by true = tt
-    by false = (is, tt)
+  array_reached (heads.Predeclared b ts) t is = by_base b where
+    by_base : (base : Predeclared) → AllSpoken (named_in (array_of (heads.Predeclared base ts) t))
+    by_base bases.Float = tt
+    by_base bases.Any = (is, tt)
+    by_base base = (is, tt)
+  array_reached h t is = (is, tt)
 
   predeclared_reached : (base : Predeclared) (ts : List Ty) → AllSpoken ts → AllSpoken (named_in (predeclared_shape decls base ts))
   predeclared_reached bases.List (t ∷ []) all = (all.0, ((tt, all.0), tt))
@@ -232,5 +237,8 @@ module _ (decls : List Decl) (spoken : AreSpoken decls) where
         let from = reached.from_earlier (suc k) u (omega arith) at in
         reached_spoken from.1 u (spoken_below n from.0 from.1 (omega (arith, below, from.2)) from.3) from.4
 
-    pub reached_readable : AreReadable decls types
-    reached_readable u among = let found = Contains-place types u among in type_readable u (spoken_below (suc found.0) found.0 u (omega arith) found.1)
+    pub reached_readable : NoneIsHidden decls types → AreReadable decls types
+    reached_readable none u among =
+        let found = Contains-place types u among in
+        type_readable u (spoken_below (suc found.0) found.0 u (omega arith) found.1) (none u among)
+        (λ a part. none a (parts_listed decls t types reached u a among part))

@@ -4,26 +4,26 @@ use Rattle.om_types.specs.declared.decl.Decl.{Decl}
 use Rattle.om_types.specs.Accepted.{AreWellFormed, IsSoundType}
 use Rattle.om_types.specs.Equal.{declared_shapes}
 use Rattle.om_types.specs.Names.{names_of}
-use Rattle.om_types.specs.Reached.{IsReached}
+use Rattle.om_types.specs.Reached.{IsReached, NoneIsHidden}
 use Rattle.om_types.specs.Shape.{shape}
 use Rattle.om_types.specs.Ty.{Ty}
 use Rattle.om_types.specs.Typing.{HasType}
 use Rattle.om_format.specs.Tree.{Tree, IsTree, ReferBack, root, made, objects_of}
 use Rattle.om_show.specs.Shown.{shown_text}
 use Rattle.om_type_table.specs.declared.table.TypeTable.{TypeTable}
-use Rattle.om_type_table.specs.Made.{IsTypeTable}
+use Rattle.om_type_table.specs.Made.{types_of, IsTypeTable}
 use Rattle.om_decl.specs.Read.{IsDeclared, IsTypeOf}
 use Rattle.om_literal_texts.specs.Readable.{AreReadable}
 use Rattle.om_readback.specs.ReadBack.{IsReadBack}
 use Rattle.om_text.specs.Laws.{ReadsAgain}
 
 -- The names are read back of each type that is reached from one that stands in a text, over
--- declarations that stand in one.
+-- declarations that stand in one, where no type that is reached is `_`.
 abbrev pub NamesAreReadBack : Type 0
 NamesAreReadBack =
     (file_text type_text : List ℕ) (decls : List Decl) (t : Ty) (types : List Ty)
     → IsDeclared file_text decls → IsTypeOf decls type_text t → IsReached decls t types
-    → AreReadable decls types
+    → NoneIsHidden decls types → AreReadable decls types
 
 -- So what is read from the text of a value of such a type is the value.
 abbrev pub DeclaredTextsAreReadBack : Type 0
@@ -31,6 +31,7 @@ DeclaredTextsAreReadBack =
     (file_text type_text : List ℕ) (decls : List Decl) (t : Ty) (types : List Ty)
     → IsDeclared file_text decls → IsTypeOf decls type_text t
     → AreWellFormed decls → IsSoundType decls t → IsReached decls t types
+    → NoneIsHidden decls types
     → (tree : Tree) → IsTree tree → ReferBack tree 0 → made tree < 2 ^ 63
     → HasType (declared_shapes decls) (objects_of tree 0) (root tree 0) t
     → IsReadBack (shape decls) (names_of decls) tree t
@@ -42,6 +43,7 @@ LiteralsAreReadBack =
     (file_text type_text : List ℕ) (decls : List Decl) (t : Ty) (table : TypeTable)
     → IsDeclared file_text decls → IsTypeOf decls type_text t
     → AreWellFormed decls → IsSoundType decls t → IsTypeTable decls t table
+    → NoneIsHidden decls (types_of table)
     → (tree : Tree) → IsTree tree → ReferBack tree 0 → made tree < 2 ^ 63
     → HasType (declared_shapes decls) (objects_of tree 0) (root tree 0) t
     → ReadsAgain table tree

@@ -8,12 +8,13 @@ use Rattle.om_types.specs.declared.decl.Decl.{Decl}
 use Rattle.om_types.specs.Accepted.{AreWellFormed, IsSoundType}
 use Rattle.om_types.specs.Equal.{declared_shapes}
 use Rattle.om_types.specs.Names.{names_of}
+use Rattle.om_types.specs.Reached.{NoneIsHidden}
 use Rattle.om_types.specs.Shape.{shape}
 use Rattle.om_types.specs.Ty.{Ty}
 use Rattle.om_types.specs.Typing.{HasType}
 use Rattle.om_show.specs.Shown.{shown_text}
 use Rattle.om_type_table.specs.declared.table.TypeTable.{TypeTable}
-use Rattle.om_type_table.specs.Made.{IsTypeTable}
+use Rattle.om_type_table.specs.Made.{types_of, IsTypeTable}
 use Rattle.om_decl.specs.Read.{IsDeclared, IsTypeOf}
 use Rattle.om_text.specs.Laws.{ReadsAgain}
 
@@ -29,11 +30,13 @@ pub record IsRebuilt (decls : List Decl) (t : Ty) (table : TypeTable) (g : List 
       ≡ shown_text (shape decls) (names_of decls) g v t
   pub bytes : IsTreeOf (objects_of tree 0) (root tree 0) tree
 
--- each value of a type that stands in a text, over declarations that stand in one
+-- each value of a type that stands in a text, over declarations that stand in one, where no type
+-- that is reached is `_`
 abbrev pub ValuesAreRebuilt : Type 0
 ValuesAreRebuilt =
     (file_text type_text : List ℕ) (decls : List Decl) (t : Ty) (table : TypeTable)
     → IsDeclared file_text decls → IsTypeOf decls type_text t
     → AreWellFormed decls → IsSoundType decls t → IsTypeTable decls t table
+    → NoneIsHidden decls (types_of table)
     → (g : List Obj) (v : Val) (tree : Tree) → IsTreeOf g v tree → made tree < 2 ^ 63
     → HasType (declared_shapes decls) g v t → IsRebuilt decls t table g v tree

@@ -84,11 +84,13 @@ number_of bases.List = 11
 number_of bases.Option = 12
 number_of bases.Array = 13
 number_of bases.Ref = 14
+number_of bases.Any = 15
 
 abbrev in_order : List Predeclared
 in_order =
     bases.Int ∷ bases.Char ∷ bases.Bool ∷ bases.Unit ∷ bases.String ∷ bases.Bytes ∷ bases.Float ∷ bases.Int32
-    ∷ bases.Int64 ∷ bases.Nativeint ∷ bases.Floatarray ∷ bases.List ∷ bases.Option ∷ bases.Array ∷ bases.Ref ∷ []
+    ∷ bases.Int64 ∷ bases.Nativeint ∷ bases.Floatarray ∷ bases.List ∷ bases.Option ∷ bases.Array ∷ bases.Ref
+    ∷ bases.Any ∷ []
 
 at_number : (b : Predeclared) → slice_get in_order (number_of b) ≡ Some b
 at_number bases.Int = refl
@@ -106,6 +108,7 @@ at_number bases.List = refl
 at_number bases.Option = refl
 at_number bases.Array = refl
 at_number bases.Ref = refl
+at_number bases.Any = refl
 
 bases_or_not : (b c : Predeclared) → OrNot (b ≡ c)
 bases_or_not b c = if_or_not (number_of b ≡ number_of c) (b ≡ c)

@@ -74,6 +74,8 @@ module _ {T U V : Type 0} (f : U → V) (g : T → U) (h : T → V) where
   parts_twice shapes.FloatArray come = refl
   parts_twice shapes.Variable come = refl
   parts_twice shapes.ArrayOfVariable come = refl
+  parts_twice shapes.Anything come = refl
+  parts_twice (shapes.ArrayOfAnything t) come = ap (λ v. shapes.ArrayOfAnything v) (come t (Contains-first t []))
 
 -- ---- the first place of something
 

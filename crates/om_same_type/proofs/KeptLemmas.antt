@@ -16,7 +16,7 @@ use Rattle.om_types.specs.declared.shape.PolyTag.{PolyTag}
 use Rattle.om_types.specs.declared.shape.ShapeOf.{ShapeOf}
 use Rattle.om_types.specs.declared.shape.ShapeOf.TheVariants as shapes
 use Rattle.om_types.specs.Shapes.{Shapes}
-use Rattle.om_types.specs.Fitting.{tag_of_block, tag_fields, block_fields, constr_fields, fields_if, object_fields, fields_of, is_mutable, or_none, shaped}
+use Rattle.om_types.specs.Fitting.{tag_of_block, tag_fields, block_fields, constr_fields, fields_if, object_fields, fields_of, is_mutable, or_none, asked_of, shaped}
 use Rattle.om_types.specs.declared.fault.Fault.{Fault}
 use Rattle.om_types.specs.declared.fault.Fault.TheVariants.{Misfit, Clash}
 use Rattle.om_types.specs.LeastFault.{IsLeastFault}
@@ -81,6 +81,8 @@ module _ {T : Type 0} (pairs : List (ℕ × ℕ)) where
   alike_block_fields (shapes.Product mutable ts) tag values others all =
       ap (λ n. fields_if ((tag == 0) && (length ts == n)) ts) (AllZip-length (AreAlike pairs) values others all)
   alike_block_fields (shapes.ArrayOf t) tag values others all =
+      ap (λ n. fields_if (tag == 0) (replicate n t)) (AllZip-length (AreAlike pairs) values others all)
+  alike_block_fields (shapes.ArrayOfAnything t) tag values others all =
       ap (λ n. fields_if (tag == 0) (replicate n t)) (AllZip-length (AreAlike pairs) values others all)
   alike_block_fields (shapes.Poly tags) tag values others all =
       ap (λ fields. if tag == 0 then fields else None) (alike_tag_fields tags values others all)
@@ -204,7 +206,7 @@ module _ {T : Type 0} (shape : T → ShapeOf T) (Equal : T → T → Type 0) (g 
       held = λ l t i u among need.
           let s = has_carried pairs entries l t among in
           let before : Contains ((shaped shape Equal).needs g (vals.Ref s.object) t) (i, u) =
-          subst (λ fields. Contains (or_none fields) (i, u)) (sym (alike_fields (vals.Ref s.object) (vals.Ref l) (shape t) s.paired)) need in
+          subst (λ fields. Contains (asked_of shape (or_none fields)) (i, u)) (sym (alike_fields (vals.Ref s.object) (vals.Ref l) (shape t) s.paired)) need in
           field_kept s.object l i u s.paired (typing.held s.object t i u s.entered before);
       one_type = λ l t u first second mutable.
           let a = has_carried pairs entries l t first in
@@ -246,7 +248,7 @@ pub record OtherPlace {T : Type 0} (shapes : Shapes T) (h : List Obj) (pairs : L
 module _ {T : Type 0} (shape : T → ShapeOf T) (Equal : T → T → Type 0) (g h : List Obj) (pairs : List (ℕ × ℕ))
     (pairing : IsPairing g h pairs) where
   same_needs : (v w : Val) (t : T) → AreAlike pairs v w → (shaped shape Equal).needs g v t ≡ (shaped shape Equal).needs h w t
-  same_needs v w t alike = ap or_none (alike_fields shape Equal g h pairs pairing v w (shape t) alike)
+  same_needs v w t alike = ap (λ fields. asked_of shape (or_none fields)) (alike_fields shape Equal g h pairs pairing v w (shape t) alike)
 
   field_of_other : (k l i : ℕ) (v : Val) → Contains pairs (k, l) → field_at g k i ≡ Some v → (w : Val) × (field_at h l i ≡ Some w) × AreAlike pairs v w
   field_of_other k l i v paired is =

@@ -1,6 +1,6 @@
 -- What is the same up to the numbers of objects has one text.
 use Rattle.std.proofs.Common.{ℕ, zero, suc, ◌+◌, ◌≡◌, ◌∙◌, Bool, true, false, cond, eqb, List, [], ◌∷◌, ◌++◌, length, Some, refl, sym, ap, subst, arith}
-use Rattle.std.specs.Prelude.{slice_get, Contains, option_and_then, ◌||◌, ◌↔◌, unwrap_or, filter, codes, decimal}
+use Rattle.std.specs.Prelude.{if◌then◌else◌, slice_get, Contains, option_and_then, ◌||◌, ◌↔◌, unwrap_or, filter, codes, decimal}
 use Rattle.std.specs.List.{AllZip, flat_map}
 use Rattle.std.proofs.lemmas.Bool.{eqb-true, eqb-false, ne_eqb, eq-eqb}
 use Rattle.om_model.specs.declared.value.Val.{Val}
@@ -12,12 +12,12 @@ use Rattle.om_canonical.proofs.IsoLemmas.{objects_of_pair}
 use Rattle.om_types.specs.declared.names.Names.{Names}
 use Rattle.om_types.specs.declared.shape.ShapeOf.{ShapeOf}
 use Rattle.om_types.specs.declared.shape.ShapeOf.TheVariants as shapes
-use Rattle.om_types.specs.Fitting.{object_fields, fields_of, or_none}
+use Rattle.om_types.specs.Fitting.{object_fields, fields_of, or_none, is_asked}
 use Rattle.om_types.specs.Fault.{field_of}
 use Rattle.om_types.specs.Typing.{values_of}
-use Rattle.om_leaves.specs.Frames.{Frame, frame_of, tag_of_values, tag_text, listed, int_text, object_text}
+use Rattle.om_leaves.specs.Frames.{Frame, frame_of, tag_of_values, tag_text, listed, int_text, object_text, hidden_text}
 use Rattle.om_show.specs.Pieces.{Piece, Text, First, Again, has, firsts, agains, labelled, number_in, label_text, piece_text, text_of}
-use Rattle.om_show.specs.Shown.{Met, met, met_within, object_met, parts_from, shown_text}
+use Rattle.om_show.specs.Shown.{Met, met, met_within, object_met, parts_from, shown_text, asked_met}
 use Rattle.om_show.proofs.FuelLemmas.{more_same}
 use Rattle.om_same_type.proofs.KeptLemmas.{alike_object_fields}
 
@@ -183,10 +183,16 @@ module _ (pairs : List (ℕ × ℕ)) (one_to_one : (k l m n : ℕ) → Contains 
 
     -- ---- by fuel
 
-    ref_alike : (n : ℕ) → MeetAlike n → (seen seen' : List ℕ) (k l : ℕ) (t : T) → AllZip Paired seen seen' → Paired k l → AreMetAlike (met_within shape names g (suc n) seen (vals.Ref k) t) (met_within shape names h (suc n) seen' (vals.Ref l) t)
+    abbrev asked_left : ℕ → List ℕ → Val → T → Met
+    asked_left n = asked_met shape names g (met_within shape names g n)
+
+    abbrev asked_right : ℕ → List ℕ → Val → T → Met
+    asked_right n = asked_met shape names h (met_within shape names h n)
+
+    ref_alike : (n : ℕ) → MeetAlike n → (seen seen' : List ℕ) (k l : ℕ) (t : T) → AllZip Paired seen seen' → Paired k l → AreMetAlike (asked_left n seen (vals.Ref k) t) (asked_right n seen' (vals.Ref l) t)
     ref_alike n meet seen seen' k l t both kl = by_test (has seen k) refl
       where
-        by_test : (b : Bool) → has seen k ≡ b → AreMetAlike (met_within shape names g (suc n) seen (vals.Ref k) t) (met_within shape names h (suc n) seen' (vals.Ref l) t)
+        by_test : (b : Bool) → has seen k ≡ b → AreMetAlike (asked_left n seen (vals.Ref k) t) (asked_right n seen' (vals.Ref l) t)
         by_test true e = let f : has seen' l ≡ true = sym (has_alike seen seen' k l both kl) ∙ e in rw (e, f) (record { pieces = (kl, tt); seen = both })
         by_test false e =
             let f : has seen' l ≡ false = sym (has_alike seen seen' k l both kl) ∙ e in
@@ -194,17 +200,25 @@ module _ (pairs : List (ℕ × ℕ)) (one_to_one : (k l m n : ℕ) → Contains 
             let m = object_alike n meet (k ∷ seen) (l ∷ seen') k l t (kl, both) kl o.left o.right o.left_is o.right_is o.alike in
             rw (e, f, o.left_is, o.right_is) m
 
+    asked_alike : (n : ℕ) → MeetAlike n → (seen seen' : List ℕ) (v w : Val) (t : T) → AllZip Paired seen seen' → AreAlike pairs v w → AreMetAlike (asked_left n seen v t) (asked_right n seen' w t)
+    asked_alike n meet seen seen' (vals.Int x) (vals.Int y) t both alike = record { pieces = (ap (int_text (shape t) (names t)) alike, tt); seen = both }
+    asked_alike n meet seen seen' (vals.Int x) (vals.Atom y) t both alike = absurd alike
+    asked_alike n meet seen seen' (vals.Int x) (vals.Ref y) t both alike = absurd alike
+    asked_alike n meet seen seen' (vals.Atom x) (vals.Int y) t both alike = absurd alike
+    asked_alike n meet seen seen' (vals.Atom x) (vals.Atom y) t both alike = record { pieces = (refl, tt); seen = both }
+    asked_alike n meet seen seen' (vals.Atom x) (vals.Ref y) t both alike = absurd alike
+    asked_alike n meet seen seen' (vals.Ref x) (vals.Int y) t both alike = absurd alike
+    asked_alike n meet seen seen' (vals.Ref x) (vals.Atom y) t both alike = absurd alike
+    asked_alike n meet seen seen' (vals.Ref x) (vals.Ref y) t both alike = ref_alike n meet seen seen' x y t both alike
+
     meet_alike : (n : ℕ) → MeetAlike n
     meet_alike zero seen seen' v w t both alike = record { pieces = tt; seen = both }
-    meet_alike (suc n) seen seen' (vals.Int x) (vals.Int y) t both alike = record { pieces = (ap (int_text (shape t) (names t)) alike, tt); seen = both }
-    meet_alike (suc n) seen seen' (vals.Int x) (vals.Atom y) t both alike = absurd alike
-    meet_alike (suc n) seen seen' (vals.Int x) (vals.Ref y) t both alike = absurd alike
-    meet_alike (suc n) seen seen' (vals.Atom x) (vals.Int y) t both alike = absurd alike
-    meet_alike (suc n) seen seen' (vals.Atom x) (vals.Atom y) t both alike = record { pieces = (refl, tt); seen = both }
-    meet_alike (suc n) seen seen' (vals.Atom x) (vals.Ref y) t both alike = absurd alike
-    meet_alike (suc n) seen seen' (vals.Ref x) (vals.Int y) t both alike = absurd alike
-    meet_alike (suc n) seen seen' (vals.Ref x) (vals.Atom y) t both alike = absurd alike
-    meet_alike (suc n) seen seen' (vals.Ref x) (vals.Ref y) t both alike = ref_alike n (meet_alike n) seen seen' x y t both alike
+    meet_alike (suc n) seen seen' v w t both alike = by_test (is_asked (shape t)) (asked_alike n (meet_alike n) seen seen' v w t both alike)
+      where
+        by_test : (b : Bool) → AreMetAlike (asked_left n seen v t) (asked_right n seen' w t)
+            → AreMetAlike (if b then asked_left n seen v t else met (Text hidden_text ∷ []) seen) (if b then asked_right n seen' w t else met (Text hidden_text ∷ []) seen')
+        by_test true own = own
+        by_test false own = record { pieces = (refl, tt); seen = both }
 
     -- the texts of two values that are the same are one text
     shown_alike : (v w : Val) (t : T) → AreAlike pairs v w → shown_text shape names g v t ≡ shown_text shape names h w t

@@ -68,6 +68,7 @@ module _ {T : Type 0} where
   increase_block (shapes.Sum k blocks) tag values = increase_constr (length values) (slice_get blocks tag)
   increase_block (shapes.Product mutable ts) tag values = increase_if ((tag == 0) && (length ts == length values)) ts
   increase_block (shapes.ArrayOf t) tag values = increase_if (tag == 0) (replicate (length values) t)
+  increase_block (shapes.ArrayOfAnything t) tag values = increase_if (tag == 0) (replicate (length values) t)
   increase_block (shapes.Poly tags) tag values = increase_when (tag == 0) (tag_fields tags values) (increase_tags tags values)
   increase_block s tag values = increase_none
 

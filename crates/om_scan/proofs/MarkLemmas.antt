@@ -1,13 +1,16 @@
 -- Marks that grow, and what they tell.
 use Rattle.std.proofs.Common.{ℕ, zero, suc, ◌+◌, ◌^◌, ◌%◌, ◌<◌, ◌≡◌, ◌≢◌, ◌∙◌, ◌⊎◌, inl, inr, ⊎_elim, Bool, true, false, List, [], ◌∷◌, length, Option, Some, None, refl, sym, ap, subst, arith}
 use Rattle.std.specs.Bool.{OnTrue}
-use Rattle.std.specs.Prelude.{slice_get, slice_index, slice_set, replicate, Contains, IsTrue, MatchOption}
+use Rattle.std.specs.Prelude.{slice_get, slice_index, slice_set, replicate, Contains, IsTrue, IsSome, ℤ, MatchOption}
 use Rattle.std.proofs.lemmas.List.{get_or-set_same, get_or-set_other, length-set, length-replicate}
 use Rattle.std.proofs.lemmas.Option.{same_Some}
 use Rattle.om_model.specs.declared.value.Val.{Val}
 use Rattle.om_model.specs.declared.value.Val.TheVariants as vals
 use Rattle.om_model.specs.declared.value.Obj.{Obj}
-use Rattle.om_types.specs.Table.{Table, table_shapes}
+use Rattle.om_types.specs.declared.shape.ShapeOf.{ShapeOf}
+use Rattle.om_types.specs.declared.shape.ShapeOf.TheVariants as shapes
+use Rattle.om_types.specs.Fitting.{none_if, fits_int, fits_atom, is_asked}
+use Rattle.om_types.specs.Table.{Table, table_shapes, node_or_none, is_asked_in}
 use Rattle.om_model.specs.Graph.{IsValue, IsGraph}
 use Rattle.om_heap.specs.Heap.{key_of, field_at, word_of, IsFieldWord}
 use Rattle.om_heap.proofs.ReadLemmas.{word_of-inj}
@@ -20,7 +23,7 @@ use Rattle.om_scan.specs.declared.notes.Unmet.{Unmet}
 use Rattle.om_scan.specs.declared.seconds.Seconds.{Seconds}
 use Rattle.om_scan.specs.Paths.{HasPath}
 use Rattle.om_scan.specs.Seconds.{noted_in, AreSeconds, IsNoting}
-use Rattle.om_scan.specs.Scanned.{object_needs}
+use Rattle.om_scan.specs.Scanned.{object_typed}
 use Rattle.om_scan.specs.Scan.{first_or, AreMarks, AreKept, IsSecond, AreNoted, AreStillNoted, IsMet, IsOther, IsNoted, IsUnfit, AreMet, IsUnmet, IsFirstOf, IsToldIn, IsWhole, IsMeeting, IsTaken}
 use Rattle.om_scan.proofs.PlaceLemmas.{contains_push, contains_left, contains_last}
 
@@ -36,6 +39,14 @@ zeros_zero : (n key : ℕ) → slice_index (replicate n 0) key ≡ 0
 zeros_zero zero key = refl
 zeros_zero (suc n) zero = refl
 zeros_zero (suc n) (suc key) = zeros_zero n key
+
+int_asked : (s : ShapeOf ℕ) (z : ℤ) → (IsSome (none_if {T = ℕ} (fits_int s z)) → ⊥) → IsTrue (is_asked s)
+int_asked shapes.Anything z unfit = absurd (unfit refl)
+int_asked s z unfit = refl
+
+atom_asked : (s : ShapeOf ℕ) (tag : ℕ) → (IsSome (none_if {T = ℕ} (fits_atom s tag)) → ⊥) → IsTrue (is_asked s)
+atom_asked shapes.Anything tag unfit = absurd (unfit refl)
+atom_asked s tag unfit = refl
 
 module _ (table : Table) (graph : List Obj) where
   -- ---- a mark more
@@ -99,16 +110,17 @@ module _ (table : Table) (graph : List Obj) where
   pub all_kept :
       (old new : List ℕ) (before noted : List (ℕ × ℕ)) (o t r : ℕ) → AreKept old new → AreStillNoted before noted
       → AreMet table graph old before o t r → AreMet table graph new noted o t r
-  all_kept old new before noted o t r kept still met j i a less at_j = ⊎_elim
+  all_kept old new before noted o t r kept still met j i a less at_j asked = ⊎_elim
       (λ own. inl (met_kept old new (field_at graph o i) a kept own))
       (λ other. inr (noted_still before noted (field_at graph o i) a still other))
-      (met j i a less at_j)
+      (met j i a less at_j asked)
 
   pub unmet_kept :
       (old new : List ℕ) (o t : ℕ) (unmet : Unmet) → AreKept old new → IsUnmet table graph old [] o t unmet → IsUnmet table graph new [] o t unmet
   unmet_kept old new o t unmet kept is = record {
     type = is.type;
     at = is.at;
+    asked = is.asked;
     met = all_kept old new [] [] o t unmet.place kept (λ p among. among) is.met;
     unfit = is.unfit;
     small = is.small;
@@ -120,7 +132,7 @@ module _ (table : Table) (graph : List Obj) where
   taken_kept old new before noted o t kept still taken = record {
     marked = kept (key_of graph o) (let is = taken.marked in omega (arith, is)) ∙ taken.marked;
     fits = taken.fits;
-    met = all_kept old new before noted o t (length (object_needs table graph o t)) kept still taken.met;
+    met = all_kept old new before noted o t (length (object_typed table graph o t)) kept still taken.met;
   }
 
   -- ---- what is noted
@@ -230,6 +242,12 @@ module _ (table : Table) (graph : List Obj) where
 
   -- ---- needs
 
+  -- something is asked of what does not fit
+  pub unfit_is_asked : (v : Val) (a : ℕ) → IsUnfit table graph v a → IsTrue (is_asked_in table a)
+  unfit_is_asked (vals.Int z) a unfit = int_asked (node_or_none (slice_get table.nodes a)) z unfit
+  unfit_is_asked (vals.Atom tag) a unfit = atom_asked (node_or_none (slice_get table.nodes a)) tag unfit
+  unfit_is_asked (vals.Ref o) a unfit = absurd unfit
+
   pub meeting_first :
       (marks : List ℕ) (notes : Notes) (o t steps : ℕ) → AreMarks table graph marks → AreNoted table graph marks notes.seconds → IsWhole notes
       → IsMeeting table graph marks marks notes notes o t 0 steps
@@ -239,25 +257,26 @@ module _ (table : Table) (graph : List Obj) where
     noted = noted;
     still = λ p among. among;
     told = told_first marks o t steps notes whole;
-    met = λ j i a less at_j. absurd (omega (arith, less));
+    met = λ j i a less at_j asked. absurd (omega (arith, less));
   }
 
   one_more :
       (now new : List ℕ) (before noted : List (ℕ × ℕ)) (o t r i a : ℕ) → AreKept now new → AreStillNoted before noted → AreMet table graph now before o t r
-      → slice_get (object_needs table graph o t) r ≡ Some (i, a) → IsMet table graph new (field_at graph o i) a ⊎ IsNoted table noted (field_at graph o i) a
+      → slice_get (object_typed table graph o t) r ≡ Some (i, a)
+      → (IsTrue (is_asked_in table a) → IsMet table graph new (field_at graph o i) a ⊎ IsNoted table noted (field_at graph o i) a)
       → AreMet table graph new noted o t (r + 1)
-  one_more now new before noted o t r i a kept still all at_r own j x b less at_j = ⊎_elim
+  one_more now new before noted o t r i a kept still all at_r own j x b less at_j asked = ⊎_elim
       (λ same.
-      let pair = same_Some (i, a) (x, b) (sym at_r ∙ ap (slice_get (object_needs table graph o t)) (sym same) ∙ at_j) in
-      subst (λ (need : ℕ × ℕ). IsMet table graph new (field_at graph o need.0) need.1 ⊎ IsNoted table noted (field_at graph o need.0) need.1) pair own)
-      (λ apart. all_kept now new before noted o t r kept still all j x b (below apart less) at_j)
+      let pair = same_Some (i, a) (x, b) (sym at_r ∙ ap (slice_get (object_typed table graph o t)) (sym same) ∙ at_j) in
+      subst (λ (need : ℕ × ℕ). IsTrue (is_asked_in table need.1) → IsMet table graph new (field_at graph o need.0) need.1 ⊎ IsNoted table noted (field_at graph o need.0) need.1) pair own asked)
+      (λ apart. all_kept now new before noted o t r kept still all j x b (below apart less) at_j asked)
       (same_or_not j r) where
         below : {j : ℕ} → j ≢ r → j < r + 1 → j < r
         below {j} apart less = omega (arith, apart, less)
 
   pub meeting_more :
       (old now new : List ℕ) (before notes : Notes) (o t r i a steps : ℕ) → IsMeeting table graph old now before notes o t r steps → AreMarks table graph new → AreKept now new
-      → slice_get (object_needs table graph o t) r ≡ Some (i, a) → IsMet table graph new (field_at graph o i) a
+      → slice_get (object_typed table graph o t) r ≡ Some (i, a) → (IsTrue (is_asked_in table a) → IsMet table graph new (field_at graph o i) a)
       → IsMeeting table graph old new before notes o t (r + 1) steps
   meeting_more old now new before notes o t r i a steps meeting marks kept at_r met = record {
     marks = marks;
@@ -265,7 +284,7 @@ module _ (table : Table) (graph : List Obj) where
     noted = noted_kept now new notes.seconds kept meeting.noted;
     still = meeting.still;
     told = told_kept now new o t steps before notes kept meeting.told;
-    met = one_more now new (noted_in notes.seconds) (noted_in notes.seconds) o t r i a kept (λ p among. among) meeting.met at_r (inl met);
+    met = one_more now new (noted_in notes.seconds) (noted_in notes.seconds) o t r i a kept (λ p among. among) meeting.met at_r (λ asked. inl (met asked));
   }
 
   -- the same where the marks alone changed
@@ -284,13 +303,14 @@ module _ (table : Table) (graph : List Obj) where
   -- the value of a need is an object that is marked with another type, and noted at the need's
   pub meeting_noted :
       (old now new : List ℕ) (before notes more : Notes) (o t r i a steps p : ℕ) (first : First) → IsMeeting table graph old now before notes o t r steps
-      → AreMarks table graph new → AreKept now new → slice_get (object_needs table graph o t) r ≡ Some (i, a) → field_at graph o i ≡ vals.Ref p → p < length graph
+      → AreMarks table graph new → AreKept now new → slice_get (object_typed table graph o t) r ≡ Some (i, a) → IsTrue (is_asked_in table a)
+      → field_at graph o i ≡ vals.Ref p → p < length graph
       → a < length table.nodes → HasPath table graph (vals.Ref 0) p a → IsOther table graph new (vals.Ref p) a
       → AreSeconds table more.seconds → IsNoting table (noted_in notes.seconds) (noted_in more.seconds) p a
       → more.first ≡ first_or notes.first first → first.object ≡ o → first.ty ≡ t → first.steps ≡ steps
       → first.unmet.place ≡ r → first.unmet.field ≡ i → (IsTrue first.unmet.unfit → ⊥) → i + 1 < 2 ^ 64
       → IsMeeting table graph old new before more o t (r + 1) steps
-  meeting_noted old now new before notes more o t r i a steps p first meeting marks kept at_r is inside within path other valid noting told object type taken place field never small =
+  meeting_noted old now new before notes more o t r i a steps p first meeting marks kept at_r asked is inside within path other valid noting told object type taken place field never small =
       let grown = meeting_kept old now new before notes o t r steps meeting marks kept in
       let second : IsSecond table graph new p a = record { inside = inside; within = within; path = path; first = other.0; marked = other.1; other = other.2 } in
       let still = noting_still (noted_in notes.seconds) (noted_in more.seconds) p a noting in
@@ -301,13 +321,14 @@ module _ (table : Table) (graph : List Obj) where
         still = λ q among. still q (grown.still q among);
         told = told_more new o t steps before notes more first grown.told told object type taken (λ none. record {
           type = a;
-          at = ap (slice_get (object_needs table graph o t)) place ∙ at_r ∙ ap (λ n. Some (n, a)) (sym field);
+          at = ap (slice_get (object_typed table graph o t)) place ∙ at_r ∙ ap (λ n. Some (n, a)) (sym field);
+          asked = asked;
           met = subst (λ n. AreMet table graph new [] o t n) (sym place) (subst (λ xs. AreMet table graph new xs o t r) none grown.met);
           unfit = λ unfit. absurd (never unfit);
           small = omega (arith, small, field);
         });
         met = one_more new new (noted_in notes.seconds) (noted_in more.seconds) o t r i a (λ key some. refl) still grown.met at_r
-            (inr (subst (λ v. IsNoted table (noted_in more.seconds) v a) (sym is) (noting_listed (noted_in notes.seconds) (noted_in more.seconds) p a noting)));
+            (λ also. inr (subst (λ v. IsNoted table (noted_in more.seconds) v a) (sym is) (noting_listed (noted_in notes.seconds) (noted_in more.seconds) p a noting)));
       }
 
 -- what is true holds also where it is asked for in one case

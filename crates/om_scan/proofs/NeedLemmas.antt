@@ -1,5 +1,5 @@
--- What is known of the needs of an object at a type.
-use Rattle.std.proofs.Common.{ℕ, zero, suc, ◌<◌, ◌≤◌, ◌≡◌, ◌∙◌, refl, List, length, Option, Some, None, sym, ap, subst, arith}
+-- What is known of the fields of an object that have types at a type.
+use Rattle.std.proofs.Common.{ℕ, zero, suc, ◌<◌, ◌≤◌, ◌≡◌, ◌∙◌, refl, List, length, Option, Some, None, true, false, sym, ap, subst, arith}
 use Rattle.std.specs.Prelude.{slice_get, option_map, IsSome, All, Contains, pos}
 use Rattle.std.proofs.lemmas.Bool.{false≢true}
 use Rattle.std.proofs.lemmas.List.Elements.{All-contains}
@@ -10,58 +10,58 @@ use Rattle.om_model.specs.declared.value.Obj.{Obj}
 use Rattle.om_model.specs.declared.value.Obj.TheVariants as objects
 use Rattle.om_types.specs.declared.shape.ShapeOf.{ShapeOf}
 use Rattle.om_types.specs.Fitting as fitting
-use Rattle.om_types.specs.Fitting.{or_none}
+use Rattle.om_types.specs.Fitting.{or_none, is_asked}
 use Rattle.om_types.specs.Reached.{named_in}
 use Rattle.om_types.specs.Table.{Table, table_shapes, node_or_none}
 use Rattle.om_types.specs.Typing.{values_of}
 use Rattle.om_heap.specs.Heap.{object_at, fields_of}
 use Rattle.om_type_table.specs.Made.{IsLawful}
 use Rattle.om_equal.proofs.ReachedLemmas.{needs_named}
-use Rattle.om_table.proofs.FieldLemmas.{needs_there}
+use Rattle.om_table.proofs.FieldLemmas.{fields_there}
 use Rattle.om_fits.specs.declared.needs.Needs.{Needs}
 use Rattle.om_fits.specs.Needs.{needs_in}
 use Rattle.om_scan.specs.Taken.{size_of}
-use Rattle.om_scan.specs.Scanned.{object_needs}
+use Rattle.om_scan.specs.Scanned.{object_typed}
 use Rattle.om_scan.proofs.IncreaseLemmas.{Increase, place_within, needs_increase}
 use Rattle.om_scan.proofs.FieldLemmas.{fields_are_values}
 
 module _ (table : Table) (graph : List Obj) where
   -- what is needed is a field
-  pub need_field : (o t k i a : ℕ) → o < length graph → slice_get (object_needs table graph o t) k ≡ Some (i, a) → i < length (fields_of (object_at graph o))
+  pub need_field : (o t k i a : ℕ) → o < length graph → slice_get (object_typed table graph o t) k ≡ Some (i, a) → i < length (fields_of (object_at graph o))
   need_field o t k i a inside at_k =
-      let needs = object_needs table graph o t in
-      let there = needs_there (node_or_none (slice_get table.nodes t)) graph (vals.Ref o) i a (slice_get-Contains needs k (i, a) at_k) in
+      let needs = object_typed table graph o t in
+      let there = fields_there (node_or_none (slice_get table.nodes t)) graph (vals.Ref o) i a (slice_get-Contains needs k (i, a) at_k) in
       option_and_then_some (λ object. slice_get (values_of object) i) (slice_get graph o) there.0 there.1 (λ object at_o at_i.
       let is : object_at graph o ≡ object = get_or_from_slice_get graph o object (objects.I32 (pos 0)) at_o in
       let short = slice_get_within (values_of object) i there.0 at_i in
       subst (λ x. i < length (fields_of x)) (sym is) (subst (λ vs. i < length vs) (fields_are_values object) short))
 
   -- what needs something has fields
-  pub some_fields : (o t : ℕ) → o < length graph → 0 < length (object_needs table graph o t) → 0 < length (fields_of (object_at graph o))
+  pub some_fields : (o t : ℕ) → o < length graph → 0 < length (object_typed table graph o t) → 0 < length (fields_of (object_at graph o))
   some_fields o t inside some =
-      let first = slice_get_there (object_needs table graph o t) 0 some in
+      let first = slice_get_there (object_typed table graph o t) 0 some in
       let field = need_field o t 0 first.0.0 first.0.1 inside first.1 in omega (arith, field)
 
   -- the numbers of what is needed increase
-  pub increase : (o t : ℕ) → Increase (object_needs table graph o t)
+  pub increase : (o t : ℕ) → Increase (object_typed table graph o t)
   increase o t = needs_increase (node_or_none (slice_get table.nodes t)) graph (vals.Ref o)
 
   -- no more is needed than there are fields
-  pub needs_few : (o t : ℕ) → o < length graph → length (object_needs table graph o t) ≤ size_of graph o
-  needs_few o t inside = by_length (length (object_needs table graph o t)) refl where
-    by_length : (n : ℕ) → length (object_needs table graph o t) ≡ n → n ≤ size_of graph o
+  pub needs_few : (o t : ℕ) → o < length graph → length (object_typed table graph o t) ≤ size_of graph o
+  needs_few o t inside = by_length (length (object_typed table graph o t)) refl where
+    by_length : (n : ℕ) → length (object_typed table graph o t) ≡ n → n ≤ size_of graph o
     by_length zero is = omega arith
     by_length (suc n) is =
-        let last = slice_get_there (object_needs table graph o t) n (omega (arith, is)) in
-        let place = place_within (object_needs table graph o t) (increase o t) n last.0.0 last.0.1 last.1 in
+        let last = slice_get_there (object_typed table graph o t) n (omega (arith, is)) in
+        let place = place_within (object_typed table graph o t) (increase o t) n last.0.0 last.0.1 last.1 in
         let field = need_field o t n last.0.0 last.0.1 inside last.1 in
         omega (arith, place, field)
 
   -- what is needed is a type of the table
-  pub need_node : IsLawful table → (o t k i a : ℕ) → t < length table.nodes → slice_get (object_needs table graph o t) k ≡ Some (i, a) → a < length table.nodes
+  pub need_node : IsLawful table → (o t k i a : ℕ) → t < length table.nodes → slice_get (object_typed table graph o t) k ≡ Some (i, a) → a < length table.nodes
   need_node lawful o t k i a inside at_k =
       let node = slice_get_there table.nodes t inside in
-      let needs = object_needs table graph o t in
+      let needs = object_typed table graph o t in
       let named = needs_named (node_or_none (slice_get table.nodes t)) graph (vals.Ref o) i a (slice_get-Contains needs k (i, a) at_k) in
       let named' = subst (λ n. Contains (named_in (node_or_none n)) a) node.1 named in
       All-contains (λ j. j < length table.nodes) (named_in node.0) a
@@ -78,7 +78,7 @@ module _ (table : Table) (graph : List Obj) where
   pub needs_are :
       (o t : ℕ) (shape : ShapeOf ℕ) (answer : Option Needs) (needs : Needs) → slice_get table.nodes t ≡ Some shape
       → option_map needs_in answer ≡ fitting.fields_of graph (vals.Ref o) shape → answer ≡ Some needs
-      → object_needs table graph o t ≡ needs_in needs
+      → object_typed table graph o t ≡ needs_in needs
   needs_are o t shape answer needs at_type is some =
       ap or_none (fields_are o t shape answer at_type is) ∙ ap (λ a. or_none (option_map needs_in a)) some
 
@@ -91,3 +91,15 @@ module _ (table : Table) (graph : List Obj) where
       (subst IsSome (fields_are o t shape answer at_type is ∙ ap (option_map needs_in) none) fit) where
         no_some : IsSome {T = List (ℕ × ℕ)} None → ⊥
         no_some some = false≢true some
+
+-- ---- by the shape of a type
+
+pub shape_asked :
+    (nodes : List (ShapeOf ℕ)) (t : ℕ) (shape : ShapeOf ℕ) → slice_get nodes t ≡ Some shape → is_asked shape ≡ true
+    → is_asked (node_or_none (slice_get nodes t)) ≡ true
+shape_asked nodes t shape at is = ap (λ n. is_asked (node_or_none n)) at ∙ is
+
+pub shape_hidden :
+    (nodes : List (ShapeOf ℕ)) (t : ℕ) (shape : ShapeOf ℕ) → slice_get nodes t ≡ Some shape → is_asked shape ≡ false
+    → is_asked (node_or_none (slice_get nodes t)) ≡ false
+shape_hidden nodes t shape at is = ap (λ n. is_asked (node_or_none n)) at ∙ is

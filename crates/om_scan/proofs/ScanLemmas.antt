@@ -23,7 +23,8 @@ use Rattle.om_scan.specs.Paths.{HasPath, HavePaths}
 use Rattle.om_scan.specs.Taken.{size_of}
 use Rattle.om_scan.specs.declared.seconds.Seconds.{Seconds}
 use Rattle.om_scan.specs.Seconds.{noted_in}
-use Rattle.om_scan.specs.Scanned.{object_needs, IsScanned, IsFoundIn, IsScannedBut, cost_of}
+use Rattle.om_types.proofs.AskedLemmas.{need_typed}
+use Rattle.om_scan.specs.Scanned.{object_typed, IsScanned, IsFoundIn, IsScannedBut, cost_of}
 use Rattle.om_scan.specs.Scan.{mark_of, AreMarks, AreKept, AreNoted, AreStillNoted, IsMet, IsNoted, AreMet, IsTaken, IsScanning}
 use Rattle.om_scan.proofs.PlaceLemmas.{slice_get-push_cases, contains_left, contains_right}
 use Rattle.om_scan.proofs.FieldLemmas.{field_there, field_valid}
@@ -100,8 +101,8 @@ module _ (table : Table) (graph : List Obj) where
       (old new : List ℕ) (before noted : List (ℕ × ℕ)) (types : List ℕ) (o t steps more : ℕ) → o < length graph → IsScanning table graph old before types o steps
       → AreMarks table graph new → AreKept old new → AreStillNoted before noted
       → mark_of graph old o ≡ suc t → (table_shapes table).fits graph (vals.Ref o) t
-      → AreMet table graph new noted o t (length (object_needs table graph o t))
-      → more ≤ steps + (1 + length (object_needs table graph o t)) → IsScanning table graph new noted (types ++ t ∷ []) (o + 1) more
+      → AreMet table graph new noted o t (length (object_typed table graph o t))
+      → more ≤ steps + (1 + length (object_typed table graph o t)) → IsScanning table graph new noted (types ++ t ∷ []) (o + 1) more
   scanning_more old new before noted types o t steps more inside scanning valid kept still marked fits met few =
       let own : IsTaken table graph new noted o t = record { marked = kept (heap.key_of graph o) (omega (arith, marked)) ∙ marked; fits = fits; met = met } in
       record {
@@ -208,12 +209,13 @@ module _ (table : Table) (graph : List Obj) where
       held = λ o t i u among needed.
           let at_o = pair_at types o t among in
           let inside = inside_of o t at_o in
-          let j = Contains-place (object_needs table graph o t) (i, u) needed in
+          let is = need_typed table graph (vals.Ref o) t i u needed in
+          let j = Contains-place (object_typed table graph o t) (i, u) is.0 in
           let short = need_field table graph o t j.0 i u inside j.1 in
-          let below = slice_get_within (object_needs table graph o t) j.0 (i, u) j.1 in
+          let below = slice_get_within (object_typed table graph o t) j.0 (i, u) j.1 in
           subst (λ value. IsSomeAnd value (λ v. IsHeld (table_shapes table) graph (numbered_from 0 types) v u)) (sym (field_there graph o i inside short))
           (held_of (field_at graph o i) u (field_valid graph o i inside short is_graph)
-          (only_met none (field_at graph o i) u ((scanning.taken o t at_o).met j.0 i u below j.1)));
+          (only_met none (field_at graph o i) u ((scanning.taken o t at_o).met j.0 i u below j.1 is.1)));
       one_type = λ o t u one other mutable.
           let same = same_Some t u (sym (pair_at types o t one) ∙ pair_at types o u other) in
           ap (slice_get table.classes) same;
@@ -241,11 +243,12 @@ module _ (table : Table) (graph : List Obj) where
       fits = λ o t at_o. (scanning.taken o t at_o).fits;
       found = λ o t i a at_o needed.
           let inside = inside_of o t at_o in
-          let j = Contains-place (object_needs table graph o t) (i, a) needed in
+          let need = need_typed table graph (vals.Ref o) t i a needed in
+          let j = Contains-place (object_typed table graph o t) (i, a) need.0 in
           let short = need_field table graph o t j.0 i a inside j.1 in
-          let below = slice_get_within (object_needs table graph o t) j.0 (i, a) j.1 in
+          let below = slice_get_within (object_typed table graph o t) j.0 (i, a) j.1 in
           subst (λ xs. IsFoundIn table graph (numbered_from 0 types ++ xs) (field_at graph o i) a) (sym is)
-          (found_of (field_at graph o i) a (field_valid graph o i inside short is_graph) ((scanning.taken o t at_o).met j.0 i a below j.1));
+          (found_of (field_at graph o i) a (field_valid graph o i inside short is_graph) ((scanning.taken o t at_o).met j.0 i a below j.1 need.1));
       valid = are.valid;
       noted = λ o t among.
           let second = are.all o t among in

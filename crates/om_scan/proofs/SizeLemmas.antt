@@ -1,5 +1,5 @@
 -- An object at each class once, with its fields, comes to few steps.
-use Rattle.std.proofs.Common.{ℕ, ◌+◌, ◌*◌, ◌<◌, ◌≤◌, ◌≡◌, ◌∙◌, List, [], ◌∷◌, length, Some, refl, sym, ap, subst, arith}
+use Rattle.std.proofs.Common.{ℕ, ◌+◌, ◌*◌, ◌<◌, ◌≤◌, ◌≡◌, ◌∙◌, List, [], ◌∷◌, length, Some, refl, sym, ap, subst, arith, zero, suc, true, cond}
 use Rattle.std.specs.Prelude.{slice_get, option_map, map, sum_by, Contains, replicate, pos}
 use Rattle.std.proofs.lemmas.List.{length-map, length-replicate}
 use Rattle.std.proofs.lemmas.List.Sums.{sum_by-cons}
@@ -9,8 +9,10 @@ use Rattle.om_model.specs.declared.value.Val.TheVariants as vals
 use Rattle.om_model.specs.declared.value.Obj.{Obj}
 use Rattle.om_model.specs.declared.value.Obj.TheVariants as objects
 use Rattle.om_types.specs.declared.shape.ShapeOf.TheVariants as shapes
+use Rattle.om_types.specs.declared.shape.ShapeOf.{ShapeOf}
+use Rattle.om_types.specs.Fitting.{numbered_from, is_asked, asked_of}
 use Rattle.om_types.specs.Steps.{class_count, field_count, most_steps}
-use Rattle.om_types.specs.Table.{Table, table_shapes}
+use Rattle.om_types.specs.Table.{Table, table_shapes, node_or_none}
 use Rattle.om_types.specs.Typing.{values_of}
 use Rattle.om_typing.specs.StepLaws.{AreEntries}
 use Rattle.om_typing.proofs.StepLemmas.{steps_are_few, length-numbered_from}
@@ -39,6 +41,21 @@ same_fields (object ∷ graph) =
     let rest = same_fields graph in
     omega (arith, rest, sum_by-cons (λ o. length (values_of o)) (plain object) (map plain graph), sum_by-cons (λ o. length (values_of o)) object graph)
 
+-- of each type of these something is asked
+plain_asked : (classes : List ℕ) → is_asked (node_or_none (slice_get (map (λ (class : ℕ). shapes.ArrayOf 0) classes) 0)) ≡ true
+plain_asked [] = refl
+plain_asked (class ∷ classes) = refl
+
+abbrev plain_node : Table → ℕ → ShapeOf ℕ
+plain_node table i = node_or_none (slice_get (plain_table table).nodes i)
+
+plain_kept : (table : Table) (i n : ℕ) → asked_of (plain_node table) (numbered_from i (replicate n 0)) ≡ numbered_from i (replicate n 0)
+plain_kept table i zero = refl
+plain_kept table i (suc n) =
+    let rest = asked_of (plain_node table) (numbered_from (suc i) (replicate n 0)) in
+    ap (λ b. cond b ((i, 0) ∷ rest) rest) (plain_asked table.classes)
+    ∙ ap (λ (fields : List (ℕ × ℕ)). (i, 0) ∷ fields) (plain_kept table (suc i) n)
+
 plain_needs :
     (table : Table) (graph : List Obj) (o t : ℕ) → o < length graph → t < length table.classes
     → length ((table_shapes (plain_table table)).needs (map plain graph) (vals.Ref o) t) ≡ size_of graph o
@@ -48,7 +65,7 @@ plain_needs table graph o t inside typed =
     let node : slice_get (plain_table table).nodes t ≡ Some (shapes.ArrayOf 0) = slice_get-map (λ (c : ℕ). shapes.ArrayOf 0) table.classes t ∙ ap (option_map (λ (c : ℕ). shapes.ArrayOf 0)) class.1 in
     let own : slice_get (map plain graph) o ≡ Some (plain object.0) = slice_get-map plain graph o ∙ ap (option_map plain) object.1 in
     let is : object_at graph o ≡ object.0 = get_or_from_slice_get graph o object.0 (objects.I32 (pos 0)) object.1 in
-    rw node (rw own (length-numbered_from 0 (replicate (length (values_of object.0)) 0) ∙ length-replicate (length (values_of object.0)) 0
+    rw node (rw own (ap length (plain_kept table 0 (length (values_of object.0))) ∙ length-numbered_from 0 (replicate (length (values_of object.0)) 0) ∙ length-replicate (length (values_of object.0)) 0
     ∙ ap length (fields_are_values object.0) ∙ ap (λ x. length (heap.fields_of x)) (sym is)))
 
 pub sizes_are_few :

@@ -16,7 +16,8 @@ use Rattle.om_scan.specs.declared.notes.Unmet.{Unmet}
 use Rattle.om_scan.specs.declared.taken.Taken.{Taken}
 use Rattle.om_scan.specs.declared.taken.Unfit.TheVariants as unfits
 use Rattle.om_scan.specs.Taken.{types_in, all_fields, seen_of, is_unfit_field, is_unfit_object, size_of, rest_of}
-use Rattle.om_scan.specs.Scanned.{object_needs, IsSeen, AreTaken, cost_of, left_of}
+use Rattle.om_types.proofs.AskedLemmas.{need_typed}
+use Rattle.om_scan.specs.Scanned.{object_needs, object_typed, IsSeen, AreTaken, cost_of, left_of}
 use Rattle.om_scan.specs.Scan.{mark_of, IsMet, IsNoted, IsUnfit, IsUnmet, IsScanning}
 use Rattle.om_scan.proofs.MarkLemmas.{never_noted}
 use Rattle.om_scan.proofs.IncreaseLemmas.{place_before, place_same}
@@ -143,9 +144,10 @@ module _ (table : Table) (graph : List Obj) (lawful : IsLawful table) (marks : L
       (types : List ℕ) (n steps o t i a : ℕ) → AreMarked → IsScanning table graph marks [] types n steps → slice_get types o ≡ Some t
       → is_unfit_field taken.unfit o i ≡ false → Contains (object_needs table graph o t) (i, a) → IsSeen table graph taken o i (field_at graph o i) a
   wholly_seen types n steps o t i a marked scanning at_o none needed =
-      let needs = object_needs table graph o t in
-      let j = Contains-place needs (i, a) needed in
-      need_seen o i (field_at graph o i) a marked none ((scanning.taken o t at_o).met j.0 i a (slice_get_within needs j.0 (i, a) j.1) j.1)
+      let needs = object_typed table graph o t in
+      let is = need_typed table graph (vals.Ref o) t i a needed in
+      let j = Contains-place needs (i, a) is.0 in
+      need_seen o i (field_at graph o i) a marked none ((scanning.taken o t at_o).met j.0 i a (slice_get_within needs j.0 (i, a) j.1) j.1 is.1)
 
   -- ---- the scan stopped before an object
 
@@ -209,12 +211,13 @@ module _ (table : Table) (graph : List Obj) (lawful : IsLawful table) (marks : L
 
     last_field : (i a : ℕ) → i < taken.seen → Contains (object_needs table graph o t) (i, a) → IsSeen table graph taken o i (field_at graph o i) a
     last_field i a less needed =
-        let needs = object_needs table graph o t in
-        let j = Contains-place needs (i, a) needed in
+        let needs = object_typed table graph o t in
+        let is = need_typed table graph (vals.Ref o) t i a needed in
+        let j = Contains-place needs (i, a) is.0 in
         ⊎_elim
         (λ before.
         let place = place_before needs (increase table graph o t) j.0 unmet.place i unmet.field a stop.type j.1 stop.at before.0 in
-        need_seen o i (field_at graph o i) a marked before.1 (stop.met j.0 i a place j.1))
+        need_seen o i (field_at graph o i) a marked before.1 (stop.met j.0 i a place j.1 is.1))
         (λ this.
         let type : a ≡ stop.type = place_same needs (increase table graph o t) j.0 unmet.place i unmet.field a stop.type j.1 stop.at this.0 in
         unfit_seen o i (field_at graph o i) a this.1.0

@@ -3,7 +3,7 @@ use Rattle.std.specs.Prelude.{ℕ, suc, ◌+◌, ◌^◌, ◌≡◌, ◌⊎◌, 
 use Rattle.om_model.specs.declared.value.Val.{Val}
 use Rattle.om_model.specs.declared.value.Val.TheVariants as vals
 use Rattle.om_model.specs.declared.value.Obj.{Obj}
-use Rattle.om_types.specs.Table.{Table, table_shapes}
+use Rattle.om_types.specs.Table.{Table, table_shapes, is_asked_in}
 use Rattle.om_types.specs.Typing.{IsListed}
 use Rattle.om_heap.specs.Heap.{key_of, field_at, word_of}
 use Rattle.om_scan.specs.declared.notes.First.{First}
@@ -14,7 +14,7 @@ use Rattle.om_scan.specs.declared.straight.Stop.{Stop}
 use Rattle.om_scan.specs.declared.straight.Stop.TheVariants as stops
 use Rattle.om_scan.specs.Paths.{HasPath}
 use Rattle.om_scan.specs.Seconds.{noted_in, AreSeconds, IsNoting}
-use Rattle.om_scan.specs.Scanned.{object_needs, cost_of}
+use Rattle.om_scan.specs.Scanned.{object_typed, cost_of}
 
 -- ---- marks
 
@@ -102,17 +102,21 @@ IsUnfit table graph (vals.Int z) t = ¬ (table_shapes table).fits graph (vals.In
 IsUnfit table graph (vals.Atom tag) t = ¬ (table_shapes table).fits graph (vals.Atom tag) t
 IsUnfit table graph (vals.Ref o) t = ⊥
 
--- the values of the first r needs of an object at a type are met, or noted
+-- the values of the first r fields of an object that have types at a type are met, or noted, where
+-- something is asked of them
 abbrev pub AreMet : Table → List Obj → List ℕ → List (ℕ × ℕ) → ℕ → ℕ → ℕ → Type 0
 AreMet table graph marks noted o t r =
-    (j i a : ℕ) → j < r → slice_get (object_needs table graph o t) j ≡ Some (i, a)
+    (j i a : ℕ) → j < r → slice_get (object_typed table graph o t) j ≡ Some (i, a)
+    → IsTrue (is_asked_in table a)
     → IsMet table graph marks (field_at graph o i) a ⊎ IsNoted table noted (field_at graph o i) a
 
--- This need of an object is the first that is not met, nor noted.
+-- This need of an object, by its place among the fields that have types, is the first that is not
+-- met, nor noted.
 pub record IsUnmet (table : Table) (graph : List Obj) (marks : List ℕ) (noted : List (ℕ × ℕ))
     (o t : ℕ) (unmet : Unmet) : Type 0 where
   pub type : ℕ
-  pub at : slice_get (object_needs table graph o t) unmet.place ≡ Some (unmet.field, type)
+  pub at : slice_get (object_typed table graph o t) unmet.place ≡ Some (unmet.field, type)
+  pub asked : IsTrue (is_asked_in table type)
   pub met : AreMet table graph marks noted o t unmet.place
   pub unfit : IsTrue unmet.unfit → IsUnfit table graph (field_at graph o unmet.field) type
   pub small : unmet.field + 1 < 2 ^ 64
@@ -160,7 +164,7 @@ pub record IsTaken (table : Table) (graph : List Obj) (marks : List ℕ) (noted 
     (o t : ℕ) : Type 0 where
   pub marked : mark_of graph marks o ≡ suc t
   pub fits : (table_shapes table).fits graph (vals.Ref o) t
-  pub met : AreMet table graph marks noted o t (length (object_needs table graph o t))
+  pub met : AreMet table graph marks noted o t (length (object_typed table graph o t))
 
 -- The first n objects are taken, each at its type, in so many steps.
 pub record IsScanning (table : Table) (graph : List Obj) (marks : List ℕ) (noted : List (ℕ × ℕ))

@@ -6,7 +6,7 @@ use Rattle.om_model.specs.declared.value.Val.TheVariants as vals
 use Rattle.om_model.specs.declared.value.Obj.{Obj}
 use Rattle.om_types.specs.Fitting.{numbered_from}
 use Rattle.om_types.specs.Steps.{most_steps}
-use Rattle.om_types.specs.Table.{Table, table_shapes}
+use Rattle.om_types.specs.Table.{Table, table_shapes, typed_fields}
 use Rattle.om_types.specs.Typing.{IsListed, IsTyping}
 use Rattle.om_heap.specs.Heap.{field_at}
 use Rattle.om_scan.specs.declared.seconds.Seconds.{Seconds}
@@ -19,6 +19,11 @@ use Rattle.om_scan.specs.Taken.{types_in, seen_of, is_unfit_field, is_unfit_obje
 -- what an object needs at a type
 abbrev pub object_needs : Table → List Obj → ℕ → ℕ → List (ℕ × ℕ)
 object_needs table graph o t = (table_shapes table).needs graph (vals.Ref o) t
+
+-- the fields of an object that have types at a type, by their places; those are needed of whose
+-- values something is asked
+abbrev pub object_typed : Table → List Obj → ℕ → ℕ → List (ℕ × ℕ)
+object_typed table graph o t = typed_fields table graph (vals.Ref o) t
 
 -- The type of each object, by its number: the first is at type 0, and objects and types justify one
 -- another.

@@ -6,13 +6,13 @@ ghost use Rattle.om_model.specs.Graph.{IsValue, IsGraph};
 ghost use Rattle.om_model.specs.declared.value.Val.{Val};
 ghost use Rattle.om_model.specs.declared.value.Val.TheVariants as vals;
 ghost use Rattle.om_heap.specs.Heap.{word_of, field_at, IsFieldWord, IsReferenceWord};
-ghost use Rattle.om_types.specs.Table.{table_shapes};
+ghost use Rattle.om_types.specs.Table.{table_shapes, is_asked_in};
 ghost use Rattle.om_fits.specs.Needs.{needs_in};
 ghost use Rattle.om_type_table.specs.Made.{table_of, IsLawful};
 ghost use Rattle.om_scan.specs.FittingRows.{AreRows};
 ghost use Rattle.om_scan.specs.Taken.{types_in};
 ghost use Rattle.om_scan.specs.Paths.{HasPath, HavePaths};
-ghost use Rattle.om_scan.specs.Scanned.{object_needs, Tells, AreTaken, AreCounted, cost_of, left_of};
+ghost use Rattle.om_scan.specs.Scanned.{object_typed, Tells, AreTaken, AreCounted, cost_of, left_of};
 ghost use Rattle.om_scan.specs.Seconds.{noted_in, AreSeconds};
 ghost use Rattle.om_scan.specs.Scan.{AreMarks, AreKept, IsMet, IsOther, AreMet, IsUnmet, AreNoted, AreStillNoted, IsNotedAt, first_or, first_of, Continues, IsUnfit, IsWhole, IsToldIn, IsInRow, IsStoppedAt, IsGoing, IsStopped, IsScanning, Stops, IsTurned};
 
@@ -22,7 +22,7 @@ use crate::notes::{First, Notes, Unmet};
 use crate::seconds::Seconds;
 use crate::steps::Steps;
 use crate::taken::{Taken, Unfit};
-use om_fits::{Needs, Row, known_needs};
+use om_fits::{Needs, Row, is_asked, known_needs};
 use om_heap::Heap;
 use om_model::Memory;
 use om_model::value::Val;
@@ -340,7 +340,7 @@ fn meet_all(
     requires object { o < length heap.now }
     requires word { word ≡ word_of heap.now (vals.Ref o) }
     requires node { ty < length table.now.nodes }
-    requires needs { object_needs (table_of table.now) heap.now o ty ≡ needs_in needs }
+    requires needs { object_typed (table_of table.now) heap.now o ty ≡ needs_in needs }
     requires marks { AreMarks (table_of table.now) heap.now marks.old }
     requires noted { AreNoted (table_of table.now) heap.now marks.old notes.old.seconds }
     requires whole { IsWhole notes.old }
@@ -356,7 +356,7 @@ fn meet_all(
     ensures met { IfOk result
         (λ unmet. MatchOption unmet
         (AreMet (table_of table.now) heap.now marks.new (noted_in notes.new.seconds) o ty
-        (length (object_needs (table_of table.now) heap.now o ty)))
+        (length (object_typed (table_of table.now) heap.now o ty)))
         (IsUnmet (table_of table.now) heap.now marks.new (noted_in notes.new.seconds) o ty)) }
 {
     match needs {
@@ -396,7 +396,7 @@ fn meet_each(
     requires object { o < length heap.now }
     requires word { word ≡ word_of heap.now (vals.Ref o) }
     requires node { ty < length table.now.nodes }
-    requires needs { object_needs (table_of table.now) heap.now o ty ≡ needs_in needs }
+    requires needs { object_typed (table_of table.now) heap.now o ty ≡ needs_in needs }
     requires marks { AreMarks (table_of table.now) heap.now marks.old }
     requires noted { AreNoted (table_of table.now) heap.now marks.old notes.old.seconds }
     requires whole { IsWhole notes.old }
@@ -412,7 +412,7 @@ fn meet_each(
     ensures met { IfOk result
         (λ unmet. MatchOption unmet
         (AreMet (table_of table.now) heap.now marks.new (noted_in notes.new.seconds) o ty
-        (length (object_needs (table_of table.now) heap.now o ty)))
+        (length (object_typed (table_of table.now) heap.now o ty)))
         (IsUnmet (table_of table.now) heap.now marks.new (noted_in notes.new.seconds) o ty)) }
 {
     if needs.len() == 0 {
@@ -435,8 +435,8 @@ fn meet_each(
     Ok(None)
 }
 
-/// Tests need `place` of an object at a type, whose field has this word. An object that was met
-/// before at another class is noted.
+/// Tests field `place` of those of an object that have types at a type; it has this word. An object
+/// that was met before at another class is noted, where something is asked of it.
 #[inline(always)]
 fn meet_need(
     heap: &Heap,
@@ -457,7 +457,7 @@ fn meet_need(
     requires lawful { IsLawful (table_of table.now) }
     requires object { o < length heap.now }
     requires node { ty < length table.now.nodes }
-    requires need { slice_get (object_needs (table_of table.now) heap.now o ty) place
+    requires need { slice_get (object_typed (table_of table.now) heap.now o ty) place
         ≡ Some (field, needed) }
     requires word { word ≡ word_of heap.now (field_at heap.now o field) }
     requires small { field + 1 < 2 ^ 64 }
@@ -479,6 +479,9 @@ fn meet_need(
     }
     if word % 8 != 0 {
         return Ok(false);
+    }
+    if !is_asked(table.shape(needed)) {
+        return Ok(true);
     }
     note(heap, table, notes, o, ty, place, field, taken, word, needed)?;
     Ok(true)
@@ -536,7 +539,7 @@ fn first_or(told: Option<First>, own: First) -> Option<First>
 }
 
 /// Tests the value of a word at a type: an object that is not marked is marked with the type, and
-/// tested at its turn.
+/// tested at its turn, where something is asked of it.
 #[inline(always)]
 fn meet(
     heap: &Heap,
@@ -552,13 +555,15 @@ fn meet(
     requires word { IsFieldWord heap.now word }
     requires node { ty < length table.now.nodes }
     requires marks { AreMarks (table_of table.now) heap.now marks.old }
-    requires paths { (o : ℕ) → o < length heap.now → word ≡ word_of heap.now (vals.Ref o)
+    requires paths { IsTrue (is_asked_in (table_of table.now) ty) → (o : ℕ) → o < length heap.now
+        → word ≡ word_of heap.now (vals.Ref o)
         → HasPath (table_of table.now) heap.now (vals.Ref 0) o ty }
     ensures marks { OnOk result (AreMarks (table_of table.now) heap.now marks.new) }
     ensures kept { OnOk result (AreKept marks.old marks.new) }
     ensures met { IfOk result
         (λ met. OnTrue met
-        ((v : Val) → IsValue (length heap.now) v → word ≡ word_of heap.now v
+        (IsTrue (is_asked_in (table_of table.now) ty) → (v : Val) → IsValue (length heap.now) v
+        → word ≡ word_of heap.now v
         → IsMet (table_of table.now) heap.now marks.new v ty)) }
     ensures unmet { IfOk result
         (λ met. OnFalse met
@@ -575,6 +580,9 @@ fn meet(
     let key = heap.key(word);
     let mark = marks.get(key);
     if mark == 0 {
+        if !is_asked(table.shape(ty)) {
+            return Ok(true);
+        }
         let Some(new) = (ty as u64).checked_add(1) else {
             return Err(Memory);
         };

@@ -112,5 +112,8 @@ pub fn predeclared(name: &[u8]) -> Option<Predeclared>
     if is(b"ref", name) {
         return Some(Predeclared::Ref);
     }
+    if is(b"_", name) {
+        return Some(Predeclared::Any);
+    }
     None
 }

@@ -7,12 +7,12 @@ use Rattle.om_model.specs.declared.value.Obj.{Obj}
 use Rattle.om_model.specs.declared.value.Obj.TheVariants as objects
 use Rattle.om_types.specs.declared.names.Names.{Names}
 use Rattle.om_types.specs.declared.shape.ShapeOf.{ShapeOf}
-use Rattle.om_types.specs.Fitting.{fields_of, or_none}
+use Rattle.om_types.specs.Fitting.{fields_of, or_none, is_asked}
 use Rattle.om_types.specs.Fault.{field_of}
 use Rattle.om_equal.proofs.NeedAgreement.{NeedsAgree, FieldsAgree}
-use Rattle.om_leaves.specs.Frames.{Frame, frame_of, before_part, int_text, object_text}
+use Rattle.om_leaves.specs.Frames.{Frame, frame_of, before_part, int_text, object_text, hidden_text}
 use Rattle.om_show.specs.Pieces.{Text, First, Again, has, text_of}
-use Rattle.om_show.specs.Shown.{Met, met, led_by, parts_from, object_met, met_within, shown_text}
+use Rattle.om_show.specs.Shown.{Met, met, led_by, parts_from, object_met, asked_met, met_within, shown_text}
 
 module _ {T U : Type 0} (shape : T → ShapeOf T) (names : T → Names) (shape' : U → ShapeOf U)
     (names' : U → Names) (Of : T → U → Type 0) (graph : List Obj) where
@@ -23,6 +23,7 @@ module _ {T U : Type 0} (shape : T → ShapeOf T) (names : T → Names) (shape' 
         → frame_of (shape t) (names t) tag values ≡ frame_of (shape' u) (names' u) tag values
     pub texts : (t : T) (u : U) → Of t u → (object : Obj)
         → object_text (shape t) (names t) object ≡ object_text (shape' u) (names' u) object
+    pub asked : (t : T) (u : U) → Of t u → is_asked (shape t) ≡ is_asked (shape' u)
     pub fields : (v : Val) (t : T) (u : U) → Of t u
         → FieldsAgree Of (fields_of graph v (shape t)) (fields_of graph v (shape' u))
 
@@ -75,15 +76,24 @@ module _ {T U : Type 0} (shape : T → ShapeOf T) (names : T → Names) (shape' 
           ap (λ text. met (First o ∷ Text text ∷ []) seen) (same.texts t u of object)
 
   module _ (same : SayAlike) where
+    value_alike : (meet : List ℕ → Val → T → Met) (meet' : List ℕ → Val → U → Met) → MeetAlike meet meet'
+        → (seen : List ℕ) (v : Val) (t : T) (u : U) → Of t u
+        → asked_met shape names graph meet seen v t ≡ asked_met shape' names' graph meet' seen v u
+    value_alike meet meet' alike seen (vals.Int z) t u of =
+        ap (λ text. met (Text text ∷ []) seen) (same.ints t u of z)
+    value_alike meet meet' alike seen (vals.Atom tag) t u of = refl
+    value_alike meet meet' alike seen (vals.Ref o) t u of =
+        ap (λ (m : Met). if has seen o then met (Again o ∷ []) seen else m)
+        (object_alike meet meet' alike same (o ∷ seen) o t u of (slice_get graph o))
+
     within_alike : (n : ℕ) → MeetAlike (met_within shape names graph n) (met_within shape' names' graph n)
     within_alike zero seen v t u of = refl
-    within_alike (suc n) seen (vals.Int z) t u of =
-        ap (λ text. met (Text text ∷ []) seen) (same.ints t u of z)
-    within_alike (suc n) seen (vals.Atom tag) t u of = refl
-    within_alike (suc n) seen (vals.Ref o) t u of =
-        ap (λ (m : Met). if has seen o then met (Again o ∷ []) seen else m)
-        (object_alike (met_within shape names graph n) (met_within shape' names' graph n)
-        (within_alike n) same (o ∷ seen) o t u of (slice_get graph o))
+    within_alike (suc n) seen v t u of =
+        ap (λ test. if test then asked_met shape names graph (met_within shape names graph n) seen v t
+        else met (Text hidden_text ∷ []) seen) (same.asked t u of)
+        ∙ ap (λ (m : Met). if is_asked (shape' u) then m else met (Text hidden_text ∷ []) seen)
+        (value_alike (met_within shape names graph n) (met_within shape' names' graph n) (within_alike n)
+        seen v t u of)
 
     pub shown_alike : (v : Val) (t : T) (u : U) → Of t u
         → shown_text shape names graph v t ≡ shown_text shape' names' graph v u

@@ -10,11 +10,11 @@ use Rattle.om_model.specs.declared.value.Obj.{Obj}
 use Rattle.om_model.specs.declared.value.Obj.TheVariants as objects
 use Rattle.om_types.specs.declared.names.Names.{Names}
 use Rattle.om_types.specs.declared.shape.ShapeOf.{ShapeOf}
-use Rattle.om_types.specs.Fitting.{fields_of, or_none}
+use Rattle.om_types.specs.Fitting.{fields_of, or_none, is_asked}
 use Rattle.om_types.specs.Fault.{field_of}
-use Rattle.om_leaves.specs.Frames.{Frame, frame_of, before_part}
+use Rattle.om_leaves.specs.Frames.{Frame, frame_of, before_part, hidden_text}
 use Rattle.om_show.specs.Pieces.{Text, First, Again, has}
-use Rattle.om_show.specs.Shown.{Met, met, led_by, parts_from, object_met, met_within}
+use Rattle.om_show.specs.Shown.{Met, met, led_by, parts_from, object_met, met_within, asked_met}
 
 -- ---- objects that were not met
 
@@ -97,16 +97,22 @@ module _ {T : Type 0} (shape : T → ShapeOf T) (names : T → Names) (graph : L
   either_keeps true one other bound first second = first
   either_keeps false one other bound first second = second
 
-  within_keeps : (n : ℕ) → Keeps (met_within shape names graph n)
-  within_keeps zero seen v t = omega arith
-  within_keeps (suc n) seen (vals.Int z) t = omega arith
-  within_keeps (suc n) seen (vals.Atom tag) t = omega arith
-  within_keeps (suc n) seen (vals.Ref o) t =
-      let inside = object_keeps (met_within shape names graph n) (within_keeps n) (o ∷ seen) o t (slice_get graph o) in
+  asked_keeps : (meet : List ℕ → Val → T → Met) → Keeps meet → Keeps (asked_met shape names graph meet)
+  asked_keeps meet keeps seen (vals.Int z) t = omega arith
+  asked_keeps meet keeps seen (vals.Atom tag) t = omega arith
+  asked_keeps meet keeps seen (vals.Ref o) t =
+      let inside = object_keeps meet keeps (o ∷ seen) o t (slice_get graph o) in
       let new = unmet_after (length graph) seen o in
       either_keeps (has seen o) (met (Again o ∷ []) seen)
-      (object_met shape names graph (met_within shape names graph n) (o ∷ seen) o t (slice_get graph o)) (left seen)
+      (object_met shape names graph meet (o ∷ seen) o t (slice_get graph o)) (left seen)
       (omega arith) (omega (arith, inside, new))
+
+  within_keeps : (n : ℕ) → Keeps (met_within shape names graph n)
+  within_keeps zero seen v t = omega arith
+  within_keeps (suc n) seen v t =
+      either_keeps (is_asked (shape t)) (asked_met shape names graph (met_within shape names graph n) seen v t)
+      (met (Text hidden_text ∷ []) seen) (left seen)
+      (asked_keeps (met_within shape names graph n) (within_keeps n) seen v t) (omega arith)
 
   -- ---- two bounds that are large enough
 
@@ -142,21 +148,28 @@ module _ {T : Type 0} (shape : T → ShapeOf T) (names : T → Names) (graph : L
   either_same true met_again one other same = refl
   either_same false met_again one other same = same refl
 
+  asked_same : (meet meet' : List ℕ → Val → T → Met) → Keeps meet → (seen : List ℕ)
+      → ((after : List ℕ) (v : Val) (t : T) → left after < left seen → meet after v t ≡ meet' after v t)
+      → (v : Val) (t : T) → asked_met shape names graph meet seen v t ≡ asked_met shape names graph meet' seen v t
+  asked_same meet meet' keeps seen same (vals.Int z) t = refl
+  asked_same meet meet' keeps seen same (vals.Atom tag) t = refl
+  asked_same meet meet' keeps seen same (vals.Ref o) t =
+      either_same (has seen o) (met (Again o ∷ []) seen)
+      (object_met shape names graph meet (o ∷ seen) o t (slice_get graph o))
+      (object_met shape names graph meet' (o ∷ seen) o t (slice_get graph o))
+      (λ new. object_same meet meet' keeps (left seen) same (o ∷ seen) o t (slice_get graph o)
+      (λ found at. unmet_less (length graph) seen o (slice_get_within graph o found at) new))
+
   -- any two bounds above the number of objects that are not met
   pub within_same : (n m : ℕ) (seen : List ℕ) (v : Val) (t : T) → left seen < n → left seen < m
       → met_within shape names graph n seen v t ≡ met_within shape names graph m seen v t
   within_same zero m seen v t few few' = absurd (omega (arith, few))
   within_same (suc n) zero seen v t few few' = absurd (omega (arith, few'))
-  within_same (suc n) (suc m) seen (vals.Int z) t few few' = refl
-  within_same (suc n) (suc m) seen (vals.Atom tag) t few few' = refl
-  within_same (suc n) (suc m) seen (vals.Ref o) t few few' =
-      either_same (has seen o) (met (Again o ∷ []) seen)
-      (object_met shape names graph (met_within shape names graph n) (o ∷ seen) o t (slice_get graph o))
-      (object_met shape names graph (met_within shape names graph m) (o ∷ seen) o t (slice_get graph o))
-      (λ new. object_same (met_within shape names graph n) (met_within shape names graph m) (within_keeps n)
-      (left seen) (λ after v' t' fewer. within_same n m after v' t' (omega (arith, fewer, few)) (omega (arith, fewer, few')))
-      (o ∷ seen) o t (slice_get graph o)
-      (λ found at. unmet_less (length graph) seen o (slice_get_within graph o found at) new))
+  within_same (suc n) (suc m) seen v t few few' =
+      ap (λ (one : Met). if is_asked (shape t) then one else met (Text hidden_text ∷ []) seen)
+      (asked_same (met_within shape names graph n) (met_within shape names graph m) (within_keeps n) seen
+      (λ after v' t' fewer. within_same n m after v' t' (omega (arith, fewer, few)) (omega (arith, fewer, few')))
+      v t)
 
   pub more_same : (more : ℕ) (v : Val) (t : T) → met_within shape names graph (length graph + 1 + more) [] v t
       ≡ met_within shape names graph (length graph + 1) [] v t

@@ -114,10 +114,12 @@ tags_named (tag ∷ tags) = (refl, tags_named tags)
 
 array_named : (h : HeadOf Ty) (t : Ty) → AreFor (array_of h t) no_names
 array_named (heads.Variable name) t = tt
-array_named h t = by (is_float_head h) where
-  by : (float : Bool) → AreFor (if float then shapes.FloatArray else shapes.ArrayOf t) no_names
-  by true = tt
-  by false = tt
+array_named (heads.Predeclared b ts) t = by_base b where
+  by_base : (base : Predeclared) → AreFor (array_of (heads.Predeclared base ts) t) no_names
+  by_base bases.Float = tt
+  by_base bases.Any = tt
+  by_base base = tt
+array_named h t = tt
 
 predeclared_named : (decls : List Decl) (base : Predeclared) (ts : List Ty)
     → AreFor (predeclared_shape decls base ts) (predeclared_type_names base)

@@ -17,11 +17,10 @@ use Rattle.om_types.specs.Names.{no_names, names_of}
 use Rattle.om_types.specs.Shape.{shape}
 use Rattle.om_types.specs.Table.{with_parts, node_or_none, table_shapes}
 use Rattle.om_equal.proofs.SimulationLemmas.{SamePlace, place_same}
-use Rattle.om_equal.proofs.TableLemmas.{slice_get-mapped, mapped_some, fields_same, table_says}
+use Rattle.om_equal.proofs.TableLemmas.{slice_get-mapped, mapped_some, asked_at, fields_same, table_says}
 use Rattle.om_type_table.specs.declared.table.TypeTable.{TypeTable}
 use Rattle.om_type_table.specs.Made.{types_of, table_of, IsTypeTable}
-use Rattle.om_leaves.specs.Frames.{Frame, frame_of, doubles_frame, int_text, object_text, row_text}
-use Rattle.om_leaves.specs.Leaves.{float_text}
+use Rattle.om_leaves.specs.Frames.{Frame, frame_of, doubles_frame, int_text, double_text, object_text, row_text}
 use Rattle.om_show.specs.Laws.{SameClass, ShowAlike}
 use Rattle.om_show.specs.Shown.{shown_text, shown_at}
 use Rattle.om_show.specs.Tables.{shape_in, names_in}
@@ -47,10 +46,21 @@ module _ {T U : Type 0} (f : T → U) (names : Names) where
   doubles_kept (shapes.FlatFloats mutable n) = refl
   doubles_kept s = refl
 
+  double_kept : (s : ShapeOf T) (bits : ℕ) → double_text (with_parts f s) bits ≡ double_text s bits
+  double_kept (shapes.ArrayOfAnything t) bits = refl
+  double_kept s bits = refl
+
+  parts_kept : (s : ShapeOf T) (all : List ℕ) → map (double_text (with_parts f s)) all ≡ map (double_text s) all
+  parts_kept s [] = refl
+  parts_kept s (bits ∷ all) =
+      ap (λ text. text ∷ map (double_text (with_parts f s)) all) (double_kept s bits)
+      ∙ ap (λ rest. double_text s bits ∷ rest) (parts_kept s all)
+
   text_kept : (s : ShapeOf T) (object : Obj)
       → object_text (with_parts f s) names object ≡ object_text s names object
   text_kept s (objects.Doubles all) =
-      ap (λ (frame : Frame). row_text frame (map float_text all)) (doubles_kept s)
+      ap (λ (frame : Frame). row_text frame (map (double_text (with_parts f s)) all)) (doubles_kept s)
+      ∙ ap (row_text (doubles_frame s names)) (parts_kept s all)
   text_kept s object = refl
 
 -- ---- the value at a path does not depend on which types are equal
@@ -125,6 +135,7 @@ module _ (decls : List Decl) (t : Ty) (table : TypeTable) (is : IsTypeTable decl
       ints = ints;
       frames = frames;
       texts = texts;
+      asked = λ i u at. asked_at decls (types_of table) (table_of table) is.made i u at;
       fields = λ v i u at. fields_same decls (types_of table) (table_of table) is.made graph v i u at;
     }
 

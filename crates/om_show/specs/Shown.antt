@@ -8,9 +8,9 @@ use Rattle.om_model.specs.declared.value.Obj.{Obj}
 use Rattle.om_model.specs.declared.value.Obj.TheVariants as objects
 use Rattle.om_types.specs.declared.names.Names.{Names}
 use Rattle.om_types.specs.declared.shape.ShapeOf.{ShapeOf}
-use Rattle.om_types.specs.Fitting.{fields_of, or_none, shaped}
+use Rattle.om_types.specs.Fitting.{fields_of, or_none, is_asked, shaped}
 use Rattle.om_types.specs.Fault.{field_of, value_at}
-use Rattle.om_leaves.specs.Frames.{Frame, frame_of, before_part, int_text, object_text}
+use Rattle.om_leaves.specs.Frames.{Frame, frame_of, before_part, int_text, object_text, hidden_text}
 use Rattle.om_show.specs.Pieces.{Piece, Text, First, Again, has, text_of}
 
 -- ---- a value as pieces
@@ -45,14 +45,21 @@ module _ {T : Type 0} (shape : T → ShapeOf T) (names : T → Names) (graph : L
   object_met meet seen o t (Some object) =
       met (First o ∷ Text (object_text (shape t) (names t) object) ∷ []) seen
 
+  -- a value of which something is asked
+  abbrev pub asked_met : (List ℕ → Val → T → Met) → List ℕ → Val → T → Met
+  asked_met meet seen (vals.Int z) t = met (Text (int_text (shape t) (names t) z) ∷ []) seen
+  asked_met meet seen (vals.Atom tag) t = met (Text (codes "[||]") ∷ []) seen
+  asked_met meet seen (vals.Ref o) t =
+      if has seen o then met (Again o ∷ []) seen
+      else object_met meet (o ∷ seen) o t (slice_get graph o)
+
   -- A value at a type, after these objects were met, with at most n values one inside the other.
+  -- One of which nothing is asked is not met.
   abbrev pub met_within : ℕ → List ℕ → Val → T → Met
   met_within zero seen v t = met [] seen
-  met_within (suc n) seen (vals.Int z) t = met (Text (int_text (shape t) (names t) z) ∷ []) seen
-  met_within (suc n) seen (vals.Atom tag) t = met (Text (codes "[||]") ∷ []) seen
-  met_within (suc n) seen (vals.Ref o) t =
-      if has seen o then met (Again o ∷ []) seen
-      else object_met (met_within n) (o ∷ seen) o t (slice_get graph o)
+  met_within (suc n) seen v t =
+      if is_asked (shape t) then asked_met (met_within n) seen v t
+      else met (Text hidden_text ∷ []) seen
 
   -- objects that are open are not opened again, so that no more values are one inside the other
   -- than there are objects, and one

@@ -93,6 +93,19 @@ pub record Rows : Type 0 where
   pub char : shows [] (Int (pos 97)) (named (codes "char")) ≡ codes "'a'"
   pub bytes : shows (Bytes (10 ∷ 34 ∷ 92 ∷ 255 ∷ []) ∷ []) (Ref 0) (named (codes "bytes"))
       ≡ codes "\"\\n\\\"\\\\\\255\""
+  -- what is hidden has no label, and is met where it has a type
+  pub hidden : shows (Block 0 (Ref 1 ∷ Ref 1 ∷ []) ∷ Block 0 (Int (pos 0) ∷ []) ∷ []) (Ref 0)
+      (pair (named (codes "_")) (one (codes "ref") int))
+      ≡ codes "(_, ref(0))"
+  pub all_hidden : shows (Block 7 (Ref 0 ∷ []) ∷ []) (Ref 0) (named (codes "_")) ≡ codes "_"
+  pub hidden_array : shows (Block 0 (Int (pos 1) ∷ Ref 0 ∷ []) ∷ []) (Ref 0)
+      (one (codes "array") (named (codes "_")))
+      ≡ codes "[|_; _|]"
+  pub hidden_doubles : shows (Doubles (0 ∷ 0 ∷ []) ∷ []) (Ref 0)
+      (one (codes "array") (named (codes "_")))
+      ≡ codes "[|_; _|]"
+  pub hidden_part : gets (Block 0 (Int (pos 1) ∷ Int (pos 2) ∷ []) ∷ []) (Ref 0)
+      (pair int (named (codes "_"))) (1 ∷ []) ≡ None
   pub second : gets numbers (Ref 0) (one (codes "list") int) (1 ∷ 0 ∷ []) ≡ Some (codes "2")
   pub rest : gets numbers (Ref 0) (one (codes "list") int) (1 ∷ []) ≡ Some (codes "::(2, [])")
   pub nowhere : gets numbers (Ref 0) (one (codes "list") int) (1 ∷ 1 ∷ 0 ∷ []) ≡ None

@@ -7,9 +7,9 @@ use Rattle.om_session.proofs.PartLemmas.{only_this}
 pub all_build_shown_texts : IsPart on_values IsOfValues → IsPart on_texts IsOfTexts
     → ShownTextsAreBuilt on_values on_texts → ShownTextsAreBuilt all_commands all_commands
 all_build_shown_texts values texts law words call tells promises later_words later later_tells
-    later_promises file type limit contents input shown shows builds =
+    later_promises file type limit contents input shown shows hides builds =
     let show = only_this IsOfValues words (tell the_text file type limit) shows.asks tt in
     let built = only_this IsOfTexts later_words (own (build file type)) builds.asks tt in
     law words call tells (values.promises words call show promises)
     later_words later later_tells (texts.promises later_words later built later_promises)
-    file type limit contents input shown shows builds
+    file type limit contents input shown shows hides builds

@@ -12,7 +12,7 @@ use Rattle.om_outcome.specs.Outcome.{whole, found_of, own, build, Asks, tell, th
 use Rattle.om_edge.specs.Files.{File, contents_of}
 use Rattle.om_edge.specs.Sink.{Puts}
 use Rattle.om_promises.specs.Account.{IsWanted}
-use Rattle.om_promises.specs.Call.{Call}
+use Rattle.om_promises.specs.Call.{Call, HasPut}
 use Rattle.om_promises.specs.Causes.{AreAsTold}
 use Rattle.om_promises.specs.CommandLaws.{HaveOneOutcome, Follow}
 use Rattle.om_promises.specs.Commands.{Item, text, Given, Cut, AllSay, Answers, Outcome}
@@ -29,7 +29,7 @@ use Rattle.om_texts.proofs.SaidLemmas.{texts}
 use Rattle.om_texts.proofs.TableLemmas.{goes_on}
 use Rattle.om_build.specs.Lines.{declared_texts}
 use Rattle.om_session.proofs.CopyLemmas.{said_all, texts_are, all_are_well}
-use Rattle.om_shown.specs.Shown.{Shows, Builds, PutsCanonical, ShownTextsAreBuilt}
+use Rattle.om_shown.specs.Shown.{Shows, Builds, PutsCanonical, ShownTextsAreBuilt, HidesNothing}
 use Rattle.om_shown.proofs.LineLemmas.{IsSoundOver, HasIt, text_of, IsBuilt, is_built}
 use Rattle.om_shown.proofs.ShownLemmas.{lines_of, AreShown, are_shown}
 
@@ -96,6 +96,7 @@ module _ (told : Follow (commands declared_types) (AreAsTold (commands declared_
       (promises : Promises (commands declared_types) words call)
       (file type : List ℕ) (limit : ℕ) (contents input shown : List ℕ)
       (shows : Shows words call file type limit contents input shown)
+      (hides : HidesNothing contents type)
       (e : HasEnded (commands declared_types) words call)
       (well : (ending_of e.all).status ≡ statuses.Well)
       (v : AreShown words file type limit shows.asks e.given e.all well) where
@@ -138,7 +139,8 @@ module _ (told : Follow (commands declared_types) (AreAsTold (commands declared_
         let written : IsTypeOf v.t.decls type v.t.type =
         subst (λ decls. IsTypeOf decls type v.t.type) (sym accepted.over) accepted.written in
         let is_sound = sound v.t (contents, type, v.read.decls, declared, accepted) in
-        let one = is_built v.t read_back contents type here written is_sound limit in
+        let none = hides v.t.decls v.t.type is_sound.few.types here written is_sound.few.reached in
+        let one = is_built v.t read_back contents type here written is_sound none limit in
         all_built v.t limit one input v.trees [] values v.have
 
     its_outcome : (words : List (List ℕ)) (files : List File) → Asks words (own (build file type))
@@ -187,9 +189,9 @@ module _ (told : Follow (commands declared_types) (AreAsTold (commands declared_
   pub shown_texts_are_built :
       ShownTextsAreBuilt (commands declared_types) (building declared_types declared_texts)
   shown_texts_are_built words call tells promises later_words later later_tells later_promises
-      file type limit contents input shown shows builds =
+      file type limit contents input shown shows hides builds =
       let e = has_ended (commands declared_types) words call promises.account (inl shows.well) in
       let well = sym e.status ∙ shows.well in
       let v = are_shown words file type limit shows.asks e.given e.all well e.outcome in
-      puts_canonical words call tells promises file type limit contents input shown shows e well v
+      puts_canonical words call tells promises file type limit contents input shown shows hides e well v
       later_words later later_tells later_promises builds

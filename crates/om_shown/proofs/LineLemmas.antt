@@ -14,6 +14,7 @@ use Rattle.om_literal_grammar.proofs.RangeLemmas.{firsts_in}
 use Rattle.om_types.specs.Accepted.{AreWellFormed, IsSoundType}
 use Rattle.om_types.specs.Equal.{declared_shapes}
 use Rattle.om_types.specs.Names.{names_of}
+use Rattle.om_types.specs.Reached.{NoneIsHidden}
 use Rattle.om_types.specs.Shape.{shape}
 use Rattle.om_types.specs.Typing.{HasType}
 use Rattle.om_rigid.proofs.StandLemmas.{stands_for_all}
@@ -86,7 +87,7 @@ module _ (t : TypeOver) where
 
   module _ (read_back : DeclaredTextsAreReadBack) (contents type : List ℕ)
       (declared : IsDeclared contents t.decls) (written : IsTypeOf t.decls type t.type)
-      (sound : IsSoundOver t) where
+      (sound : IsSoundOver t) (none : NoneIsHidden t.decls sound.few.types) where
     pub is_built : (limit : ℕ) (bytes : List ℕ) (tree : Tree) → SpelledUnder limit bytes tree
         → HasIt tree → IsBuilt tree
     is_built limit bytes tree spelled has =
@@ -95,7 +96,7 @@ module _ (t : TypeOver) where
         let few = few_objects limit bytes tree spelled in
         let b : IsReadBack (shape t.decls) (names_of t.decls) tree t.type (text_of tree) =
         read_back contents type t.decls t.type sound.few.types declared written sound.well
-        sound.sound sound.few.reached tree is_tree back few has in
+        sound.sound sound.few.reached none tree is_tree back few has in
         record {
           one_line = b.one_line;
           is_made = record {

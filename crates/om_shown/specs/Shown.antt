@@ -5,6 +5,10 @@ use Rattle.std.specs.List.{concat}
 use Rattle.om_format.specs.Canonical.{canon}
 use Rattle.om_format.specs.Stream.{SpellAll}
 use Rattle.om_format.specs.Tree.{Tree}
+use Rattle.om_types.specs.declared.decl.Decl.{Decl}
+use Rattle.om_types.specs.Ty.{Ty}
+use Rattle.om_types.specs.Reached.{IsReached, NoneIsHidden}
+use Rattle.om_decl.specs.Read.{IsDeclared, IsTypeOf}
 use Rattle.om_outcome.specs.declared.status.Status.TheVariants.{Well, Memory}
 use Rattle.om_outcome.specs.Outcome.{tell, the_text, own, build, Asks}
 use Rattle.om_edge.specs.Files.{File, contents_of}
@@ -45,12 +49,19 @@ pub record PutsCanonical (limit : ℕ) (bytes : List ℕ) (call : Call) : Type 0
   pub err : Puts call.err []
   pub status : call.status ≡ Well
 
+-- no type that TYPE reaches, over what FILE declares, is `_`
+abbrev pub HidesNothing : List ℕ → List ℕ → Type 0
+HidesNothing contents type =
+    (decls : List Decl) (t : Ty) (types : List Ty) → IsDeclared contents decls
+    → IsTypeOf decls type t → IsReached decls t types → NoneIsHidden decls types
+
 -- of two calls, each with its words: where the first one shows values, and the second one builds
--- what was shown, at the same FILE and TYPE, it puts the canonical bytes of these values
+-- what was shown, at the same FILE and TYPE, which hides nothing, it puts the canonical bytes of
+-- these values
 abbrev pub BuildsWhatWasShown : List (List ℕ) → Call → List (List ℕ) → Call → Type 0
 BuildsWhatWasShown words call later_words later =
     (file type : List ℕ) (limit : ℕ) (contents input shown : List ℕ)
-    → Shows words call file type limit contents input shown
+    → Shows words call file type limit contents input shown → HidesNothing contents type
     → Builds later_words later file type contents shown → PutsCanonical limit input later
 
 -- so it is of each two calls of which all is promised, by commands that show and by those that

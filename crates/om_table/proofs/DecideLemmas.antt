@@ -20,19 +20,19 @@ use Rattle.om_types.specs.Shape.{shape}
 use Rattle.om_types.specs.Table.{Table, table_shapes, node_or_none, IsTableOf}
 use Rattle.om_types.specs.Typing.{field_at, IsListed, IsHeld, IsTyping, IsTyped, HasType}
 use Rattle.om_model.proofs.Options.{Contains-first, Contains-later, Contains-none, same_or_not, true_or_not, slice_get-Contains}
+use Rattle.om_types.proofs.AskedLemmas.{asked_is}
 use Rattle.om_types.proofs.FaultLemmas.{fault_excludes_type}
 use Rattle.om_typing.specs.Decidable.{AreDecidable, ReachesFew}
 use Rattle.om_typing.specs.Complete.{HasTypeOrFault}
 use Rattle.om_typing.proofs.Decision.{faults_are_complete}
 use Rattle.om_equal.proofs.LawfulLemmas.{reached_lawful}
 use Rattle.om_equal.proofs.SoundLemmas.{known_by_hash}
-use Rattle.om_equal.proofs.NeedAgreement.{need_matched, turned_fields}
-use Rattle.om_equal.proofs.TableLemmas.{fit_known, need_known, fields_same, fits}
+use Rattle.om_equal.proofs.TableLemmas.{fit_known, need_known, need_forth, need_back, fits}
 use Rattle.om_equal.proofs.TableLemmas.{mutable_back}
 use Rattle.om_equal.proofs.TableLemmas.{fault_forth, table_is_lawful}
 use Rattle.om_types.proofs.ListLemmas.{Contains-filter_mapped, filter_mapped_is}
 use Rattle.om_table.specs.TableDecides.{TheRootIsFirst, IsMadeFor}
-use Rattle.om_table.proofs.FieldLemmas.{needs_there, needs_once}
+use Rattle.om_table.proofs.FieldLemmas.{fields_there, fields_once}
 
 -- ---- the first number
 
@@ -75,9 +75,17 @@ tables_are_decidable table = record {
       (some_or_none (fields_of graph (vals.Ref o) (shape_at table i)))
       (true_or_not (is_mutable (shape_at table i) (slice_get graph o)));
   equal = λ i j. numbers_same_or_not (slice_get table.classes i) (slice_get table.classes j);
-  there = λ graph v i k j need. needs_there (shape_at table i) graph v k j need;
-  once = λ graph v i k j l one other. needs_once (shape_at table i) graph v k j l one other;
-}
+  there = λ graph v i k j need. fields_there (shape_at table i) graph v k j
+      (named graph v i k j need);
+  once = λ graph v i k j l one other. fields_once (shape_at table i) graph v k j l
+      (named graph v i k j one) (named graph v i k l other);
+} where
+  -- what is needed is a field that has a type
+  named : (graph : List Obj) (v : Val) (i k j : ℕ)
+      → Contains ((table_shapes table).needs graph v i) (k, j)
+      → Contains (or_none (fields_of graph v (shape_at table i))) (k, j)
+  named graph v i k j need =
+      (asked_is (shape_at table) (or_none (fields_of graph v (shape_at table i))) k j need).0
 
 -- ---- lists
 
@@ -159,16 +167,13 @@ module _ (decls : List Decl) (types : List Ty) (table : Table) (made : IsTableOf
         }
 
     needed_too : (o k : ℕ) (u a : Ty) → Contains (all_typed pairs) (o, u)
-        → Contains (or_none (fields_of graph (vals.Ref o) (shape decls u))) (k, a)
+        → Contains ((declared_shapes decls).needs graph (vals.Ref o) u) (k, a)
         → IsSomeAnd (field_at graph o k) (λ v. IsHeld (declared_shapes decls) graph
         (all_typed pairs) v a)
     needed_too o k u a among need =
         let source = typed_is pairs o u among in
-        let numbers = fields_of graph (vals.Ref o) (shape_at table source.0) in
-        let by_types = fields_of graph (vals.Ref o) (shape decls u) in
-        let number = need_matched (λ w n. Is n w) by_types numbers
-        (turned_fields Is numbers by_types (fields_same decls types table made graph
-        (vals.Ref o) source.0 u source.2)) k a need in
+        let number = need_back decls types table made graph (vals.Ref o) source.0 u k a source.2
+        need in
         IsSomeAnd-more (λ v. IsHeld (table_shapes table) graph pairs v number.0)
         (λ v. IsHeld (declared_shapes decls) graph (all_typed pairs) v a) (field_at graph o k)
         (λ v held. held_too v number.0 a number.2 held) (typing.held o source.0 k number.0 source.1
@@ -213,12 +218,10 @@ module _ (decls : List Decl) (types : List Ty) (table : Table) (made : IsTableOf
         (w, below_has (length types) w (slice_get_within types w known.0 known.1), refl);
   } where
     needed_number : (graph' : List Obj) (v : Val) (j k w : ℕ)
-        → Contains (or_none (fields_of graph' v (shape_at table j))) (k, w) → (a : Ty) × Is w a
+        → Contains ((table_shapes table).needs graph' v j) (k, w) → (a : Ty) × Is w a
     needed_number graph' v j k w need =
         let own = need_known decls types table made graph' v j k w need in
-        let found = need_matched Is (fields_of graph' v (shape_at table j))
-        (fields_of graph' v (shape decls own.0)) (fields_same decls types table made graph' v j
-        own.0 own.1) k w need in
+        let found = need_forth decls types table made graph' v j own.0 k w own.1 need in
         (found.0, found.2)
 
 -- ---- the table decides

@@ -144,6 +144,9 @@ module _ {T : Type 0} where
   block_there (shapes.ArrayOf t) tag values i a among =
       if_there (tag == 0) (replicate (length values) t) values
       (λ is. repeated_length (length values) t) i a among
+  block_there (shapes.ArrayOfAnything t) tag values i a among =
+      if_there (tag == 0) (replicate (length values) t) values
+      (λ is. repeated_length (length values) t) i a among
   block_there (shapes.Poly tags) tag values i a among =
       when_there (tag == 0) (tag_fields tags values) values (tags_there tags values) i a among
   block_there s tag values i a among = absurd (Contains-none (i, a) among)
@@ -154,6 +157,8 @@ module _ {T : Type 0} where
   block_once (shapes.Product mutable ts) tag values i a b one other =
       if_once ((tag == 0) && (length ts == length values)) ts i a b one other
   block_once (shapes.ArrayOf t) tag values i a b one other =
+      if_once (tag == 0) (replicate (length values) t) i a b one other
+  block_once (shapes.ArrayOfAnything t) tag values i a b one other =
       if_once (tag == 0) (replicate (length values) t) i a b one other
   block_once (shapes.Poly tags) tag values i a b one other =
       when_once (tag == 0) (tag_fields tags values) (tags_once tags values) i a b one other
@@ -189,22 +194,22 @@ module _ {T : Type 0} where
   at_once s None i a b one other = absurd (Contains-none (i, a) one)
   at_once s (Some object) i a b one other = object_once s object i a b one other
 
-  -- a field that is needed is there
-  pub needs_there :
+  -- a field that has a type is there
+  pub fields_there :
       (s : ShapeOf T) (graph : List Obj) (v : Val) (i : ℕ) (a : T)
       → Contains (or_none (fields_of graph v s)) (i, a) → (w : Val) × (field_of graph v i ≡ Some w)
-  needs_there s graph (vals.Int z) i a among = absurd (nothing (fits_int s z) among) where
+  fields_there s graph (vals.Int z) i a among = absurd (nothing (fits_int s z) among) where
     nothing : (test : Bool) → Contains (or_none (none_if {T = T} test)) (i, a) → ⊥
     nothing true among = Contains-none (i, a) among
     nothing false among = Contains-none (i, a) among
-  needs_there s graph (vals.Atom tag) i a among = absurd (nothing (fits_atom s tag) among) where
+  fields_there s graph (vals.Atom tag) i a among = absurd (nothing (fits_atom s tag) among) where
     nothing : (test : Bool) → Contains (or_none (none_if {T = T} test)) (i, a) → ⊥
     nothing true among = Contains-none (i, a) among
     nothing false among = Contains-none (i, a) among
-  needs_there s graph (vals.Ref o) i a among = at_there s (slice_get graph o) i a among
+  fields_there s graph (vals.Ref o) i a among = at_there s (slice_get graph o) i a among
 
-  -- no field is needed at two types
-  pub needs_once : (s : ShapeOf T) (graph : List Obj) (v : Val) → Once (fields_of graph v s)
-  needs_once s graph (vals.Int z) i a b one other = none_once (fits_int s z) i a b one other
-  needs_once s graph (vals.Atom tag) i a b one other = none_once (fits_atom s tag) i a b one other
-  needs_once s graph (vals.Ref o) i a b one other = at_once s (slice_get graph o) i a b one other
+  -- no field has two types
+  pub fields_once : (s : ShapeOf T) (graph : List Obj) (v : Val) → Once (fields_of graph v s)
+  fields_once s graph (vals.Int z) i a b one other = none_once (fits_int s z) i a b one other
+  fields_once s graph (vals.Atom tag) i a b one other = none_once (fits_atom s tag) i a b one other
+  fields_once s graph (vals.Ref o) i a b one other = at_once s (slice_get graph o) i a b one other

@@ -23,7 +23,7 @@ use Rattle.om_equal.proofs.HeadShapes.{pair_shapes}
 use Rattle.om_equal.proofs.NeedLemmas.{alike_heads}
 use Rattle.om_equal.proofs.RankedLemmas.{are_ranked}
 use Rattle.om_equal.proofs.ReachedLemmas.{parts_listed, named_listed}
-use Rattle.om_equal.proofs.ShapeAgreement.{ShapesAgree, BlocksAgree, same_any_int, same_below, same_bytes, same_double, same_int32, same_int64, same_native, same_sum, same_product, same_flat, same_array, same_float_array, same_poly, same_variable, same_array_of_variable}
+use Rattle.om_equal.proofs.ShapeAgreement.{ShapesAgree, BlocksAgree, same_any_int, same_below, same_bytes, same_double, same_int32, same_int64, same_native, same_sum, same_product, same_flat, same_array, same_float_array, same_poly, same_variable, same_array_of_variable, same_anything, same_array_of_anything}
 use Rattle.om_equal.proofs.TyEquality.{types_same_or_not}
 use Rattle.om_trees.specs.TreeType.{IsTreeType, layout_of, field_names, names_with, tree_shape, fields_in}
 
@@ -46,6 +46,8 @@ module _ {T : Type 0} (Likes : T → T → Type 0) where
   any_int_too (same_poly tags others agree) is = cc
   any_int_too same_variable is = is
   any_int_too same_array_of_variable is = is
+  any_int_too same_anything is = is
+  any_int_too (same_array_of_anything t u alike) is = cc
 
   bytes_too : {s r : ShapeOf T} → ShapesAgree Likes s r → (b : Bool) → r ≡ shapes.Bytes b → s ≡ shapes.Bytes b
   bytes_too same_any_int b is = is
@@ -63,6 +65,8 @@ module _ {T : Type 0} (Likes : T → T → Type 0) where
   bytes_too (same_poly tags others agree) b is = cc
   bytes_too same_variable b is = is
   bytes_too same_array_of_variable b is = is
+  bytes_too same_anything b is = is
+  bytes_too (same_array_of_anything t u alike) b is = cc
 
   -- a sum with blocks that agree
   record IsSum (s : ShapeOf T) (k : ℕ) (cs : List (Constr T)) : Type 0 where
@@ -89,6 +93,8 @@ module _ {T : Type 0} (Likes : T → T → Type 0) where
   sum_too (same_poly tags others agree) k cs is = absurd (cc)
   sum_too same_variable k cs is = absurd (cc)
   sum_too same_array_of_variable k cs is = absurd (cc)
+  sum_too same_anything k cs is = absurd (cc)
+  sum_too (same_array_of_anything t u alike) k cs is = absurd (cc)
 
   -- the fields of a node, with parts that are alike
   record AreFields (fields : List T) (l e : T) (d : Option T) (r h : T) : Type 0 where

@@ -1,7 +1,7 @@
 -- What a value at the type of a tree is.
 use Rattle.std.proofs.Common.{ℕ, zero, suc, ◌≡◌, ◌==◌, ◌∙◌, ◌⊎◌, inl, inr, Bool, true, false, cond, List, [], ◌∷◌, length, Option, Some, None, refl, sym, ap, subst, arith}
-use Rattle.std.specs.Prelude.{slice_get, nat_lt, IsSome, option_and_then, option_map, pos, negsuc}
-use Rattle.std.proofs.lemmas.Bool.{false≢true, ltb-true}
+use Rattle.std.specs.Prelude.{slice_get, nat_lt, find, IsSome, IsTrue, option_and_then, option_map, pos, negsuc}
+use Rattle.std.proofs.lemmas.Bool.{false≢true, ltb-true, eq-eqb}
 use Rattle.std.proofs.lemmas.Bool.Decides.{Decides-eqb}
 use Rattle.std.proofs.lemmas.Option.{get_or_from_slice_get}
 use Rattle.om_model.proofs.Options.{none_or_some}
@@ -13,7 +13,7 @@ use Rattle.om_types.specs.declared.names.Names.{Names}
 use Rattle.om_types.specs.declared.shape.ShapeOf.{ShapeOf}
 use Rattle.om_types.specs.Typing.{values_of}
 use Rattle.om_types.specs.Fault.{type_of_field, step}
-use Rattle.om_types.specs.Fitting.{shaped, object_fields, fields_of, or_none}
+use Rattle.om_types.specs.Fitting.{shaped, object_fields, fields_of, or_none, is_asked, asked_of}
 use Rattle.om_trees.specs.declared.node.Node.{Node}
 use Rattle.om_trees.specs.TreeType.{IsTreeType, tree_shape}
 use Rattle.om_heap.specs.Heap.{fields_of as block_fields}
@@ -88,19 +88,39 @@ pub record IsNodeObject {T : Type 0} (kept : Option T) (graph : List Obj) (o : �
   pub block : IsBlock kept object
 
 -- where a step leads, by the shape and the object
-abbrev step_by : {T : Type 0} → ShapeOf T → Option Obj → ℕ → Option (Val × T)
-step_by s found i =
-    option_and_then (λ w. option_map (λ u. (w, u)) (type_of_field (or_none (option_and_then (object_fields s) found)) i))
+abbrev step_by : {T : Type 0} → (T → ShapeOf T) → ShapeOf T → Option Obj → ℕ → Option (Val × T)
+step_by shape s found i =
+    option_and_then (λ w. option_map (λ u. (w, u)) (type_of_field (asked_of shape (or_none (option_and_then (object_fields s) found))) i))
     (option_and_then (λ object. slice_get (values_of object) i) found)
 
-module _ {T : Type 0} (left element right height : T) (l e d r h : Val) where
-  left_by : (kept : Option T) → step_by (tree_shape left element kept right height) (Some (objects.Block 0 (node_values kept l e d r h))) 0 ≡ Some (l, left)
-  left_by None = refl
-  left_by (Some t) = refl
+-- of the fields that are needed, the first one where it is asked, and one after another
+module _ {T : Type 0} (shape : T → ShapeOf T) (k : ℕ) (u : T) (fields : List (ℕ × T)) where
+  first_type : IsTrue (is_asked (shape u)) → type_of_field (asked_of shape ((k, u) ∷ fields)) k ≡ Some u
+  first_type asked =
+      ap (λ b. type_of_field (cond b ((k, u) ∷ asked_of shape fields) (asked_of shape fields)) k) asked
+      ∙ ap (λ b. option_map (λ (need : ℕ × T). need.1) (cond b (Some (k, u)) (find (λ need. need.0 == k) (asked_of shape fields)))) (eq-eqb k k refl)
 
-  right_by : (kept : Option T) → step_by (tree_shape left element kept right height) (Some (objects.Block 0 (node_values kept l e d r h))) (place_of_right kept) ≡ Some (r, right)
-  right_by None = refl
-  right_by (Some t) = refl
+  later_type : (i : ℕ) → (k == i) ≡ false → type_of_field (asked_of shape ((k, u) ∷ fields)) i ≡ type_of_field (asked_of shape fields) i
+  later_type i other = by (is_asked (shape u)) where
+    by : (test : Bool) → type_of_field (cond test ((k, u) ∷ asked_of shape fields) (asked_of shape fields)) i ≡ type_of_field (asked_of shape fields) i
+    by true = ap (λ b. option_map (λ (need : ℕ × T). need.1) (cond b (Some (k, u)) (find (λ need. need.0 == i) (asked_of shape fields)))) other
+    by false = refl
+
+module _ {T : Type 0} (shape : T → ShapeOf T) (left element right height : T) (l e d r h : Val) where
+  left_by : IsTrue (is_asked (shape left)) → (kept : Option T) → step_by shape (tree_shape left element kept right height) (Some (objects.Block 0 (node_values kept l e d r h))) 0 ≡ Some (l, left)
+  left_by asked None = ap (option_map (λ u. (l, u))) (first_type shape 0 left ((1, element) ∷ (2, right) ∷ (3, height) ∷ []) asked)
+  left_by asked (Some t) = ap (option_map (λ u. (l, u))) (first_type shape 0 left ((1, element) ∷ (2, t) ∷ (3, right) ∷ (4, height) ∷ []) asked)
+
+  right_by : IsTrue (is_asked (shape right)) → (kept : Option T) → step_by shape (tree_shape left element kept right height) (Some (objects.Block 0 (node_values kept l e d r h))) (place_of_right kept) ≡ Some (r, right)
+  right_by asked None = ap (option_map (λ u. (r, u)))
+      (later_type shape 0 left ((1, element) ∷ (2, right) ∷ (3, height) ∷ []) 2 refl
+      ∙ later_type shape 1 element ((2, right) ∷ (3, height) ∷ []) 2 refl
+      ∙ first_type shape 2 right ((3, height) ∷ []) asked)
+  right_by asked (Some t) = ap (option_map (λ u. (r, u)))
+      (later_type shape 0 left ((1, element) ∷ (2, t) ∷ (3, right) ∷ (4, height) ∷ []) 3 refl
+      ∙ later_type shape 1 element ((2, t) ∷ (3, right) ∷ (4, height) ∷ []) 3 refl
+      ∙ later_type shape 2 t ((3, right) ∷ (4, height) ∷ []) 3 refl
+      ∙ first_type shape 3 right ((4, height) ∷ []) asked)
 
 node_by : {T : Type 0} (kept : Option T) (l e d r h : Val)
     → node_of (node_values kept l e d r h) ≡ record { left = l; element = e; right = r; height = number_in h }
@@ -127,17 +147,21 @@ module _ {T : Type 0} (shape : T → ShapeOf T) (names : T → Names) (Equal : T
           (subst (λ found. IsSome (option_and_then (object_fields (tree_shape tree.left tree.element tree.kept tree.right tree.height)) found)) at fits_own);
     }
 
+  -- a tree is no hidden part
+  pub tree_asked : (u : T) → IsTreeType shape names Equal u → IsTrue (is_asked (shape u))
+  tree_asked u tree = ap is_asked tree.shaped
+
   -- ---- steps
 
   step_at :
       (o : ℕ) (u : T) (i : ℕ) (tree : IsTreeType shape names Equal u) (its : IsNodeObject tree.kept graph o) (next : Val × T)
-      → step_by (tree_shape tree.left tree.element tree.kept tree.right tree.height)
+      → step_by shape (tree_shape tree.left tree.element tree.kept tree.right tree.height)
       (Some (objects.Block 0 (node_values tree.kept its.block.l its.block.e its.block.d its.block.r its.block.h))) i ≡ Some next
       → step (shaped shape Equal) graph (vals.Ref o) u i ≡ Some next
   step_at o u i tree its next is =
       let block : Obj = objects.Block 0 (node_values tree.kept its.block.l its.block.e its.block.d its.block.r its.block.h) in
       let found : slice_get graph o ≡ Some block = its.at ∙ ap Some its.block.is in
-      subst (λ f. step_by (shape u) f i ≡ Some next) (sym found) (subst (λ s. step_by s (Some block) i ≡ Some next) (sym tree.shaped) is)
+      subst (λ f. step_by shape (shape u) f i ≡ Some next) (sym found) (subst (λ s. step_by shape s (Some block) i ≡ Some next) (sym tree.shaped) is)
 
   node_is : (kept : Option T) (o : ℕ) (its : IsNodeObject kept graph o)
       → node_at graph o ≡ record { left = its.block.l; element = its.block.e; right = its.block.r; height = number_in its.block.h }
@@ -146,19 +170,19 @@ module _ {T : Type 0} (shape : T → ShapeOf T) (names : T → Names) (Equal : T
       ∙ node_by kept its.block.l its.block.e its.block.d its.block.r its.block.h
 
   pub left_step :
-      (o : ℕ) (u : T) (tree : IsTreeType shape names Equal u) (its : IsNodeObject tree.kept graph o)
+      (o : ℕ) (u : T) (tree : IsTreeType shape names Equal u) (its : IsNodeObject tree.kept graph o) → IsTrue (is_asked (shape tree.left))
       → step (shaped shape Equal) graph (vals.Ref o) u 0 ≡ Some ((node_at graph o).left, tree.left)
-  left_step o u tree its =
+  left_step o u tree its asked =
       step_at o u 0 tree its (its.block.l, tree.left)
-      (left_by tree.left tree.element tree.right tree.height its.block.l its.block.e its.block.d its.block.r its.block.h tree.kept)
+      (left_by shape tree.left tree.element tree.right tree.height its.block.l its.block.e its.block.d its.block.r its.block.h asked tree.kept)
       ∙ ap (λ (n : Node). Some (n.left, tree.left)) (sym (node_is tree.kept o its))
 
   pub right_step :
-      (o : ℕ) (u : T) (tree : IsTreeType shape names Equal u) (its : IsNodeObject tree.kept graph o)
+      (o : ℕ) (u : T) (tree : IsTreeType shape names Equal u) (its : IsNodeObject tree.kept graph o) → IsTrue (is_asked (shape tree.right))
       → step (shaped shape Equal) graph (vals.Ref o) u (place_of_right tree.kept) ≡ Some ((node_at graph o).right, tree.right)
-  right_step o u tree its =
+  right_step o u tree its asked =
       step_at o u (place_of_right tree.kept) tree its (its.block.r, tree.right)
-      (right_by tree.left tree.element tree.right tree.height its.block.l its.block.e its.block.d its.block.r its.block.h tree.kept)
+      (right_by shape tree.left tree.element tree.right tree.height its.block.l its.block.e its.block.d its.block.r its.block.h asked tree.kept)
       ∙ ap (λ (n : Node). Some (n.right, tree.right)) (sym (node_is tree.kept o its))
 
   -- ---- values

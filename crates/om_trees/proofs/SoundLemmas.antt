@@ -28,7 +28,7 @@ use Rattle.om_trees.specs.SearchTree.{Tree, empty, node, IsTree, elements, heigh
 use Rattle.om_trees.proofs.BelowLemmas.{at_itself, below_left, below_right}
 use Rattle.om_trees.proofs.FewLemmas.{lower, lower_less}
 use Rattle.om_trees.proofs.LessLemmas.{AllLess, AllMore, increasing_joined}
-use Rattle.om_trees.proofs.NodeLemmas.{IsNodeObject, place_of_right, node_object, left_step, right_step, tree_value}
+use Rattle.om_trees.proofs.NodeLemmas.{IsNodeObject, place_of_right, node_object, tree_asked, left_step, right_step, tree_value}
 use Rattle.om_trees.proofs.SearchTreeLemmas.{counted_up, near, height_is, sound_node}
 
 -- ---- numbers
@@ -111,13 +111,15 @@ module _ {T : Type 0} (shape : T → ShapeOf T) (names : T → Names) (Equal : T
         → Leads (path ++ 0 ∷ []) (node_at graph o).left tree.left
     left_leads path o u leads tree its =
         value_at-push (shaped shape Equal) graph path root t 0 (vals.Ref o, u) ((node_at graph o).left, tree.left) leads
-        (left_step shape names Equal graph o u tree its)
+        (left_step shape names Equal graph o u tree its
+        (tree_asked shape names Equal graph tree.left (alike tree.left u (placed path (vals.Ref o) u leads).0 tree.left_same tree)))
 
     pub right_leads : (path : List ℕ) (o : ℕ) (u : T) → Leads path (vals.Ref o) u → (tree : IsTreeHere u) → IsNodeObject tree.kept graph o
         → Leads (path ++ place_of_right tree.kept ∷ []) (node_at graph o).right tree.right
     right_leads path o u leads tree its =
         value_at-push (shaped shape Equal) graph path root t (place_of_right tree.kept) (vals.Ref o, u) ((node_at graph o).right, tree.right) leads
-        (right_step shape names Equal graph o u tree its)
+        (right_step shape names Equal graph o u tree its
+        (tree_asked shape names Equal graph tree.right (alike tree.right u (placed path (vals.Ref o) u leads).0 tree.right_same tree)))
 
     module _ (none : HasNoTreeFault shape names Equal graph root t) where
       -- ---- one node

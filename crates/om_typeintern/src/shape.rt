@@ -40,6 +40,8 @@ pub(crate) fn placed_shape(
         ShapeOf::Poly(tags) => Ok(ShapeOf::Poly(placed_tags(alloc, met, tags.as_slice())?)),
         ShapeOf::Variable => Ok(ShapeOf::Variable),
         ShapeOf::ArrayOfVariable => Ok(ShapeOf::ArrayOfVariable),
+        ShapeOf::Anything => Ok(ShapeOf::Anything),
+        ShapeOf::ArrayOfAnything(element) => Ok(ShapeOf::ArrayOfAnything(place(met, *element)?)),
     }
 }
 

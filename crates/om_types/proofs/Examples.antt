@@ -4,6 +4,7 @@ use Rattle.std.proofs.Common.{ℕ, ◌≡◌, List, [], ◌∷◌, true, false, 
 use Rattle.std.proofs.Common.{arith}
 use Rattle.std.specs.Prelude.{codes, pos, negsuc}
 use Rattle.om_model.specs.declared.value.Val.TheVariants as vals
+use Rattle.om_model.specs.declared.value.Obj.{Obj}
 use Rattle.om_model.specs.declared.value.Obj.TheVariants as objects
 use Rattle.om_types.specs.declared.decl.Predeclared.{Predeclared}
 use Rattle.om_types.specs.declared.decl.Predeclared.TheVariants as bases
@@ -21,7 +22,7 @@ use Rattle.om_types.specs.Declarations.{predeclared}
 use Rattle.om_types.specs.Head.{head}
 use Rattle.om_types.specs.Shape.{shape}
 use Rattle.om_types.specs.Fitting.{fields_of, is_mutable}
-use Rattle.om_types.specs.Equal.{Equal, HeadsAgree, Holds}
+use Rattle.om_types.specs.Equal.{Equal, HeadsAgree, Holds, declared_shapes}
 use Rattle.om_types.specs.Reached.{reached_from}
 use Rattle.om_types.specs.Names.{names_of}
 use Rattle.om_types.specs.TypeText.{type_text}
@@ -130,6 +131,56 @@ empty_list = refl
 no_value : fields_of [] (vals.Int (pos 0)) (shape [] a) ≡ None
 unfolding head predeclared
 no_value = refl
+
+-- ---- what is hidden
+
+abbrev any : Ty
+any = named (codes "_")
+
+-- each value fits the type `_`
+any_object : fields_of (objects.Block 7 (vals.Int (pos 1) ∷ []) ∷ []) (vals.Ref 0) (shape [] any)
+    ≡ Some []
+unfolding head predeclared
+any_object = refl
+
+any_atom : fields_of [] (vals.Atom 3) (shape [] any) ≡ Some []
+unfolding head predeclared
+any_atom = refl
+
+-- ((ref 1), the same) at `int ref * _`: the second field has a type and is not needed
+abbrev shared : List Obj
+shared =
+    objects.Block 0 (vals.Int (pos 1) ∷ []) ∷ objects.Block 0 (vals.Ref 0 ∷ vals.Ref 0 ∷ []) ∷ []
+
+abbrev hidden_pair : Ty
+hidden_pair = pair (of_one int (codes "ref")) any
+
+hidden_field : fields_of shared (vals.Ref 1) (shape [] hidden_pair)
+    ≡ Some ((0, of_one int (codes "ref")) ∷ (1, any) ∷ [])
+unfolding head predeclared
+hidden_field = refl
+
+not_needed : (declared_shapes []).needs shared (vals.Ref 1) hidden_pair
+    ≡ (0, of_one int (codes "ref")) ∷ []
+unfolding head predeclared
+not_needed = refl
+
+-- an array of such values may be of doubles
+hidden_doubles : fields_of (objects.Doubles (0 ∷ 0 ∷ []) ∷ []) (vals.Ref 0)
+    (shape [] (of_one any (codes "array"))) ≡ Some []
+unfolding head predeclared
+hidden_doubles = refl
+
+-- and has no integer in its place, unlike `_`
+no_integer : fields_of [] (vals.Int (pos 0)) (shape [] (of_one any (codes "array"))) ≡ None
+unfolding head predeclared
+no_integer = refl
+
+-- a record of such fields does not lie flat
+hidden_record : shape (declares (codes "r") [] (bodies.Record (has (codes "x") any ∷ [])) ∷ [])
+    (named (codes "r")) ≡ shapes.Product false (any ∷ [])
+unfolding head predeclared
+hidden_record = refl
 
 -- ---- constructors
 

@@ -73,7 +73,7 @@ module _ {T : Type 0} (shapes : Shapes T) (InQuestion : T → Type 0)
             (held.listed.0, held.listed.1, lawful.transitive held.listed.0 t u held.listed.2 same);
       }
 
-  field_is_held : (o i : ℕ) (t : T) (w : Val) (u : T) → InQuestion t
+  pub field_is_held : (o i : ℕ) (t : T) (w : Val) (u : T) → InQuestion t
       → IsHeld shapes graph pairs (vals.Ref o) t → field_at graph o i ≡ Some w
       → Contains (shapes.needs graph (vals.Ref o) t) (i, u) → IsHeld shapes graph pairs w u
   field_is_held o i t w u in_question held field need =

@@ -19,7 +19,7 @@ predeclared_names =
     ∷ (codes "float", bases.Float) ∷ (codes "int32", bases.Int32) ∷ (codes "int64", bases.Int64)
     ∷ (codes "nativeint", bases.Nativeint) ∷ (codes "floatarray", bases.Floatarray)
     ∷ (codes "list", bases.List) ∷ (codes "option", bases.Option) ∷ (codes "array", bases.Array)
-    ∷ (codes "ref", bases.Ref) ∷ []
+    ∷ (codes "ref", bases.Ref) ∷ (codes "_", bases.Any) ∷ []
 
 abbrev pub Entry : Type 0
 Entry = List ℕ × Predeclared

@@ -3,6 +3,7 @@
 -- fits, what is needed and what is mutable are read off it.
 use Rattle.std.specs.Prelude.{ℕ, suc, ◌==◌, nat_lt, ◌&&◌, not, Bool, true, false, if◌then◌else◌}
 use Rattle.std.specs.Prelude.{IsTrue, IsSome, List, [], ◌∷◌, length, slice_get, find, replicate}
+use Rattle.std.specs.Prelude.{filter}
 use Rattle.std.specs.Prelude.{Option, Some, None, is_some, option_map, option_and_then, ℤ, pos}
 use Rattle.std.specs.Prelude.{negsuc}
 use Rattle.om_model.specs.declared.value.Val.{Val}
@@ -47,6 +48,7 @@ module _ {T : Type 0} where
   fits_int (shapes.Below k) z = is_below k z
   fits_int (shapes.Sum constants blocks) z = is_below constants z
   fits_int (shapes.Poly tags) z = is_bare (tag_with tags z)
+  fits_int shapes.Anything z = true
   fits_int shape z = false
 
   -- `[||]` is the atom 0
@@ -54,6 +56,8 @@ module _ {T : Type 0} where
   fits_atom (shapes.ArrayOf t) tag = tag == 0
   fits_atom shapes.FloatArray tag = tag == 0
   fits_atom shapes.ArrayOfVariable tag = tag == 0
+  fits_atom (shapes.ArrayOfAnything t) tag = tag == 0
+  fits_atom shapes.Anything tag = true
   fits_atom shape tag = false
 
   -- ---- the types of a block's fields, by their numbers, where the block fits
@@ -85,6 +89,9 @@ module _ {T : Type 0} where
       fields_if ((tag == 0) && (length ts == length values)) ts
   block_fields (shapes.ArrayOf t) tag values = fields_if (tag == 0) (replicate (length values) t)
   block_fields (shapes.Poly tags) tag values = if tag == 0 then tag_fields tags values else None
+  block_fields (shapes.ArrayOfAnything t) tag values =
+      fields_if (tag == 0) (replicate (length values) t)
+  block_fields shapes.Anything tag values = Some []
   block_fields shape tag values = None
 
   -- ---- objects without values in them
@@ -94,30 +101,37 @@ module _ {T : Type 0} where
 
   abbrev pub is_bytes : ShapeOf T → Bool
   is_bytes (shapes.Bytes mutable) = true
+  is_bytes shapes.Anything = true
   is_bytes shape = false
 
   abbrev pub is_double : ShapeOf T → Bool
   is_double shapes.Double = true
+  is_double shapes.Anything = true
   is_double shape = false
 
   abbrev pub has_doubles : ShapeOf T → ℕ → Bool
   has_doubles shapes.FloatArray n = true
   has_doubles (shapes.FlatFloats mutable k) n = k == n
+  has_doubles (shapes.ArrayOfAnything t) n = true
+  has_doubles shapes.Anything n = true
   has_doubles shape n = false
 
   abbrev pub is_int32 : ShapeOf T → Bool
   is_int32 shapes.Int32 = true
+  is_int32 shapes.Anything = true
   is_int32 shape = false
 
   abbrev pub is_int64 : ShapeOf T → Bool
   is_int64 shapes.Int64 = true
+  is_int64 shapes.Anything = true
   is_int64 shape = false
 
   abbrev pub is_native : ShapeOf T → Bool
   is_native shapes.Native = true
+  is_native shapes.Anything = true
   is_native shape = false
 
-  -- the fields that the shape asks for in an object, or None where the object does not fit
+  -- the fields for which the shape has types in an object, or None where the object does not fit
   abbrev pub object_fields : ShapeOf T → Obj → Option (List (ℕ × T))
   object_fields shape (objects.Block tag values) = block_fields shape tag values
   object_fields shape (objects.Bytes bytes) = none_if (is_bytes shape)
@@ -148,17 +162,30 @@ module _ {T : Type 0} where
   is_mutable (shapes.FlatFloats mutable n) object = mutable
   is_mutable (shapes.ArrayOf t) object = true
   is_mutable shapes.FloatArray object = true
+  is_mutable (shapes.ArrayOfAnything t) object = true
   is_mutable shape object = false
 
   abbrev pub or_none : Option (List (ℕ × T)) → List (ℕ × T)
   or_none None = []
   or_none (Some needs) = needs
 
--- What shapes of any types say of the values of a graph, where it is said which types are equal.
+  -- ---- what is hidden
+
+  -- whether anything is asked of the values of the shape
+  abbrev pub is_asked : ShapeOf T → Bool
+  is_asked shapes.Anything = false
+  is_asked shape = true
+
+-- the fields of whose values something is asked
+abbrev pub asked_of : {T : Type 0} → (T → ShapeOf T) → List (ℕ × T) → List (ℕ × T)
+asked_of {T} shape fields = filter (λ (field : ℕ × T). is_asked (shape field.1)) fields
+
+-- What shapes of any types say of the values of a graph, where it is said which types are equal. A
+-- field of whose value nothing is asked is not needed.
 abbrev pub shaped : {T : Type 0} → (T → ShapeOf T) → (T → T → Type 0) → Shapes T
 shaped shape Equal = record {
   fits = λ graph v t. IsSome (fields_of graph v (shape t));
-  needs = λ graph v t. or_none (fields_of graph v (shape t));
+  needs = λ graph v t. asked_of shape (or_none (fields_of graph v (shape t)));
   mutable = λ graph o t.
       IsSome (fields_of graph (vals.Ref o) (shape t))
       × IsTrue (is_mutable (shape t) (slice_get graph o));

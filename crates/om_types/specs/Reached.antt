@@ -1,8 +1,9 @@
 -- The types that a type reaches, in the order of their numbers, and where they are too many (this
 -- project's own).
 use Rattle.std.specs.Prelude.{ℕ, ◌<◌, ◌≡◌, ◌⊎◌, List, [], ◌∷◌, ◌++◌, length, Option, Some, None}
-use Rattle.std.specs.Prelude.{slice_get, Contains}
+use Rattle.std.specs.Prelude.{slice_get, Contains, Bool, true, false}
 use Rattle.std.specs.List.{flat_map}
+use Rattle.om_types.specs.declared.decl.Predeclared.TheVariants as bases
 use Rattle.om_types.specs.declared.decl.Decl.{Decl}
 use Rattle.om_types.specs.declared.head.TagOf.{TagOf}
 use Rattle.om_types.specs.declared.head.HeadOf.{HeadOf}
@@ -26,6 +27,7 @@ abbrev pub named_in : {T : Type 0} → ShapeOf T → List T
 named_in {T} (shapes.Sum constants blocks) = flat_map (λ (constr : Constr T). constr.fields) blocks
 named_in (shapes.Product mutable ts) = ts
 named_in (shapes.ArrayOf t) = t ∷ []
+named_in (shapes.ArrayOfAnything t) = t ∷ []
 named_in {T} (shapes.Poly tags) = flat_map (λ (tag : PolyTag T). listed_if tag.arg) tags
 named_in shape = []
 
@@ -40,6 +42,15 @@ parts_of head = []
 -- the types that a shape names, and after them the parts of the head
 abbrev pub reached_from : List Decl → Ty → List Ty
 reached_from decls t = named_in (shape decls t) ++ parts_of (head decls t)
+
+-- whether the head is that of the type `_`
+abbrev pub is_any_head : {T : Type 0} → HeadOf T → Bool
+is_any_head (heads.Predeclared bases.Any ts) = true
+is_any_head head = false
+
+-- none of these types is `_`
+abbrev pub NoneIsHidden : List Decl → List Ty → Type 0
+NoneIsHidden decls types = (t : Ty) → Contains types t → is_any_head (head decls t) ≡ false
 
 -- ---- all steps
 

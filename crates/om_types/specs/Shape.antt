@@ -78,6 +78,7 @@ block mutable types = record { mutable = mutable; fields = types }
 -- the array of a type with this head
 abbrev pub array_of : HeadOf Ty → Ty → ShapeOf Ty
 array_of (heads.Variable name) t = shapes.ArrayOfVariable
+array_of (heads.Predeclared bases.Any ts) t = shapes.ArrayOfAnything t
 array_of head t = if is_float_head head then shapes.FloatArray else shapes.ArrayOf t
 
 -- a list of these, as a type
@@ -97,6 +98,7 @@ predeclared_shape decls bases.Int32 [] = shapes.Int32
 predeclared_shape decls bases.Int64 [] = shapes.Int64
 predeclared_shape decls bases.Nativeint [] = shapes.Native
 predeclared_shape decls bases.Floatarray [] = shapes.FloatArray
+predeclared_shape decls bases.Any [] = shapes.Anything
 predeclared_shape decls bases.List (t ∷ []) = shapes.Sum 1 (block false (t ∷ list_of t ∷ []) ∷ [])
 predeclared_shape decls bases.Option (t ∷ []) = shapes.Sum 1 (block false (t ∷ []) ∷ [])
 predeclared_shape decls bases.Ref (t ∷ []) = shapes.Sum 0 (block true (t ∷ []) ∷ [])

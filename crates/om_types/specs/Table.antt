@@ -1,6 +1,9 @@
 -- A table of types: types by their numbers, with shapes that name numbers, and classes of equal
 -- ones (this project's own).
-use Rattle.std.specs.Prelude.{ℕ, ◌≡◌, List, length, map, Option, Some, None, option_map, slice_get}
+use Rattle.std.specs.Prelude.{ℕ, ◌≡◌, Bool, List, length, map, Option, Some, None, option_map}
+use Rattle.std.specs.Prelude.{slice_get}
+use Rattle.om_model.specs.declared.value.Val.{Val}
+use Rattle.om_model.specs.declared.value.Obj.{Obj}
 use Rattle.om_types.specs.Shapes.{Shapes}
 use Rattle.om_types.specs.declared.decl.Decl.{Decl}
 use Rattle.om_types.specs.declared.head.TagOf.{TagOf}
@@ -13,7 +16,7 @@ use Rattle.om_types.specs.declared.shape.ShapeOf.TheVariants as shapes
 use Rattle.om_types.specs.Ty.{Ty}
 use Rattle.om_types.specs.Head.{head}
 use Rattle.om_types.specs.Shape.{shape}
-use Rattle.om_types.specs.Fitting.{shaped}
+use Rattle.om_types.specs.Fitting.{fields_of, or_none, is_asked, shaped}
 use Rattle.om_types.specs.Equal.{Equal}
 
 -- ---- shapes with other parts
@@ -41,6 +44,8 @@ with_parts f shapes.FloatArray = shapes.FloatArray
 with_parts f (shapes.Poly tags) = shapes.Poly (map (tag_with_parts f) tags)
 with_parts f shapes.Variable = shapes.Variable
 with_parts f shapes.ArrayOfVariable = shapes.ArrayOfVariable
+with_parts f shapes.Anything = shapes.Anything
+with_parts f (shapes.ArrayOfAnything t) = shapes.ArrayOfAnything (f t)
 
 -- ---- heads with other parts
 
@@ -87,6 +92,14 @@ abbrev pub table_shapes : Table → Shapes ℕ
 table_shapes table =
     shaped (λ i. node_or_none (slice_get table.nodes i))
     (λ i j. slice_get table.classes i ≡ slice_get table.classes j)
+
+-- the fields for which the type of a number has types in a value, by their places
+abbrev pub typed_fields : Table → List Obj → Val → ℕ → List (ℕ × ℕ)
+typed_fields table graph v i = or_none (fields_of graph v (node_or_none (slice_get table.nodes i)))
+
+-- whether something is asked of the values of the type of a number; only then is a field needed
+abbrev pub is_asked_in : Table → ℕ → Bool
+is_asked_in table i = is_asked (node_or_none (slice_get table.nodes i))
 
 -- The table of these types: the shapes are theirs, and exactly equal ones have one class.
 pub record IsTableOf (decls : List Decl) (types : List Ty) (table : Table) : Type 0 where

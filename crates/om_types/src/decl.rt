@@ -21,6 +21,8 @@ pub enum Predeclared {
     Option,
     Array,
     Ref,
+    /// The type `_`, of which nothing is said.
+    Any,
 }
 
 /// A field of a record.

@@ -37,4 +37,8 @@ pub enum ShapeOf<T> {
     Poly(List<PolyTag<T>>),
     Variable,
     ArrayOfVariable,
+    /// All values, of which nothing is asked.
+    Anything,
+    /// An array of such values, which may lie flat as doubles.
+    ArrayOfAnything(T),
 }

@@ -19,6 +19,7 @@ use Rattle.om_types.specs.declared.shape.PolyTag.{PolyTag}
 use Rattle.om_types.specs.declared.shape.ShapeOf.{ShapeOf}
 use Rattle.om_types.specs.declared.shape.ShapeOf.TheVariants as shapes
 use Rattle.om_types.specs.Fitting.{numbered_from, fields_if, constr_fields, argument_field, tag_with, tag_fields, block_fields, object_fields, none_if, is_bytes, is_double, has_doubles, is_int32, is_int64, is_native, or_none}
+use Rattle.om_types.proofs.AskedLemmas.{few_asked}
 use Rattle.om_typing.specs.StepLaws.{AreApart, key_of, AreEntries, steps_of}
 
 -- ---- sums over lists whose elements are apart
@@ -239,6 +240,7 @@ few_of_block (shapes.Product mutable ts) tag values =
     few_if ((tag == 0) && (length ts == length values)) ts (length values) (λ both.
     omega (arith, eqb-true (length ts) (length values) (and_parts (tag == 0) (length ts == length values) both).1))
 few_of_block (shapes.ArrayOf t) tag values = few_if (tag == 0) (replicate (length values) t) (length values) (λ is. omega (arith, length-replicate (length values) t))
+few_of_block (shapes.ArrayOfAnything t) tag values = few_if (tag == 0) (replicate (length values) t) (length values) (λ is. omega (arith, length-replicate (length values) t))
 few_of_block (shapes.Poly tags) tag values = few_where (tag == 0) (tag_fields tags values) (length values) (few_of_tags tags values)
 few_of_block shape tag values = omega arith
 
@@ -264,7 +266,9 @@ module _ (table : Table) (graph : List Obj) (entries : List (ℕ × ℕ)) (all :
   weighed entry among =
       let object = slice_get_there graph entry.0 (all.objects entry.0 entry.1 among) in
       let few = few_of_object (node_or_none (slice_get table.nodes entry.1)) object.0 in
-      rw object.1 (omega (arith, few))
+      let asked = few_asked (λ i. node_or_none (slice_get table.nodes i))
+      (or_none (object_fields (node_or_none (slice_get table.nodes entry.1)) object.0)) in
+      rw object.1 (omega (arith, few, asked))
 
   -- its key is among all objects at all classes
   among_all : (key : ℕ × Option ℕ) → Contains (map (key_of table) entries) key → Contains (at_classes graph classes) key

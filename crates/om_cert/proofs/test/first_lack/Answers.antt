@@ -5,7 +5,7 @@ use Rattle.om_type_table.specs.Made.{table_of}
 use Rattle.om_heap.specs.Heap.{field_at}
 use Rattle.om_fits.specs.Needs.{needs_in}
 use Rattle.om_scan.proofs.FieldLemmas.{word_inside, field_word, field_valid}
-use Rattle.om_scan.proofs.NeedLemmas.{need_field, need_node, some_fields}
+use Rattle.om_scan.proofs.NeedLemmas.{need_field, need_node, some_fields, shape_asked, shape_hidden}
 use Rattle.om_cert.proofs.TestLemmas.{held_more, all_held, lack_is}
 use Rattle.om_cert.proofs.test.first_lack.Goals as goal
 
@@ -54,6 +54,7 @@ returns-then-not-is_held c =
     (field_word c.args.heap.now c.args._object c.get-field.result.0 c.requires.object short c.fields_at-words.result.now _ (c.fields_at-words.ensures.words c.args._object c.requires.object c.requires.word) refl) in
     lack_is (table_of c.args.table.now) c.args.heap.now c.args.pairs.now c.args._object c.args._ty c.loop-k.k c.get-field.result.0 c.get-field.result.1
     (needs_in c.args.needs) c.requires.needs c.requires.object c.get-field.ensures c.loop-k.invariant
+    (shape_asked c.args.table.now.nodes c.get-field.result.1 c.shape.result.now c.shape.ensures (sym c.is_asked.ensures ∙ c.if-not-is_asked.false))
     (λ held. false≢true (sym c.if-not-is_held.true ∙ tells.1 held))
 
 pub loop-k-preserved : goal.loop-k-preserved
@@ -65,15 +66,29 @@ loop-k-preserved c =
     (field_word c.args.heap.now c.args._object c.get-field.result.0 c.requires.object short c.fields_at-words.result.now _ (c.fields_at-words.ensures.words c.args._object c.requires.object c.requires.word) refl) in
     held_more (table_of c.args.table.now) c.args.heap.now c.args.pairs.now c.args._object c.args._ty c.loop-k.k c.get-field.result.0 c.get-field.result.1
     (needs_in c.args.needs) c.requires.needs c.requires.object c.get-field.ensures c.loop-k.invariant
-    (tells.0 c.if-not-is_held.false)
+    (λ asked. tells.0 c.if-not-is_held.false)
 
 pub returns-then-len-eq0 : goal.returns-then-len-eq0
 returns-then-len-eq0 c =
     let none : length (needs_in c.args.needs) ≤ 0 = omega (arith, c.len.ensures, c.if-len-eq0.true) in
     all_held (table_of c.args.table.now) c.args.heap.now c.args.pairs.now c.args._object c.args._ty 0 (needs_in c.args.needs) c.requires.needs none
-    (λ j i a less at_j. absurd (omega (arith, less)))
+    (λ j i a less at_j asked. absurd (omega (arith, less)))
 
 pub returns : goal.returns
 returns c =
     let many : length (needs_in c.args.needs) ≤ c.loop-k.k = omega (arith, c.len-k-end.ensures, c.loop-k.auto.k-end, c.loop-k-test.false) in
     all_held (table_of c.args.table.now) c.args.heap.now c.args.pairs.now c.args._object c.args._ty c.loop-k.k (needs_in c.args.needs) c.requires.needs many c.loop-k.invariant
+
+-- ---- a field that is hidden
+
+pub shape-requires : goal.shape-requires
+shape-requires c =
+    need_node (table_of c.args.table.now) c.args.heap.now c.requires.lawful c.args._object c.args._ty c.loop-k.k c.get-field.result.0 c.get-field.result.1 c.requires.ty
+    (ap (λ needs. slice_get needs c.loop-k.k) c.requires.needs ∙ c.get-field.ensures)
+
+pub loop-k-preserved-then-not-is_asked : goal.loop-k-preserved-then-not-is_asked
+loop-k-preserved-then-not-is_asked c =
+    let hidden = shape_hidden c.args.table.now.nodes c.get-field.result.1 c.shape.result.now c.shape.ensures (sym c.is_asked.ensures ∙ c.if-not-is_asked.true) in
+    held_more (table_of c.args.table.now) c.args.heap.now c.args.pairs.now c.args._object c.args._ty c.loop-k.k c.get-field.result.0 c.get-field.result.1
+    (needs_in c.args.needs) c.requires.needs c.requires.object c.get-field.ensures c.loop-k.invariant
+    (λ asked. absurd (false≢true (sym hidden ∙ asked)))

@@ -2,12 +2,14 @@ use Rattle.std.proofs.Common.{◌+◌, ◌<◌, ◌≡◌, ◌∙◌, length, re
 use Rattle.std.specs.Prelude.{slice_get}
 use Rattle.om_type_table.specs.Made.{table_of}
 use Rattle.om_check.specs.declared.search.Need.{Need}
-use Rattle.om_check.specs.Search.{TestsNeed, visit_needs}
+use Rattle.om_check.specs.Search.{TestsNeed, visit_fields}
 use Rattle.om_model.proofs.Options.{slice_get-Contains}
 use Rattle.om_scan.specs.Taken.{size_of}
 use Rattle.om_check.proofs.SeenLemmas.{reach_more, few_rest, need_few}
-use Rattle.om_check.proofs.VisitLemmas.{IsNeedOf, visit_within, visit_fits, types_within, testing_first, testing_more, testing_until, testing_all}
-use Rattle.om_scan.proofs.NeedLemmas.{increase, need_field, need_node, some_fields}
+use Rattle.om_check.proofs.VisitLemmas.{IsNeedOf, visit_within, visit_fits, types_within, testing_first, testing_more, testing_hidden, testing_until, testing_all}
+use Rattle.om_types.proofs.AskedLemmas.{typed_needed}
+use Rattle.om_model.specs.declared.value.Val.TheVariants as vals
+use Rattle.om_scan.proofs.NeedLemmas.{increase, need_field, need_node, some_fields, shape_asked, shape_hidden}
 use Rattle.om_check.specs.Visits.{listed}
 use Rattle.om_scan.proofs.FieldLemmas.{word_inside, field_word}
 use Rattle.om_check.proofs.search.test_needs.Goals as goal
@@ -53,9 +55,10 @@ returns-then-not-branch-clause-tests c =
     let v = c.args.visit in
     let at_n = c.requires.visit in
     let are = c.requires.needs in
+    let asked = shape_asked c.args.table.now.nodes c.get-step.result.1 c.shape.result.now c.shape.ensures (sym c.is_asked.ensures ∙ c.if-not-is_asked.false) in
     let need : Need = record { parent = c.args.n; object = c.args.visit.object; step = c.get-step.result.0; ty = c.get-step.result.1 } in
     let is : IsNeedOf (table_of c.args.table.now) c.args.heap.now (listed c.args.visits.now) c.args.n c.loop-k.k need =
-    record { visit = v; at = at_n; parent = refl; object = refl; needed = ap (λ needs. slice_get needs c.loop-k.k) are ∙ c.get-step.ensures } in
+    record { visit = v; at = at_n; parent = refl; object = refl; needed = ap (λ needs. slice_get needs c.loop-k.k) are ∙ c.get-step.ensures; asked = asked } in
     testing_until (table_of c.args.table.now) c.args.heap.now all (listed c.loop-k.visits) (listed c.take_need.new.visits) c.args.n c.loop-k.k need c.requires.lawful c.loop-k.invariant.testing is
     (subst (TestsNeed (table_of c.args.table.now) c.args.heap.now (listed c.loop-k.visits) (listed c.take_need.new.visits) need) c.if-not-branch.true c.in_ok-take_need.ensures.tests)
 
@@ -67,9 +70,10 @@ loop-k-preserved c =
     let within = visit_within (table_of c.args.table.now) c.args.heap.now all c.args.n 0 c.args.n v c.requires.explored at_n in
     let are = c.requires.needs in
     let needed = ap (λ needs. slice_get needs c.loop-k.k) are ∙ c.get-step.ensures in
+    let asked = shape_asked c.args.table.now.nodes c.get-step.result.1 c.shape.result.now c.shape.ensures (sym c.is_asked.ensures ∙ c.if-not-is_asked.false) in
     let need : Need = record { parent = c.args.n; object = c.args.visit.object; step = c.get-step.result.0; ty = c.get-step.result.1 } in
     let is : IsNeedOf (table_of c.args.table.now) c.args.heap.now (listed c.args.visits.now) c.args.n c.loop-k.k need =
-    record { visit = v; at = at_n; parent = refl; object = refl; needed = needed } in
+    record { visit = v; at = at_n; parent = refl; object = refl; needed = needed; asked = asked } in
     let node = need_node (table_of c.args.table.now) c.args.heap.now c.requires.lawful v.object v.ty c.loop-k.k c.get-step.result.0 c.get-step.result.1 within.1 needed in
     let short = need_field (table_of c.args.table.now) c.args.heap.now v.object v.ty c.loop-k.k c.get-step.result.0 c.get-step.result.1 within.0 needed in
     let inside = word_inside c.args.heap.now v.object c.get-step.result.0 c.fields-words.result.now c.fields-words.ensures.words short in
@@ -97,7 +101,7 @@ returns-clause-tests c =
 
 pub returns-then-len-eq0-clause-tests : goal.returns-then-len-eq0-clause-tests
 returns-then-len-eq0-clause-tests c =
-    let none : length (visit_needs (table_of c.args.table.now) c.args.heap.now c.args.visit) ≡ 0 = ap length c.requires.needs ∙ sym c.len.ensures ∙ c.if-len-eq0.true in
+    let none : length (visit_fields (table_of c.args.table.now) c.args.heap.now c.args.visit) ≡ 0 = ap length c.requires.needs ∙ sym c.len.ensures ∙ c.if-len-eq0.true in
     testing_all (table_of c.args.table.now) c.args.heap.now (listed c.args.visits.now) (listed c.args.visits.now) c.args.n 0 c.args.visit
     (testing_first (table_of c.args.table.now) c.args.heap.now (listed c.args.visits.now) c.args.n c.requires.explored) c.requires.visit none
 
@@ -131,7 +135,9 @@ pub take_need-requires-clause-seen : goal.take_need-requires-clause-seen
 take_need-requires-clause-seen c =
     let at_k = ap (λ needs. slice_get needs c.loop-k.k) c.requires.needs ∙ c.get-step.ensures in
     λ less. c.requires.seen c.get-step.result.0 c.get-step.result.1 less
-    (slice_get-Contains (visit_needs (table_of c.args.table.now) c.args.heap.now c.args.visit) c.loop-k.k (c.get-step.result.0, c.get-step.result.1) at_k)
+    (typed_needed (table_of c.args.table.now) c.args.heap.now (vals.Ref c.args.visit.object) c.args.visit.ty c.get-step.result.0 c.get-step.result.1
+    (slice_get-Contains (visit_fields (table_of c.args.table.now) c.args.heap.now c.args.visit) c.loop-k.k (c.get-step.result.0, c.get-step.result.1) at_k)
+    (shape_asked c.args.table.now.nodes c.get-step.result.1 c.shape.result.now c.shape.ensures (sym c.is_asked.ensures ∙ c.if-not-is_asked.false)))
 
 pub loop-k-init : goal.loop-k-init
 loop-k-init c = record {
@@ -168,3 +174,26 @@ pub returns-clause-steps : goal.returns-clause-steps
 returns-clause-steps c =
     few_rest (size_of c.args.heap.now c.args.visit.object) c.loop-k.invariant.reached c.args.seen c.args.steps.now c.loop-k.steps
     c.loop-k.invariant.inside c.loop-k.invariant.small c.loop-k.invariant.few
+
+-- ---- a field that is hidden
+
+pub shape-requires : goal.shape-requires
+shape-requires c =
+    need_node (table_of c.args.table.now) c.args.heap.now c.requires.lawful c.args.visit.object c.args.visit.ty c.loop-k.k c.get-step.result.0 c.get-step.result.1 (visit_within (table_of c.args.table.now) c.args.heap.now (listed c.args.visits.now) c.args.n 0 c.args.n c.args.visit c.requires.explored c.requires.visit).1 (ap (λ needs. slice_get needs c.loop-k.k)
+    c.requires.needs
+    ∙ c.get-step.ensures)
+
+pub loop-k-preserved-then-not-is_asked : goal.loop-k-preserved-then-not-is_asked
+loop-k-preserved-then-not-is_asked c =
+    let needed = ap (λ needs. slice_get needs c.loop-k.k) c.requires.needs ∙ c.get-step.ensures in
+    let hidden = shape_hidden c.args.table.now.nodes c.get-step.result.1 c.shape.result.now c.shape.ensures (sym c.is_asked.ensures ∙ c.if-not-is_asked.true) in
+    let known = c.loop-k.invariant in
+    record {
+      linked = known.linked;
+      testing = testing_hidden (table_of c.args.table.now) c.args.heap.now (listed c.args.visits.now) (listed c.loop-k.visits) c.args.n c.loop-k.k c.get-step.result.0 c.get-step.result.1 c.args.visit known.testing c.requires.visit needed hidden;
+      reached = known.reached;
+      inside = known.inside;
+      small = known.small;
+      later = λ j l b less at_j. known.later j l b (omega (arith, less)) at_j;
+      few = known.few;
+    }

@@ -111,5 +111,5 @@ returns c =
             typed = at_first;
             other = λ equal. c.if-class.false (same_Some c.class.result c.class-2.result (sym c.class.ensures ∙ equal ∙ c.class-2.ensures));
           })
-          (need_path t graph (vals.Ref 0) c.args._object c.args._ty c.args._place c.args._field c.args.needed p c.requires.object c.requires.path c.requires.need same));
+          (need_path t graph (vals.Ref 0) c.args._object c.args._ty c.args._place c.args._field c.args.needed p c.requires.object c.requires.path c.requires.need c.requires.asked same));
     }

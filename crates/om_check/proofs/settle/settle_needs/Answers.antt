@@ -1,12 +1,12 @@
-use Rattle.std.proofs.Common.{◌∙◌, refl, ap, subst, arith}
+use Rattle.std.proofs.Common.{◌∙◌, refl, sym, ap, subst, arith}
 use Rattle.std.specs.Bool.{OnTrue}
 use Rattle.std.specs.Prelude.{slice_get}
 use Rattle.om_type_table.specs.Made.{table_of}
 use Rattle.om_heap.specs.Heap.{field_at}
 use Rattle.om_scan.proofs.FieldLemmas.{word_inside, field_word}
-use Rattle.om_scan.proofs.NeedLemmas.{need_field}
+use Rattle.om_scan.proofs.NeedLemmas.{need_field, need_node, shape_asked, shape_hidden}
 use Rattle.om_check.specs.Settled.{Finds}
-use Rattle.om_check.proofs.SettleLemmas.{finds_more}
+use Rattle.om_check.proofs.SettleLemmas.{finds_more, finds_hidden}
 use Rattle.om_check.proofs.settle.settle_needs.Goals as goal
 
 pub offset_bounds-words-field : goal.offset_bounds-words-field
@@ -42,4 +42,21 @@ loop-k-preserved c =
     let a = c.get-field.result.1 in
     let at_k = ap (λ needs. slice_get needs c.loop-k.k) c.requires.needs ∙ c.get-field.ensures in
     let finds = subst (λ test. OnTrue test (Finds t graph c.args.types.now c.loop-k.seconds c.settle_need.new.seconds (field_at graph c.args.object i) a)) c.if-not-branch.false c.in_ok-settle_need.ensures.finds in
-    finds_more t graph c.args.types.now c.args.seconds.now c.loop-k.seconds c.settle_need.new.seconds c.args.object c.args.ty c.loop-k.k i a c.loop-k.invariant finds at_k
+    finds_more t graph c.args.types.now c.args.seconds.now c.loop-k.seconds c.settle_need.new.seconds c.args.object c.args.ty c.loop-k.k i a c.loop-k.invariant finds.over finds.extends (λ asked. finds.found) at_k
+
+-- ---- a field that is hidden
+
+pub shape-requires : goal.shape-requires
+shape-requires c =
+    let at_k = ap (λ needs. slice_get needs c.loop-k.k) c.requires.needs ∙ c.get-field.ensures in
+    need_node (table_of c.args.table.now) c.args.heap.now c.requires.lawful c.args.object c.args.ty c.loop-k.k c.get-field.result.0 c.get-field.result.1 c.requires.node at_k
+
+pub settle_need-requires-clause-asked : goal.settle_need-requires-clause-asked
+settle_need-requires-clause-asked c =
+    shape_asked c.args.table.now.nodes c.get-field.result.1 c.shape.result.now c.shape.ensures (sym c.is_asked.ensures ∙ c.if-not-is_asked.false)
+
+pub loop-k-preserved-then-not-is_asked : goal.loop-k-preserved-then-not-is_asked
+loop-k-preserved-then-not-is_asked c =
+    let at_k = ap (λ needs. slice_get needs c.loop-k.k) c.requires.needs ∙ c.get-field.ensures in
+    finds_hidden (table_of c.args.table.now) c.args.heap.now c.args.types.now c.args.seconds.now c.loop-k.seconds c.args.object c.args.ty c.loop-k.k c.get-field.result.0 c.get-field.result.1 c.loop-k.invariant
+    (shape_hidden c.args.table.now.nodes c.get-field.result.1 c.shape.result.now c.shape.ensures (sym c.is_asked.ensures ∙ c.if-not-is_asked.true)) at_k

@@ -10,7 +10,7 @@ use Rattle.om_types.specs.Table.{node_or_none}
 use Rattle.om_type_table.specs.Made.{table_of}
 use Rattle.om_scan.specs.Seconds.{noted_in}
 use Rattle.om_scan.specs.Taken.{size_of}
-use Rattle.om_scan.specs.Scanned.{object_needs}
+use Rattle.om_scan.specs.Scanned.{object_typed}
 use Rattle.om_scan.proofs.PlaceLemmas.{read_at}
 use Rattle.om_scan.proofs.NeedLemmas.{needs_are, needs_few}
 use Rattle.om_check.specs.Settled.{FindsNeeds}
@@ -117,7 +117,7 @@ returns-clause-settles c =
     let graph = c.args.heap.now in
     let o = c.get-object.result.0 in
     let ty = c.get-object.result.1 in
-    let finds = subst (λ test. OnTrue test (FindsNeeds t graph c.args.types.now c.args.seconds.now c.settle_needs.new.seconds o ty (length (object_needs t graph o ty)))) c.if-not-branch.false c.in_ok-settle_needs.ensures.finds in
+    let finds = subst (λ test. OnTrue test (FindsNeeds t graph c.args.types.now c.args.seconds.now c.settle_needs.new.seconds o ty (length (object_typed t graph o ty)))) c.if-not-branch.false c.in_ok-settle_needs.ensures.finds in
     settling_more t graph c.args.types.now c.args.seconds.now c.settle_needs.new.seconds c.args.n o ty c.requires.settling c.get-object.ensures
     ((c.fits_type.ensures (vals.Ref o) own.inside c.word-word.ensures).0 c.if-not-fits_type.false) finds
     (λ mutable. false≢true (sym c.if-is_mutable.false ∙ c.is_mutable.ensures ∙ sym (ap (λ n. is_mutable (node_or_none n) (slice_get graph o)) c.shape.ensures) ∙ mutable.1))

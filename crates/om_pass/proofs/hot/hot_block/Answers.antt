@@ -1,7 +1,7 @@
 use Rattle.std.proofs.Common.{rules, ◌≡◌, ◌+◌, ◌∙◌, ◌++◌, ap, sym, ◌-◌}
 use Rattle.std.specs.Prelude.{option_map}
 use Rattle.om_type_table.specs.Made.{table_of}
-use Rattle.om_pass_law.specs.Asked.{block_needs}
+use Rattle.om_pass_law.specs.Asked.{shape_asks}
 use Rattle.om_pass.specs.Places.{open_needs, waiting_needs}
 use Rattle.om_pass.specs.Hot.{held}
 use Rattle.om_pass.proofs.StateLemmas.{took_block}
@@ -9,14 +9,14 @@ use Rattle.om_pass.proofs.hot.hot_block.Goals as goal
 
 pub returns : goal.returns
 returns c =
-    let inside = c.in-Some-block_places.inside in
+    let inside = c.in-Some-places_at.inside in
     let kept : waiting_needs c.keep_reserved.new.waiting.items ≡ open_needs c.args.others ++ waiting_needs c.args.waiting.now.items = search rules in
     let w32 : (c.args.words.now.w32 - (1 + c.args.size)) + (1 + c.args.size) ≡ c.args.words.now.w32 = search rules in
     let w64 : (c.args.words.now.w64 - (1 + c.args.size)) + (1 + c.args.size) ≡ c.args.words.now.w64 = search rules in
     took_block (table_of c.args.table.now) (held c.args.others c.args.waiting.now c.args.types.now c.args.words.now)
     (held inside c.keep_reserved.new.waiting c.push_reserved.new.self record { w32 = c.args.words.now.w32 - (1 + c.args.size); w64 = c.args.words.now.w64 - (1 + c.args.size) })
     c.args.ty c.args.tag c.args.size (open_needs inside)
-    (ap (λ s. block_needs s c.args.tag c.args.size) (sym c.in-Some.ensures) ∙ sym c.block_places.ensures ∙ ap (option_map open_needs) c.in-Some-block_places.is)
+    (ap (λ s. shape_asks s c.args.ty c.args.tag c.args.size) (sym c.in-Some.ensures) ∙ sym c.places_at.ensures ∙ ap (option_map open_needs) c.in-Some-places_at.is)
     c.push_reserved.ensures.items
     (ap (λ needs. open_needs inside ++ needs) kept)
     w32 w64

@@ -1,11 +1,11 @@
-use Rattle.std.proofs.Common.{rules, ◌≡◌, ◌<◌, pos, [], arith}
+use Rattle.std.proofs.Common.{rules, ◌≡◌, ◌<◌, ◌≤◌, length, pos, [], arith}
 use Rattle.std.specs.Prelude.{IsTrue}
 use Rattle.om_model.specs.Bytes.{number, signed}
 use Rattle.om_model.specs.Graph.{IsInteger}
 use Rattle.om_model.proofs.Numbers.{are_bytes}
 use Rattle.om_types.specs.Fitting.{fits_int}
 use Rattle.om_type_table.specs.Made.{table_of}
-use Rattle.om_pass_law.specs.Asked.{of_type, shape_at, IsBack}
+use Rattle.om_pass_law.specs.Asked.{of_type, shape_at, IsBackAt}
 use Rattle.om_pass.specs.Hot.{held}
 use Rattle.om_pass.proofs.StateLemmas.{took_integer, took_shared}
 use Rattle.om_pass.proofs.PieceLemmas.{at_small_int, at_small_string, at_int, at_shared, at_str, at_double}
@@ -37,10 +37,10 @@ returns-then-is_hot_int-2 c =
 pub returns-then-is_hot_back : goal.returns-then-is_hot_back
 returns-then-is_hot_back c =
     let some : 0 < c.args.stated = search rules in
-    let back : IsBack [] (table_of c.args.table.now) c.args.types.now.items c.args.ty (number c.args.piece.now) = search rules in
+    let back : (1 ≤ number c.args.piece.now) × (number c.args.piece.now ≤ length c.args.types.now.items) × IsBackAt [] (table_of c.args.table.now) c.args.types.now.items c.args.ty (number c.args.piece.now) = search rules in
     at_shared (table_of c.args.table.now) c.args.stated (held c.args.others c.args.waiting.now c.args.types.now c.args.words.now) (held c.args.others c.args.waiting.now c.args.types.now c.args.words.now) (of_type c.args.ty) c.args.kind c.args.piece.now
     c.requires.known (are_bytes c.args.piece.now c.type_inv.piece) c.requires.whole
-    c.in-Shared.field-0 c.in-Shared.is some back.some back.few (took_shared (table_of c.args.table.now) (held c.args.others c.args.waiting.now c.args.types.now c.args.words.now) c.args.ty (number c.args.piece.now) back)
+    c.in-Shared.field-0 c.in-Shared.is some back.0 back.1 (took_shared (table_of c.args.table.now) (held c.args.others c.args.waiting.now c.args.types.now c.args.words.now) c.args.ty (number c.args.piece.now) back.2)
 
 pub returns-then-hot_double : goal.returns-then-hot_double
 returns-then-hot_double c =

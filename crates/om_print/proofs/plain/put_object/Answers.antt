@@ -18,7 +18,7 @@ returns-in_default c =
       put = put_goes table graph _ c.args.walk.now.order c.args.text.now.items c.put_leaf.new.text.items (steps.Leaf c.args.o c.args.at) _
           (leaf_goes table graph c.args.walk.now _ c.args.o c.args.at c.requires.walk c.requires.inside c.requires.typed.number c.requires.unmet
           (record { value = c.requires.none; blocks = refl; marks = refl; order = c.in_ok-push.ensures })
-          (λ tag values is. c.in_default.not-Block tag (length values) (c.kind_at.ensures c.args.o c.requires.inside c.requires.word ∙ ap kind_of is)))
+          (λ tag values is. c.in_default.not-Block tag (length values) (c.kind_at.ensures c.args.o c.requires.inside c.requires.word ∙ ap kind_of is)) c.requires.asked)
           refl
           (one_text c.args.text.now.items c.put_leaf.new.text.items _ c.in_ok-put_leaf.ensures);
     }
@@ -34,6 +34,6 @@ returns-clause-put c =
     (opening_goes table graph walk (record { value = walk.value; stack = walk.stack; marks = with_item walk.marks c.args.o true; order = c.push.new.self })
     _ opened.block c.args.o c.args.at c.in-Block.tag c.requires.walk c.requires.inside c.requires.unmet
     (record { value = c.requires.none; blocks = refl; marks = refl; order = c.in_ok-push.ensures })
-    of.0 opened.begun c.requires.none refl refl opened.stack)
+    of.0 opened.begun c.requires.none refl refl opened.stack c.requires.asked)
     refl
     (one_text c.args.text.now.items c.put_block.new.text.items (frame_in opened.block.frame).opening opened.put)

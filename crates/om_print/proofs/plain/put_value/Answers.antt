@@ -1,13 +1,15 @@
-use Rattle.std.proofs.Common.{◌≡◌, ◌∙◌, ◌++◌, ap, sym, subst, refl}
+use Rattle.std.proofs.Common.{false, ◌≡◌, ◌∙◌, ◌++◌, ap, sym, subst, refl, arith, rules}
+use Rattle.std.proofs.lemmas.Grind.{common_steps}
+use Rattle.om_types.specs.Fitting.{is_asked}
 use Rattle.om_model.specs.Graph.{IsValue}
 use Rattle.om_print.proofs.TypedLemmas.{integer_kept}
-use Rattle.std.specs.Prelude.{codes, unwrap_or}
+use Rattle.std.specs.Prelude.{IsTrue, codes, unwrap_or}
 use Rattle.om_types.specs.Names.{no_names}
 use Rattle.om_types.specs.Table.{node_or_none}
 use Rattle.om_leaves.specs.Frames.{int_text}
 use Rattle.om_show.specs.Tables.{shape_in, names_in}
 use Rattle.om_print.specs.declared.walk.Step.TheVariants as steps
-use Rattle.om_print.proofs.WalkLemmas.{integer_goes, atom_goes}
+use Rattle.om_print.proofs.WalkLemmas.{integer_goes, atom_goes, hidden_goes}
 use Rattle.om_print.proofs.PlainLemmas.{one_text, put_goes}
 use Rattle.om_print.proofs.plain.put_value.Goals as goal
 
@@ -17,17 +19,27 @@ returns-in_ok-put_int_at-in-Int-clause-put c =
     let graph = c.args.heap.now in
     let z = c.in-Int.z in
     let at = c.args.at in
+    let asked : IsTrue (is_asked (shape_in table at)) = first_of (search rules, grind (arith, common_steps)) in
     let kept = integer_kept z (subst (IsValue _) c.in-Int.is c.requires.value) in
-    let shown : int_text (shape_in table at) (names_in table at) z ≡ int_text c.shape.result.now c.names.result.now z =
-    ap (λ s. int_text s (names_in table at) z) (ap node_or_none c.shape.ensures) ∙ ap (λ n. int_text c.shape.result.now n z) (ap (λ n. unwrap_or n no_names) c.names.ensures) in
+    let shown : int_text (shape_in table at) (names_in table at) z ≡ int_text c.shape-in-Int.result.now c.names.result.now z =
+    ap (λ s. int_text s (names_in table at) z) (ap node_or_none c.shape-in-Int.ensures) ∙ ap (λ n. int_text c.shape-in-Int.result.now n z) (ap (λ n. unwrap_or n no_names) c.names.ensures) in
     put_goes table graph _ c.args.walk.now.order c.args.text.now.items c.put_int_at.new.text.items (steps.Integer z at) c.args.walk.now
-    (integer_goes table graph c.args.walk.now c.args.v z at c.in-Int.is c.requires.walk c.requires.none c.requires.typed)
+    (integer_goes table graph c.args.walk.now c.args.v z at c.in-Int.is c.requires.walk c.requires.none c.requires.typed asked)
     refl
-    (one_text c.args.text.now.items c.put_int_at.new.text.items (int_text (shape_in table at) (names_in table at) z) (c.in_ok-put_int_at-in-Int.ensures ∙ ap (λ x. c.args.text.now.items ++ int_text c.shape.result.now c.names.result.now x) kept ∙ ap (λ t. c.args.text.now.items ++ t) (sym shown)))
+    (one_text c.args.text.now.items c.put_int_at.new.text.items (int_text (shape_in table at) (names_in table at) z) (c.in_ok-put_int_at-in-Int.ensures ∙ ap (λ x. c.args.text.now.items ++ int_text c.shape-in-Int.result.now c.names.result.now x) kept ∙ ap (λ t. c.args.text.now.items ++ t) (sym shown)))
 
 pub returns-in_ok-put_few-in-Atom-clause-put : goal.returns-in_ok-put_few-in-Atom-clause-put
 returns-in_ok-put_few-in-Atom-clause-put c =
-    put_goes c.args.table.now c.args.heap.now _ c.args.walk.now.order c.args.text.now.items c.put_few.new.text.items steps.Empty c.args.walk.now
-    (atom_goes c.args.table.now c.args.heap.now c.args.walk.now c.args.v c.in-Atom.field-0 c.args.at c.in-Atom.is c.requires.walk c.requires.none)
+    let asked : IsTrue (is_asked (shape_in c.args.table.now c.args.at)) = first_of (search rules, grind (arith, common_steps)) in
+    put_goes c.args.table.now c.args.heap.now _ c.args.walk.now.order c.args.text.now.items c.put_few-in-Atom.new.text.items steps.Empty c.args.walk.now
+    (atom_goes c.args.table.now c.args.heap.now c.args.walk.now c.args.v c.in-Atom.field-0 c.args.at c.in-Atom.is c.requires.walk c.requires.none asked)
     refl
-    (one_text c.args.text.now.items c.put_few.new.text.items (codes "[||]") c.in_ok-put_few-in-Atom.ensures)
+    (one_text c.args.text.now.items c.put_few-in-Atom.new.text.items (codes "[||]") c.in_ok-put_few-in-Atom.ensures)
+
+pub returns-then-not-is_asked-clause-put : goal.returns-then-not-is_asked-clause-put
+returns-then-not-is_asked-clause-put c =
+    let hidden : is_asked (shape_in c.args.table.now c.args.at) ≡ false = first_of (search rules, grind (arith, common_steps)) in
+    put_goes c.args.table.now c.args.heap.now _ c.args.walk.now.order c.args.text.now.items c.put_few.new.text.items steps.Hidden c.args.walk.now
+    (hidden_goes c.args.table.now c.args.heap.now c.args.walk.now c.args.v c.args.at c.requires.walk c.requires.none hidden)
+    refl
+    (one_text c.args.text.now.items c.put_few.new.text.items (codes "_") c.in_ok-put_few.ensures)

@@ -7,7 +7,7 @@ use Rattle.om_fits.specs.Needs.{needs_in}
 use Rattle.om_scan.specs.Scan.{Continues, IsUnfit}
 use Rattle.om_scan.proofs.FieldLemmas.{word_inside, field_word}
 use Rattle.om_scan.proofs.NeedLemmas.{need_field, some_fields}
-use Rattle.om_scan.proofs.MarkLemmas.{meeting_first}
+use Rattle.om_scan.proofs.MarkLemmas.{meeting_first, unfit_is_asked}
 use Rattle.om_scan.proofs.straight.meet_each.Goals as goal
 
 pub fields_at-words-requires : goal.fields_at-words-requires
@@ -122,6 +122,7 @@ returns-then-not-branch-clause-met c =
     record {
       type = c.get-step.result.1;
       at = at_k;
+      asked = unfit_is_asked t graph (field_at graph c.args.o c.get-step.result.0) c.get-step.result.1 unfit.1;
       met = meeting.met;
       unfit = λ odd. unfit.1;
       small = omega (arith, inside, c.fields_at-words.type_inv);
@@ -145,7 +146,7 @@ returns-clause-told c = c.loop-k.invariant.told
 pub returns-clause-met : goal.returns-clause-met
 returns-clause-met c =
     let many : length (needs_in c.args.needs) ≡ c.loop-k.k = omega (arith, c.len-k-end.ensures, c.loop-k.auto.k-end, c.loop-k-test.false) in
-    λ j i a less at_j. c.loop-k.invariant.met j i a (omega (arith, less, ap length c.requires.needs, many)) at_j
+    λ j i a less at_j asked. c.loop-k.invariant.met j i a (omega (arith, less, ap length c.requires.needs, many)) at_j asked
 
 pub returns-then-len-eq0-clause-still : goal.returns-then-len-eq0-clause-still
 returns-then-len-eq0-clause-still c = λ p among. among

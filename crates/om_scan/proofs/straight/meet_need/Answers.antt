@@ -5,13 +5,14 @@ use Rattle.om_model.specs.Graph.{IsValue}
 use Rattle.om_model.specs.declared.value.Val.{Val}
 use Rattle.om_model.specs.declared.value.Val.TheVariants as vals
 use Rattle.om_type_table.specs.Made.{table_of}
-use Rattle.om_types.specs.Table.{table_shapes}
+use Rattle.std.specs.Prelude.{IsTrue}
+use Rattle.om_types.specs.Table.{table_shapes, is_asked_in}
 use Rattle.om_heap.specs.Heap.{field_at, word_of}
 use Rattle.om_heap.proofs.ReadLemmas.{word_of-inj}
 use Rattle.om_fits.proofs.RowLemmas.{is_reference}
 use Rattle.om_scan.specs.Scan.{first_of, IsMet, IsOther}
 use Rattle.om_scan.proofs.FieldLemmas.{field_valid}
-use Rattle.om_scan.proofs.NeedLemmas.{need_field, need_node}
+use Rattle.om_scan.proofs.NeedLemmas.{need_field, need_node, shape_asked, shape_hidden}
 use Rattle.om_scan.proofs.PathLemmas.{need_path}
 use Rattle.om_scan.proofs.MarkLemmas.{meeting_more, meeting_kept, meeting_noted, word_unfit}
 use Rattle.om_scan.proofs.straight.meet_need.Goals as goal
@@ -29,12 +30,12 @@ meet-requires-clause-node c =
     need_node (table_of c.args.table.now) c.args.heap.now c.requires.lawful c.args.o c.args.ty c.args.place c.args.field c.args.needed c.requires.node c.requires.need
 
 pub meet-requires-clause-paths : goal.meet-requires-clause-paths
-meet-requires-clause-paths c = λ p inside is.
+meet-requires-clause-paths c = λ asked p inside is.
     let graph = c.args.heap.now in
     let short = need_field (table_of c.args.table.now) graph c.args.o c.args.ty c.args.place c.args.field c.args.needed c.requires.object c.requires.need in
     let valid = field_valid graph c.args.o c.args.field c.requires.object short c.requires.graph in
     let same = word_of-inj graph (field_at graph c.args.o c.args.field) (vals.Ref p) c.requires.graph valid inside (sym c.requires.word ∙ is) in
-    need_path (table_of c.args.table.now) graph (vals.Ref 0) c.args.o c.args.ty c.args.place c.args.field c.args.needed p c.requires.object c.requires.path c.requires.need same
+    need_path (table_of c.args.table.now) graph (vals.Ref 0) c.args.o c.args.ty c.args.place c.args.field c.args.needed p c.requires.object c.requires.path c.requires.need asked same
 
 pub returns-then-branch-clause-next : goal.returns-then-branch-clause-next
 returns-then-branch-clause-next c = λ old before meeting.
@@ -42,9 +43,9 @@ returns-then-branch-clause-next c = λ old before meeting.
     let graph = c.args.heap.now in
     let short = need_field t graph c.args.o c.args.ty c.args.place c.args.field c.args.needed c.requires.object c.requires.need in
     let valid = field_valid graph c.args.o c.args.field c.requires.object short c.requires.graph in
-    let met = subst (λ test. OnTrue test ((v : Val) → IsValue (length graph) v → c.args.word ≡ word_of graph v → IsMet t graph c.meet.new.marks v c.args.needed)) c.if-branch.true c.in_ok-meet.ensures.met in
+    let met = subst (λ test. OnTrue test (IsTrue (is_asked_in t c.args.needed) → (v : Val) → IsValue (length graph) v → c.args.word ≡ word_of graph v → IsMet t graph c.meet.new.marks v c.args.needed)) c.if-branch.true c.in_ok-meet.ensures.met in
     meeting_more t graph old c.args.marks.now c.meet.new.marks before c.args.notes.now c.args.o c.args.ty c.args.place c.args.field c.args.needed c.args.taken.now
-    meeting c.in_ok-meet.ensures.marks c.in_ok-meet.ensures.kept c.requires.need (met (field_at graph c.args.o c.args.field) valid c.requires.word)
+    meeting c.in_ok-meet.ensures.marks c.in_ok-meet.ensures.kept c.requires.need (λ asked. met asked (field_at graph c.args.o c.args.field) valid c.requires.word)
 
 pub returns-then-word-ne0-clause-unfit : goal.returns-then-word-ne0-clause-unfit
 returns-then-word-ne0-clause-unfit c =
@@ -83,11 +84,25 @@ returns-clause-next c = λ old before meeting.
     let valid = field_valid graph c.args.o i c.requires.object short c.requires.graph in
     let node = need_node t graph c.requires.lawful c.args.o c.args.ty c.args.place i c.args.needed c.requires.node c.requires.need in
     let noted = c.in_ok-note.ensures.noted in
+    let asked = shape_asked c.args.table.now.nodes c.args.needed c.shape.result.now c.shape.ensures (sym c.is_asked.ensures ∙ c.if-not-is_asked.false) in
     let same : v ≡ vals.Ref noted.0 = word_of-inj graph v (vals.Ref noted.0) c.requires.graph valid noted.1 (sym c.requires.word ∙ noted.2) in
-    let path = need_path t graph (vals.Ref 0) c.args.o c.args.ty c.args.place i c.args.needed noted.0 c.requires.object c.requires.path c.requires.need same in
+    let path = need_path t graph (vals.Ref 0) c.args.o c.args.ty c.args.place i c.args.needed noted.0 c.requires.object c.requires.path c.requires.need asked same in
     let other = subst (λ test. OnFalse test (c.args.word % 8 ≡ 0 → (w : Val) → IsValue (length graph) w → c.args.word ≡ word_of graph w → IsOther t graph c.meet.new.marks w c.args.needed))
     c.if-branch.false c.in_ok-meet.ensures.other in
     meeting_noted t graph old c.args.marks.now c.meet.new.marks before c.args.notes.now c.note.new.notes c.args.o c.args.ty c.args.place i c.args.needed c.args.taken.now noted.0
-    (first_of c.args.o c.args.ty c.args.place i c.args.taken.now) meeting c.in_ok-meet.ensures.marks c.in_ok-meet.ensures.kept c.requires.need same noted.1 node path
+    (first_of c.args.o c.args.ty c.args.place i c.args.taken.now) meeting c.in_ok-meet.ensures.marks c.in_ok-meet.ensures.kept c.requires.need asked same noted.1 node path
     (other c.if-word-ne0.false (vals.Ref noted.0) noted.1 noted.2) c.in_ok-note.ensures.valid noted.3 c.in_ok-note.ensures.first refl refl refl refl refl
     (λ never. false≢true never) c.requires.small
+
+-- a part that is hidden
+pub returns-then-not-is_asked-clause-next : goal.returns-then-not-is_asked-clause-next
+returns-then-not-is_asked-clause-next c = λ old before meeting.
+    let t = table_of c.args.table.now in
+    let graph = c.args.heap.now in
+    let hidden = shape_hidden c.args.table.now.nodes c.args.needed c.shape.result.now c.shape.ensures (sym c.is_asked.ensures ∙ c.if-not-is_asked.true) in
+    meeting_more t graph old c.args.marks.now c.meet.new.marks before c.args.notes.now c.args.o c.args.ty c.args.place c.args.field c.args.needed c.args.taken.now
+    meeting c.in_ok-meet.ensures.marks c.in_ok-meet.ensures.kept c.requires.need (λ asked. absurd (false≢true (sym hidden ∙ asked)))
+
+pub shape-requires : goal.shape-requires
+shape-requires c =
+    need_node (table_of c.args.table.now) c.args.heap.now c.requires.lawful c.args.o c.args.ty c.args.place c.args.field c.args.needed c.requires.node c.requires.need

@@ -7,7 +7,7 @@ use Rattle.om_model.specs.declared.value.Val.TheVariants as vals
 use Rattle.om_types.specs.Table.{table_shapes}
 use Rattle.om_type_table.specs.Made.{table_of}
 use Rattle.om_scan.specs.declared.taken.Unfit.TheVariants as unfits
-use Rattle.om_scan.specs.Scanned.{object_needs}
+use Rattle.om_scan.specs.Scanned.{object_typed}
 use Rattle.om_scan.specs.Scan.{mark_of, Stops, IsInRow}
 use Rattle.om_scan.proofs.IncreaseLemmas.{place_within}
 use Rattle.om_scan.proofs.NeedLemmas.{increase, need_field}
@@ -33,7 +33,7 @@ returns-then-unmet-clause-steps c =
     let graph = c.args._heap.now in
     let stops = subst (Stops t graph c.args._marks.now [] c.args.o) c.in-Needs.is c.requires.stops in
     let unmet = stops.1.1 in
-    let place = place_within (object_needs t graph c.args.o c.in-Needs._ty) (increase t graph c.args.o c.in-Needs._ty) c.in-Needs.unmet.place c.in-Needs.unmet.field unmet.type unmet.at in
+    let place = place_within (object_typed t graph c.args.o c.in-Needs._ty) (increase t graph c.args.o c.in-Needs._ty) c.in-Needs.unmet.place c.in-Needs.unmet.field unmet.type unmet.at in
     let field = need_field t graph c.args.o c.in-Needs._ty c.in-Needs.unmet.place c.in-Needs.unmet.field unmet.type c.requires.object unmet.at in
     until_few graph (record { types = c.args.types; objects = c.args.o + 1; seen = c.in-Needs.unmet.field + 1; unfit = unfits.Field c.args.o c.in-Needs.unmet.field }) (take c.args.o c.args.types) c.args.o c.in-Needs._ty c.args.taken _ (c.in-Needs.unmet.place + 1) refl
     (behind c.args.types c.args.o c.in-Needs._ty (omega (arith, c.requires.object, c.requires.many)) (subst (IsInRow c.args.types c.args.o) c.in-Needs.is c.requires.row))
@@ -55,7 +55,7 @@ returns-else-unmet-clause-steps c =
     let graph = c.args._heap.now in
     let stops = subst (Stops t graph c.args._marks.now [] c.args.o) c.in-Needs.is c.requires.stops in
     let unmet = stops.1.1 in
-    let place = place_within (object_needs t graph c.args.o c.in-Needs._ty) (increase t graph c.args.o c.in-Needs._ty) c.in-Needs.unmet.place c.in-Needs.unmet.field unmet.type unmet.at in
+    let place = place_within (object_typed t graph c.args.o c.in-Needs._ty) (increase t graph c.args.o c.in-Needs._ty) c.in-Needs.unmet.place c.in-Needs.unmet.field unmet.type unmet.at in
     let field = need_field t graph c.args.o c.in-Needs._ty c.in-Needs.unmet.place c.in-Needs.unmet.field unmet.type c.requires.object unmet.at in
     until_few graph (record { types = c.args.types; objects = c.args.o + 1; seen = c.in-Needs.unmet.field; unfit = unfits.Nothing }) (take c.args.o c.args.types) c.args.o c.in-Needs._ty c.args.taken _ c.in-Needs.unmet.place refl
     (behind c.args.types c.args.o c.in-Needs._ty (omega (arith, c.requires.object, c.requires.many)) (subst (IsInRow c.args.types c.args.o) c.in-Needs.is c.requires.row))

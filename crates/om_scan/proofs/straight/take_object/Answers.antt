@@ -10,7 +10,7 @@ use Rattle.om_types.specs.Table.{table_shapes}
 use Rattle.om_type_table.specs.Made.{table_of}
 use Rattle.om_scan.specs.Seconds.{noted_in}
 use Rattle.om_scan.specs.Scan.{mark_of, AreMet, IsUnmet, AreNotes, IsScanning}
-use Rattle.om_scan.specs.Scanned.{object_needs}
+use Rattle.om_scan.specs.Scanned.{object_typed}
 use Rattle.om_scan.proofs.NeedLemmas.{needs_are, never_unfit}
 use Rattle.om_scan.proofs.ScanLemmas.{scanning_more, scanning_kept}
 use Rattle.om_scan.proofs.PlaceLemmas.{slice_set_at}
@@ -58,7 +58,7 @@ returns-in-Some-2-clause-turned c =
     let marked = c.in_ok-unmet.ensures.kept (key_of graph c.args.o) (omega (arith, mark)) ∙ mark in
     let inside : c.args.o < length types = omega (arith, c.requires.many, c.requires.object) in
     let fits = c.fits_mark.ensures.0 c.if-not-fits_mark.false in
-    let met = subst (λ unmet. MatchOption unmet (AreMet t graph c.meet_all.new.marks (noted_in c.meet_all.new.notes.seconds) c.args.o ty (length (object_needs t graph c.args.o ty))) (IsUnmet t graph c.meet_all.new.marks (noted_in c.meet_all.new.notes.seconds) c.args.o ty)) c.in-Some-2.is c.in_ok-unmet.ensures.met in
+    let met = subst (λ unmet. MatchOption unmet (AreMet t graph c.meet_all.new.marks (noted_in c.meet_all.new.notes.seconds) c.args.o ty (length (object_typed t graph c.args.o ty))) (IsUnmet t graph c.meet_all.new.marks (noted_in c.meet_all.new.notes.seconds) c.args.o ty)) c.in-Some-2.is c.in_ok-unmet.ensures.met in
     let noted = subst (λ ts. AreNotes t graph c.meet_all.new.marks ts (c.args.o + 1) c.meet_all.new.notes) (sym c.in_ok-set.ensures)
     (notes_turned t graph c.args.marks.now c.meet_all.new.marks types c.args.o ty c.args.taken.now c.in_ok-unmet.ensures.kept c.in_ok-unmet.ensures.marks inside marked fits
     c.args.notes.now c.meet_all.new.notes c.requires.going.noted c.requires.going.scanning c.in_ok-unmet.ensures.noted c.in_ok-unmet.ensures.told) in
@@ -83,7 +83,7 @@ returns-clause-turned c =
     let marked = c.in_ok-unmet.ensures.kept (key_of graph c.args.o) (omega (arith, mark)) ∙ mark in
     let inside : c.args.o < length types = omega (arith, c.requires.many, c.requires.object) in
     let fits = c.fits_mark.ensures.0 c.if-not-fits_mark.false in
-    let met = subst (λ unmet. MatchOption unmet (AreMet t graph c.meet_all.new.marks (noted_in c.meet_all.new.notes.seconds) c.args.o ty (length (object_needs t graph c.args.o ty))) (IsUnmet t graph c.meet_all.new.marks (noted_in c.meet_all.new.notes.seconds) c.args.o ty)) c.in_default-2.is c.in_ok-unmet.ensures.met in
+    let met = subst (λ unmet. MatchOption unmet (AreMet t graph c.meet_all.new.marks (noted_in c.meet_all.new.notes.seconds) c.args.o ty (length (object_typed t graph c.args.o ty))) (IsUnmet t graph c.meet_all.new.marks (noted_in c.meet_all.new.notes.seconds) c.args.o ty)) c.in_default-2.is c.in_ok-unmet.ensures.met in
     let noted = subst (λ ts. AreNotes t graph c.meet_all.new.marks ts (c.args.o + 1) c.meet_all.new.notes) (sym c.in_ok-set.ensures)
     (notes_turned t graph c.args.marks.now c.meet_all.new.marks types c.args.o ty c.args.taken.now c.in_ok-unmet.ensures.kept c.in_ok-unmet.ensures.marks inside marked fits
     c.args.notes.now c.meet_all.new.notes c.requires.going.noted c.requires.going.scanning c.in_ok-unmet.ensures.noted c.in_ok-unmet.ensures.told) in

@@ -1,21 +1,34 @@
-use Rattle.std.proofs.Common.{subst, sym, ◌∙◌, false, arith, ◌<◌, length}
+use Rattle.std.proofs.Common.{subst, sym, ◌≡◌, ◌∙◌, false, arith, ◌<◌, length, rules}
+use Rattle.std.specs.Prelude.{IsTrue}
+use Rattle.std.proofs.lemmas.Grind.{common_steps}
 use Rattle.std.proofs.lemmas.List.{get_or_read}
 use Rattle.om_model.specs.Graph.{IsValue}
+use Rattle.om_types.specs.Fitting.{is_asked}
+use Rattle.om_show.specs.Tables.{shape_in}
 use Rattle.om_print.proofs.TypedLemmas.{integer_kept}
-use Rattle.om_print.proofs.WalkLemmas.{integer_goes, atom_goes, again_goes}
+use Rattle.om_print.proofs.WalkLemmas.{integer_goes, atom_goes, again_goes, hidden_goes}
 use Rattle.om_print.proofs.walk.Walk.meet.Goals as goal
 
 pub returns-in-Int-clause-goes : goal.returns-in-Int-clause-goes
 returns-in-Int-clause-goes c =
+    let asked : IsTrue (is_asked (shape_in c.args.table.now c.args.at)) = first_of (search rules, grind (arith, common_steps)) in
     rw (integer_kept c.in-Int.z (subst (IsValue _) c.in-Int.is c.requires.value))
-    (integer_goes c.args.table.now c.args.heap.now c.args.self.now c.args.v c.in-Int.z c.args.at c.in-Int.is c.requires.walk c.requires.none c.requires.typed)
+    (integer_goes c.args.table.now c.args.heap.now c.args.self.now c.args.v c.in-Int.z c.args.at c.in-Int.is c.requires.walk c.requires.none c.requires.typed asked)
 
 pub returns-in-Atom-clause-goes : goal.returns-in-Atom-clause-goes
-returns-in-Atom-clause-goes c = atom_goes c.args.table.now c.args.heap.now c.args.self.now c.args.v c.in-Atom.field-0 c.args.at c.in-Atom.is c.requires.walk c.requires.none
+returns-in-Atom-clause-goes c =
+    let asked : IsTrue (is_asked (shape_in c.args.table.now c.args.at)) = first_of (search rules, grind (arith, common_steps)) in
+    atom_goes c.args.table.now c.args.heap.now c.args.self.now c.args.v c.in-Atom.field-0 c.args.at c.in-Atom.is c.requires.walk c.requires.none asked
 
 pub returns-in-Ref-clause-goes : goal.returns-in-Ref-clause-goes
 returns-in-Ref-clause-goes c =
+    let asked : IsTrue (is_asked (shape_in c.args.table.now c.args.at)) = first_of (search rules, grind (arith, common_steps)) in
     let inside : c.in-Ref.o < length c.args.heap.now = subst (IsValue _) c.in-Ref.is c.requires.value in
     let there : c.in-Ref.o < length c.args.self.now.marks.items = omega (arith, inside, c.requires.walk.many) in
     let mark = get_or_read c.args.self.now.marks.items c.in-Ref.o c.index.result.now there c.index.ensures false in
-    again_goes c.args.table.now c.args.heap.now c.args.self.now c.args.v c.in-Ref.o c.args.at c.in-Ref.is c.requires.walk c.requires.none inside (sym mark ∙ c.if-index.true)
+    again_goes c.args.table.now c.args.heap.now c.args.self.now c.args.v c.in-Ref.o c.args.at c.in-Ref.is c.requires.walk c.requires.none inside (sym mark ∙ c.if-index.true) asked
+
+pub returns-then-not-is_asked-clause-goes : goal.returns-then-not-is_asked-clause-goes
+returns-then-not-is_asked-clause-goes c =
+    let hidden : is_asked (shape_in c.args.table.now c.args.at) ≡ false = first_of (search rules, grind (arith, common_steps)) in
+    hidden_goes c.args.table.now c.args.heap.now c.args.self.now c.args.v c.args.at c.requires.walk c.requires.none hidden

@@ -8,7 +8,7 @@ pub returns-in_default-clause-goes : goal.returns-in_default-clause-goes
 returns-in_default-clause-goes c =
     leaf_goes c.args.table.now c.args.heap.now c.args.self.now _ c.args.o c.args.at c.requires.walk c.requires.inside c.requires.typed.number c.requires.unmet
     (record { value = c.requires.none; blocks = refl; marks = refl; order = c.in_ok-push.ensures })
-    (λ tag values is. c.in_default.not-Block tag (length values) (c.kind.ensures.kind ∙ ap kind_of is))
+    (λ tag values is. c.in_default.not-Block tag (length values) (c.kind.ensures.kind ∙ ap kind_of is)) c.requires.asked
 
 pub returns-clause-goes : goal.returns-clause-goes
 returns-clause-goes c =
@@ -19,4 +19,4 @@ returns-clause-goes c =
     (record { value = c.requires.none; blocks = refl; marks = refl; order = c.in_ok-push.ensures })
     c.in-Block.ensures.object.0
     (record { object = block.ensures.object; frame = block.ensures.frame; needs = block.ensures.needs; next = block.ensures.next; is_open = block.ensures.open })
-    c.requires.none refl refl c.in_ok-push-2.ensures.items
+    c.requires.none refl refl c.in_ok-push-2.ensures.items c.requires.asked
