@@ -2,11 +2,12 @@
 # Checks files that OCaml itself wrote with omarshal, at the type files of examples/: each compiled interface of the
 # standard library and of the compiler, each .cmo, .cma, .cmx, .cmxa and .cmt there, and a map, a set, a hash table and a
 # queue; where Coq's standard library is installed (libcoq-stdlib), four segments of each .vo: summary, library, universes
-# and opaques. Each value has its type and comes back byte for byte from `edit` with an empty script; where its type has
-# no `_`, also from `build` of what `show` puts of it. With a byte of it damaged it is refused, or does not have the type,
-# or is another value of it, and omarshal ends with 0, 1 or 4 all the same. The argument is the program; with none it is
-# the one that `./omarshal` built. Where KEEP is set, it names a folder in which each value is kept, and the table
-# values.tsv with a line for each: its file, its type file and its type (tools/check_certificates.py).
+# and opaques. Each value is found in its file by `scan`, has its type and comes back byte for byte from `edit` with an
+# empty script; where its type has no `_`, also from `build` of what `show` puts of it. With a byte of it damaged it is
+# refused, or does not have the type, or is another value of it, and omarshal ends with 0, 1 or 4 all the same. The
+# argument is the program; with none it is the one that `./omarshal` built. Where KEEP is set, it names a folder in which
+# each value is kept, and the table values.tsv with a line for each: its file, its type file and its type
+# (tools/check_certificates.py).
 set -eu
 export LC_ALL=C
 for needed in ocaml ocamlc; do
@@ -66,8 +67,24 @@ nth() {
     head -c "$(length_of "$work/rest")" "$work/rest"
 }
 
-# hidden WHAT TYPES TYPE LINE: line LINE of the check of $work/values at a type is yes, and `edit` writes that value as it
-# is. The type may have parts of which nothing is asked.
+# places FILE: where values stand in it.
+places() {
+    whole=$1
+    "$program" scan < "$1" > "$work/places" 2> "$work/told" || echo "FAILED: scan of $1: $(cat "$work/told")"
+}
+
+# The value in $work/one stands at one of the places.
+stands() {
+    size=$(($(wc -c < "$work/one")))
+    while read -r offset length _; do
+        [ "$length" -eq "$size" ] || continue
+        ! tail -c "+$((offset + 1))" "$whole" | head -c "$length" | cmp -s - "$work/one" || return 0
+    done < "$work/places"
+    return 1
+}
+
+# hidden WHAT TYPES TYPE LINE: line LINE of the check of $work/values at a type is yes, `scan` tells where the value
+# stands in its file, and `edit` writes it as it is. The type may have parts of which nothing is asked.
 hidden() {
     checked=$((checked + 1))
     "$program" check "$examples/$2" "$3" < "$work/values" > "$work/lines" 2> "$work/told" || true
@@ -78,6 +95,11 @@ hidden() {
     fi
     checked=$((checked + 1))
     nth "$4" "$work/values" > "$work/one"
+    checked=$((checked + 1))
+    if ! stands; then
+        echo "FAILED: scan does not find $1"
+        failures=$((failures + 1))
+    fi
     if [ -n "${KEEP:-}" ]; then
         kept=$((kept + 1))
         cp "$work/one" "$KEEP/$kept.bin"
@@ -104,6 +126,7 @@ value() {
 
 for file in "$library"/*.cmi "$library"/compiler-libs/*.cmi; do
     [ -f "$file" ] || continue
+    places "$file"
     after_magic "$file" > "$work/values"
     value "$file" cmi.types 'string * types_signature' 1
     value "$file" cmi.types misc_crcs 2
@@ -111,21 +134,25 @@ for file in "$library"/*.cmi "$library"/compiler-libs/*.cmi; do
 done
 for file in "$library"/*.cmo "$library"/compiler-libs/*.cmo; do
     [ -f "$file" ] || continue
+    places "$file"
     descriptor "$file" > "$work/values"
     value "$file" cmo.types cmo_format_compilation_unit 1
 done
 for file in "$library"/*.cma "$library"/compiler-libs/*.cma; do
     [ -f "$file" ] || continue
+    places "$file"
     descriptor "$file" > "$work/values"
     value "$file" cmo.types cmo_format_library 1
 done
 for file in "$library"/*.cmx "$library"/compiler-libs/*.cmx; do
     [ -f "$file" ] || continue
+    places "$file"
     before_checksum "$file" > "$work/values"
     value "$file" cmx.types cmx_format_unit_infos 1
 done
 for file in "$library"/*.cmxa "$library"/compiler-libs/*.cmxa; do
     [ -f "$file" ] || continue
+    places "$file"
     after_magic "$file" > "$work/values"
     value "$file" cmx.types cmx_format_library_infos 1
 done
@@ -133,6 +160,7 @@ done
 # A .cmt of a module without an .mli has the three values of its interface first, after the magic of these.
 for file in "$library"/*.cmt "$library"/compiler-libs/*.cmt; do
     [ -f "$file" ] || continue
+    places "$file"
     after_magic "$file" > "$work/values"
     if [ "$(head -c 12 "$file")" = Caml1999I030 ]; then
         for _ in 1 2 3; do
@@ -174,6 +202,7 @@ while IFS= read -r file; do
         echo "skipped: .vo files, as they are not those of Coq 8.16.1"
         break
     fi
+    places "$file"
     segments "$file" > "$work/table"
     segment value "$file" summary library_seg_sum
     segment hidden "$file" library library_seg_lib
@@ -182,10 +211,10 @@ while IFS= read -r file; do
 done < "$work/vo"
 
 ocaml "$examples/containers.ml" "$work"
-cp "$work/map.bin" "$work/values" && value 'a map' map.types 'int map_make_string_t' 1
-cp "$work/set.bin" "$work/values" && value 'a set' set.types set_make_string_t 1
-cp "$work/hashtbl.bin" "$work/values" && value 'a hash table' hashtbl.types '(string, int) hashtbl_t' 1
-cp "$work/queue.bin" "$work/values" && value 'a queue' queue.types 'int queue_t' 1
+cp "$work/map.bin" "$work/values" && places "$work/map.bin" && value 'a map' map.types 'int map_make_string_t' 1
+cp "$work/set.bin" "$work/values" && places "$work/set.bin" && value 'a set' set.types set_make_string_t 1
+cp "$work/hashtbl.bin" "$work/values" && places "$work/hashtbl.bin" && value 'a hash table' hashtbl.types '(string, int) hashtbl_t' 1
+cp "$work/queue.bin" "$work/values" && places "$work/queue.bin" && value 'a queue' queue.types 'int queue_t' 1
 
 # A map is no set.
 "$program" check "$examples/set.types" set_make_string_t < "$work/map.bin" > "$work/lines" || true

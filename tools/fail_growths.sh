@@ -46,6 +46,14 @@ printf '0 set .1 = ::(7, [])\n2 link .1.1 = .\n2 unshare .\n' >script
 # A part of the first list in the second, and the second one in the third.
 printf '1 graft .1 = 0 .\n2 graft .1.1 = 1 .1\n' >grafts
 
+# Values among other bytes, behind a header that claims more than there is, and one that is cut.
+{
+    printf 'head\n\x84\x95\xa6\xbe\0\0\0\x64\0\0\0\x01\0\0\0\x1e\0\0\0\x14\x09\x50'
+    cat input
+    printf 'gap\n'
+    head -c 22 input
+} >places
+
 wrong=0
 input=input
 refuse() {
@@ -85,5 +93,7 @@ refuse trees trees types tree
 input=texts
 refuse build build types t
 refuse 'build (refused)' build types 'int option'
+input=places
+refuse scan scan
 refuse gen gen 7 3 'int list'
 exit "$wrong"

@@ -36,8 +36,8 @@ completes() {
 }
 . "$work/prefix/share/bash-completion/completions/omarshal"
 mkdir "$work/files" && cd "$work/files" && : >shop.types && : >shop.script
-completes 'same show' s
-completes 'build check dump edit gen get same show trees verify' ''
+completes 'same scan show' s
+completes 'build check dump edit gen get same scan show trees verify' ''
 completes 'shop.script shop.types' build ''
 completes '' build -
 completes 'shop.script shop.types' check ''
@@ -46,6 +46,7 @@ completes '' check shop.types ''
 completes 'shop.script' edit --limit 5 shop.types int shop.s
 completes 'shop.script' verify shop.types int shop.s
 completes '--compat32 --limit' edit --
+completes '--limit' scan --
 completes '--cert --limit' check shop.types --
 completes 'shop.types' check --cert shop.t
 completes '--limit' show shop.types --

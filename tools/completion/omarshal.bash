@@ -3,13 +3,13 @@ _omarshal() {
     local word=${COMP_WORDS[COMP_CWORD]} command=${COMP_WORDS[1]-} i place=0 skip=0 options=--limit
     COMPREPLY=()
     if [ "$COMP_CWORD" -eq 1 ]; then
-        mapfile -t COMPREPLY < <(compgen -W 'build check dump edit gen get same show trees verify' -- "$word")
+        mapfile -t COMPREPLY < <(compgen -W 'build check dump edit gen get same scan show trees verify' -- "$word")
         return
     fi
     case $command in
     build | gen) options= ;;
     check) options='--limit --cert' ;;
-    dump | get | same | show | trees | verify) ;;
+    dump | get | same | scan | show | trees | verify) ;;
     edit) options='--limit --compat32' ;;
     *) return ;;
     esac

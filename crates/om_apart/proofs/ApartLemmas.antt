@@ -1,9 +1,10 @@
 -- No request is for two sets of commands: one of the two is idle at it.
-use Rattle.std.proofs.Common.{ℕ, List, inl, inr, refl}
+use Rattle.std.proofs.Common.{◌≡◌, ◌⊎◌, ℕ, List, Some, inl, inr, refl}
 use Rattle.om_format.specs.Tree.{Tree}
-use Rattle.om_outcome.specs.CommandLine.{certify}
-use Rattle.om_outcome.specs.Outcome.{tell, get, edit, dump, compare, own, build, generate, verify, Language}
-use Rattle.om_choice.specs.Choice.{AreApart}
+use Rattle.om_outcome.specs.CommandLine.{certify, scan, searched_by}
+use Rattle.om_outcome.specs.Outcome.{Request, tell, get, edit, dump, compare, own, build, generate, verify, Language}
+use Rattle.om_promises.specs.Commands.{Commands}
+use Rattle.om_choice.specs.Choice.{IsIdleAt, AreApart}
 use Rattle.om_commands.specs.Tasks.{commands}
 use Rattle.om_texts.specs.Texts.{Built, building}
 use Rattle.om_texts.proofs.ApartLemmas.{values_idle, texts_idle}
@@ -13,6 +14,8 @@ use Rattle.om_verification.specs.Verification.{Shown, ReadsSections, verifying}
 use Rattle.om_verification.proofs.IdleLemmas.{certificates_idle}
 use Rattle.om_certification.specs.Certification.{SaysSections, certifying}
 use Rattle.om_certification.proofs.IdleLemmas.{certifying_idle}
+use Rattle.om_searching.specs.Searching.{searching}
+use Rattle.om_searching.proofs.LawfulLemmas.{stands_apart}
 
 module _ {D T E : Type 0} (language : Language D T E) where
   pub made_apart : AreApart (commands language) (generation language)
@@ -34,6 +37,8 @@ module _ {D T E : Type 0} (language : Language D T E) where
       inl (texts_idle other TextOf (own (verify f t certificate most)) refl)
   made_apart_from_texts other TextOf (own (certify f t most)) =
       inl (texts_idle other TextOf (own (certify f t most)) refl)
+  made_apart_from_texts other TextOf (own (scan most)) =
+      inl (texts_idle other TextOf (own (scan most)) refl)
   made_apart_from_texts other TextOf (tell saying f t most) =
       inr (generation_idle language (tell saying f t most) refl)
   made_apart_from_texts other TextOf (get f t path most) =
@@ -64,6 +69,8 @@ module _ {D T E S : Type 0} (language : Language D T E) (Reads : ReadsSections S
       inr (certificates_idle language Reads ShownBy (own (generate n count t)) refl)
   certificates_apart_from_texts other TextOf (own (certify f t most)) =
       inr (certificates_idle language Reads ShownBy (own (certify f t most)) refl)
+  certificates_apart_from_texts other TextOf (own (scan most)) =
+      inr (certificates_idle language Reads ShownBy (own (scan most)) refl)
   certificates_apart_from_texts other TextOf (tell saying f t most) =
       inr (certificates_idle language Reads ShownBy (tell saying f t most) refl)
   certificates_apart_from_texts other TextOf (get f t path most) =
@@ -85,6 +92,8 @@ module _ {D T E S : Type 0} (language : Language D T E) (Reads : ReadsSections S
   certificates_apart_from_made other (own (build f t)) = inr (generation_idle other (own (build f t)) refl)
   certificates_apart_from_made other (own (certify f t most)) =
       inr (generation_idle other (own (certify f t most)) refl)
+  certificates_apart_from_made other (own (scan most)) =
+      inr (generation_idle other (own (scan most)) refl)
   certificates_apart_from_made other (tell saying f t most) =
       inr (generation_idle other (tell saying f t most) refl)
   certificates_apart_from_made other (get f t path most) =
@@ -118,6 +127,8 @@ module _ {D T E : Type 0} (language : Language D T E) (SectionOf : SaysSections 
       inr (certifying_idle language SectionOf (own (generate n count t)) refl)
   sections_apart_from_texts other TextOf (own (verify f t certificate most)) =
       inr (certifying_idle language SectionOf (own (verify f t certificate most)) refl)
+  sections_apart_from_texts other TextOf (own (scan most)) =
+      inr (certifying_idle language SectionOf (own (scan most)) refl)
   sections_apart_from_texts other TextOf (tell saying f t most) =
       inr (certifying_idle language SectionOf (tell saying f t most) refl)
   sections_apart_from_texts other TextOf (get f t path most) =
@@ -141,6 +152,8 @@ module _ {D T E : Type 0} (language : Language D T E) (SectionOf : SaysSections 
       inr (certifying_idle language SectionOf (own (generate n count t)) refl)
   sections_apart_from_certificates other Reads ShownBy (own (verify f t certificate most)) =
       inr (certifying_idle language SectionOf (own (verify f t certificate most)) refl)
+  sections_apart_from_certificates other Reads ShownBy (own (scan most)) =
+      inr (certifying_idle language SectionOf (own (scan most)) refl)
   sections_apart_from_certificates other Reads ShownBy (tell saying f t most) =
       inr (certifying_idle language SectionOf (tell saying f t most) refl)
   sections_apart_from_certificates other Reads ShownBy (get f t path most) =
@@ -162,6 +175,8 @@ module _ {D T E : Type 0} (language : Language D T E) (SectionOf : SaysSections 
   sections_apart_from_made other (own (certify f t most)) =
       inr (generation_idle other (own (certify f t most)) refl)
   sections_apart_from_made other (own (build f t)) = inr (generation_idle other (own (build f t)) refl)
+  sections_apart_from_made other (own (scan most)) =
+      inr (generation_idle other (own (scan most)) refl)
   sections_apart_from_made other (tell saying f t most) =
       inr (generation_idle other (tell saying f t most) refl)
   sections_apart_from_made other (get f t path most) =
@@ -172,3 +187,52 @@ module _ {D T E : Type 0} (language : Language D T E) (SectionOf : SaysSections 
       inr (generation_idle other (dump most) refl)
   sections_apart_from_made other (compare most) =
       inr (generation_idle other (compare most) refl)
+
+-- commands that are idle where it is asked where values stand are apart from the one that tells it
+searches_apart :
+    {A : Type 0} (c : Commands A) → ((limit : ℕ) → IsIdleAt c (own (scan limit)))
+    → AreApart c (searching searched_by)
+searches_apart c idle = stands_apart searched_by c only where
+  only : (request : Request) (limit : ℕ) → searched_by request ≡ Some limit → IsIdleAt c request
+  only (own (scan most)) limit asked = idle most
+  only request limit asked = absurd (cc asked)
+
+pub searches_apart_from_values :
+    {D T E : Type 0} (language : Language D T E)
+    → AreApart (commands language) (searching searched_by)
+searches_apart_from_values language =
+    searches_apart (commands language) (λ limit. values_idle language (scan limit))
+
+pub searches_apart_from_texts :
+    {D T E : Type 0} (language : Language D T E) (TextOf : T → List ℕ → Built → Type 0)
+    → AreApart (building language TextOf) (searching searched_by)
+searches_apart_from_texts language TextOf =
+    searches_apart (building language TextOf)
+    (λ limit. texts_idle language TextOf (own (scan limit)) refl)
+
+pub searches_apart_from_certificates :
+    {D T E S : Type 0} (language : Language D T E) (Reads : ReadsSections S)
+    (ShownBy : T → S → Tree → Shown → Type 0)
+    → AreApart (verifying language Reads ShownBy) (searching searched_by)
+searches_apart_from_certificates language Reads ShownBy =
+    searches_apart (verifying language Reads ShownBy)
+    (λ limit. certificates_idle language Reads ShownBy (own (scan limit)) refl)
+
+pub searches_apart_from_sections :
+    {D T E : Type 0} (language : Language D T E) (SectionOf : SaysSections T)
+    → AreApart (certifying language SectionOf) (searching searched_by)
+searches_apart_from_sections language SectionOf =
+    searches_apart (certifying language SectionOf)
+    (λ limit. certifying_idle language SectionOf (own (scan limit)) refl)
+
+pub searches_apart_from_made :
+    {D T E : Type 0} (language : Language D T E)
+    → AreApart (searching searched_by) (generation language)
+searches_apart_from_made language request =
+    turned
+    (searches_apart (generation language)
+    (λ limit. generation_idle language (own (scan limit)) refl) request) where
+      turned : IsIdleAt (generation language) request ⊎ IsIdleAt (searching searched_by) request
+          → IsIdleAt (searching searched_by) request ⊎ IsIdleAt (generation language) request
+      turned (inl made) = inr made
+      turned (inr searches) = inl searches

@@ -4,6 +4,8 @@ ghost use Rattle.om_certification.specs.Certification.{certifying};
 ghost use Rattle.om_choice.specs.Choice.{AreApart};
 ghost use Rattle.om_commands.specs.Tasks.{commands};
 ghost use Rattle.om_generation.specs.Generation.{generation};
+ghost use Rattle.om_outcome.specs.CommandLine.{searched_by};
+ghost use Rattle.om_searching.specs.Searching.{searching};
 ghost use Rattle.om_texts.specs.Texts.{building};
 ghost use Rattle.om_verification.specs.Verification.{verifying};
 
@@ -57,4 +59,29 @@ pub fn sections_stand_apart_from_certificates<V: Verifies, C: Certifies>()
 /// Nor for that and for the one on a value that is made.
 pub fn sections_stand_apart_from_made<C: Certifies, L: Speaks>()
     ensures { AreApart (certifying C.language C.SectionOf) (generation L.language) }
+{}
+
+/// No request is for the commands on values and for the one that tells where values stand.
+pub fn searches_stand_apart<L: Speaks>()
+    ensures { AreApart (commands L.language) (searching searched_by) }
+{}
+
+/// Nor for the one on texts and for that.
+pub fn searches_stand_apart_from_texts<B: Builds>()
+    ensures { AreApart (building B.language B.TextOf) (searching searched_by) }
+{}
+
+/// Nor for the one that verifies certificates and for that.
+pub fn searches_stand_apart_from_certificates<V: Verifies>()
+    ensures { AreApart (verifying V.language V.Reads V.ShownBy) (searching searched_by) }
+{}
+
+/// Nor for the one that certifies values and for that.
+pub fn searches_stand_apart_from_sections<C: Certifies>()
+    ensures { AreApart (certifying C.language C.SectionOf) (searching searched_by) }
+{}
+
+/// Nor for that and for the one on a value that is made.
+pub fn searches_stand_apart_from_made<L: Speaks>()
+    ensures { AreApart (searching searched_by) (generation L.language) }
 {}

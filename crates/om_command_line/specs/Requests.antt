@@ -34,6 +34,7 @@ request_of (requests.Verify file type certificate limit) =
 request_of (requests.Certify file type limit) =
     outcome.own (outcome.certify file.now type.now limit)
 request_of (requests.Generate n count type) = outcome.own (outcome.generate n count type.now)
+request_of (requests.Scan limit) = outcome.own (outcome.scan limit)
 
 -- what `check` asks for, with a certificate or without
 abbrev pub check_asks : Bool → (file type : List ℕ) → ℕ → outcome.Request

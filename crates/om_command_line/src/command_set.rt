@@ -54,7 +54,7 @@ const NUMBER: Argument<'static> = Argument::Number("NUMBER", GREATEST_NUMBER);
 
 const COUNT: Argument<'static> = Argument::Number("COUNT", GREATEST_COUNT);
 
-static FORMS: [Form<'static>; 10] = [
+static FORMS: [Form<'static>; 11] = [
     ("check", &[CERTIFIED, LIMIT, FILE, TYPE]),
     ("show", &[LIMIT, FILE, TYPE]),
     ("get", &[LIMIT, FILE, TYPE, PATH]),
@@ -65,6 +65,7 @@ static FORMS: [Form<'static>; 10] = [
     ("build", &[FILE, TYPE]),
     ("verify", &[LIMIT, FILE, TYPE, CERT]),
     ("gen", &[NUMBER, COUNT, TYPE]),
+    ("scan", &[LIMIT]),
 ];
 
 // What clap is told of an argument.

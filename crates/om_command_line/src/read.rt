@@ -80,6 +80,10 @@ pub enum Request<'a> {
         count: u64,
         type_text: &'a str,
     },
+    /// Where values stand in the input.
+    Scan {
+        limit: u64,
+    },
 }
 
 /// Why nothing is read of the words: they ask for nothing, or memory ran out.
@@ -189,6 +193,7 @@ fn request_by<'a>(command: &str, arguments: &ArgMatches<'a>) -> Option<Request<'
             count: number(arguments, "COUNT"),
             type_text,
         }),
+        "scan" => Some(Request::Scan { limit }),
         _ => None,
     }
 }

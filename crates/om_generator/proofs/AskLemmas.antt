@@ -62,7 +62,7 @@ all_ranged = (
                   (
                     λ rows request h.
                         subst IsRanged h.2.2.2 (below_number h.0 h.1.4, h.2.1.4),
-                    tt,
+                    (λ rows request h. subst IsRanged h.2 tt, tt),
                   ),
                 ),
               ),

@@ -25,6 +25,7 @@ pub data OwnRequest : Type 0 where
   generate : (number count : ℕ) → (type : List ℕ) → OwnRequest
   verify : (file type certificate : List ℕ) → (limit : ℕ) → OwnRequest
   certify : (file type : List ℕ) → (limit : ℕ) → OwnRequest
+  scan : (limit : ℕ) → OwnRequest
 
 -- what is asked for, with the limit of words on 64 bits in a value where values are read
 pub data Request : Type 0 where
@@ -62,6 +63,11 @@ limit_of (edit file type script compat limit) = limit
 limit_of (dump limit) = limit
 limit_of (compare limit) = limit
 limit_of (own request) = 0
+
+-- that limit, where it is asked where values stand
+abbrev pub searched_by : Request → Option ℕ
+searched_by (own (scan limit)) = Some limit
+searched_by request = None
 
 -- ---- the commands
 
@@ -143,6 +149,7 @@ forms =
     (number (codes "NUMBER") greatest_number ∷ number (codes "COUNT") greatest_count
     ∷ wanted (codes "TYPE") ∷ [])
     (λ n count type. own (generate n count type))
+    ∷ row (codes "scan") (limit_option ∷ []) (λ n. own (scan n))
     ∷ []
 
 -- the command of this name

@@ -1,6 +1,6 @@
 -- Each set of commands is a part of all: no request is for two of them.
-use Rattle.std.proofs.Common.{◌≡◌, ◌⊎◌, ◌<◌, ℕ, List, None, inl, inr, refl, subst, arith}
-use Rattle.om_outcome.specs.CommandLine.{certify}
+use Rattle.std.proofs.Common.{◌≡◌, ℕ, List, None, inl, inr, refl, subst, arith}
+use Rattle.om_outcome.specs.CommandLine.{certify, scan, searched_by}
 use Rattle.om_outcome.specs.Outcome.{Request, tell, get, edit, dump, compare, own, build, generate, verify, Asks}
 use Rattle.om_promises.specs.Call.{Call}
 use Rattle.om_promises.specs.Commands.{Commands}
@@ -17,11 +17,12 @@ use Rattle.om_verifier.specs.Shown.{reads_sections, declared_sections}
 use Rattle.om_certification.specs.Certification.{certified_by}
 use Rattle.om_certification.specs.Laws.{IsIdleElsewhere as SectionsIdleElsewhere}
 use Rattle.om_certifier.specs.Certified.{declared_certificates}
+use Rattle.om_searching.specs.Laws.{IsIdleElsewhere as PlacesIdleElsewhere}
 use Rattle.om_build.specs.Lines.{declared_texts}
 use Rattle.om_declared.specs.Language.{declared_types}
 use Rattle.om_command_line.proofs.RequestLemmas.{one_request}
 use Rattle.om_work.proofs.StopLemmas.{WantsInTurns}
-use Rattle.om_session.specs.All.{on_values, on_texts, on_certificates, on_certified, on_made, on_values_or_texts, on_others, on_input, all_commands, IsOfValues, IsOfTexts, IsOfCertificates, IsOfSections, IsOfMade, AskOnly, IsPartOf, IsPart}
+use Rattle.om_session.specs.All.{on_values, on_texts, on_certificates, on_certified, on_places, on_made, on_values_or_texts, on_others, on_items, on_input, all_commands, IsOfValues, IsOfTexts, IsOfCertificates, IsOfSections, IsOfPlaces, IsOfMade, AskOnly, IsPartOf, IsPart}
 
 -- ---- a part of a choice is a part of all
 
@@ -57,47 +58,55 @@ part_of_part c d e IsOf inner outer = record {
 
 of_values_others : (request : Request) → IsOfValues request
     → (built_by request ≡ None) × (verified_by request ≡ None) × (certified_by request ≡ None)
-    × (generated_by request ≡ None)
-of_values_others (tell saying file type limit) of = (refl, refl, refl, refl)
-of_values_others (get file type path limit) of = (refl, refl, refl, refl)
-of_values_others (edit file type script compat limit) of = (refl, refl, refl, refl)
-of_values_others (dump limit) of = (refl, refl, refl, refl)
-of_values_others (compare limit) of = (refl, refl, refl, refl)
+    × (searched_by request ≡ None) × (generated_by request ≡ None)
+of_values_others (tell saying file type limit) of = (refl, refl, refl, refl, refl)
+of_values_others (get file type path limit) of = (refl, refl, refl, refl, refl)
+of_values_others (edit file type script compat limit) of = (refl, refl, refl, refl, refl)
+of_values_others (dump limit) of = (refl, refl, refl, refl, refl)
+of_values_others (compare limit) of = (refl, refl, refl, refl, refl)
 of_values_others (own request) of = absurd of
 
 of_texts_others : (request : Request) → IsOfTexts request
     → IsIdleAt on_values request × (verified_by request ≡ None) × (certified_by request ≡ None)
-    × (generated_by request ≡ None)
+    × (searched_by request ≡ None) × (generated_by request ≡ None)
 of_texts_others (own (build file type)) of =
-    (values_idle declared_types (build file type), refl, refl, refl)
+    (values_idle declared_types (build file type), refl, refl, refl, refl)
 of_texts_others request of = absurd of
 
 of_certificates_others : (request : Request) → IsOfCertificates request
     → IsIdleAt on_values request × (built_by request ≡ None) × (certified_by request ≡ None)
-    × (generated_by request ≡ None)
+    × (searched_by request ≡ None) × (generated_by request ≡ None)
 of_certificates_others (own (verify file type certificate limit)) of =
-    (values_idle declared_types (verify file type certificate limit), refl, refl, refl)
+    (values_idle declared_types (verify file type certificate limit), refl, refl, refl, refl)
 of_certificates_others request of = absurd of
 
 of_sections_others : (request : Request) → IsOfSections request
     → IsIdleAt on_values request × (built_by request ≡ None) × (verified_by request ≡ None)
-    × (generated_by request ≡ None)
+    × (searched_by request ≡ None) × (generated_by request ≡ None)
 of_sections_others (own (certify file type limit)) of =
-    (values_idle declared_types (certify file type limit), refl, refl, refl)
+    (values_idle declared_types (certify file type limit), refl, refl, refl, refl)
 of_sections_others request of = absurd of
+
+of_places_others : (request : Request) → IsOfPlaces request
+    → IsIdleAt on_values request × (built_by request ≡ None) × (verified_by request ≡ None)
+    × (certified_by request ≡ None) × (generated_by request ≡ None)
+of_places_others (own (scan limit)) of =
+    (values_idle declared_types (scan limit), refl, refl, refl, refl)
+of_places_others request of = absurd of
 
 of_made_others : (request : Request) → IsOfMade request
     → IsIdleAt on_values request × (built_by request ≡ None) × (verified_by request ≡ None)
-    × (certified_by request ≡ None)
+    × (certified_by request ≡ None) × (searched_by request ≡ None)
 of_made_others (own (generate number count type)) of =
-    (values_idle declared_types (generate number count type), refl, refl, refl)
+    (values_idle declared_types (generate number count type), refl, refl, refl, refl)
 of_made_others request of = absurd of
 
--- ---- the five sets
+-- ---- the six sets
 
 module _ (texts_idle : TextsIdleElsewhere declared_types declared_texts)
     (certificates_idle : CertificatesIdleElsewhere declared_types reads_sections declared_sections)
     (sections_idle : SectionsIdleElsewhere declared_types declared_certificates)
+    (places_idle : PlacesIdleElsewhere searched_by)
     (made_idle : MadeIdleElsewhere declared_types) where
   module _ (outer_accounts : HaveAccountsOfFirst on_input on_made)
       (outer : PromiseAsFirst on_input on_made) where
@@ -110,84 +119,122 @@ module _ (texts_idle : TextsIdleElsewhere declared_types declared_texts)
         (first_part on_input on_made IsOf
         (λ request of. made_idle request (others request of)) outer_accounts outer)
 
-    module _ (middle_accounts : HaveAccountsOfFirst on_others on_certified)
-        (middle : PromiseAsFirst on_others on_certified) where
-      -- so is a part of those that do not certify
-      part_of_others : {A : Type 0} (c : Commands A) (IsOf : Request → Type 0)
+    module _ (items_accounts : HaveAccountsOfFirst on_items on_places)
+        (items : PromiseAsFirst on_items on_places) where
+      -- so is a part of those on its values or lines
+      part_of_items : {A : Type 0} (c : Commands A) (IsOf : Request → Type 0)
           → ((request : Request) → IsOf request
-          → (certified_by request ≡ None) × (generated_by request ≡ None))
-          → IsPartOf on_others c IsOf → IsPart c IsOf
-      part_of_others c IsOf others part =
+          → (searched_by request ≡ None) × (generated_by request ≡ None))
+          → IsPartOf on_items c IsOf → IsPart c IsOf
+      part_of_items c IsOf others part =
           part_of_input c IsOf (λ request of. (others request of).1)
-          (part_of_part c on_others on_input IsOf part
-          (first_part on_others on_certified IsOf
-          (λ request of. sections_idle request (others request of).0) middle_accounts middle))
+          (part_of_part c on_items on_input IsOf part
+          (first_part on_items on_places IsOf
+          (λ request of. places_idle request (others request of).0) items_accounts items))
 
-      module _ (inner_accounts : HaveAccountsOfFirst on_values_or_texts on_certificates)
-          (inner : PromiseAsFirst on_values_or_texts on_certificates) where
-        -- and one of those on values or texts
-        part_of_all : {A : Type 0} (c : Commands A) (IsOf : Request → Type 0)
-            → ((request : Request) → IsOf request → (verified_by request ≡ None)
-            × (certified_by request ≡ None) × (generated_by request ≡ None))
-            → IsPartOf on_values_or_texts c IsOf → IsPart c IsOf
-        part_of_all c IsOf others part =
-            part_of_others c IsOf (λ request of. let o = others request of in (o.1, o.2))
-            (part_of_part c on_values_or_texts on_others IsOf part
-            (first_part on_values_or_texts on_certificates IsOf
-            (λ request of. certificates_idle request (others request of).0) inner_accounts inner))
+      module _ (middle_accounts : HaveAccountsOfFirst on_others on_certified)
+          (middle : PromiseAsFirst on_others on_certified) where
+        -- and one of those that do not certify
+        part_of_others : {A : Type 0} (c : Commands A) (IsOf : Request → Type 0)
+            → ((request : Request) → IsOf request → (certified_by request ≡ None)
+            × (searched_by request ≡ None) × (generated_by request ≡ None))
+            → IsPartOf on_others c IsOf → IsPart c IsOf
+        part_of_others c IsOf others part =
+            part_of_items c IsOf (λ request of. let o = others request of in (o.1, o.2))
+            (part_of_part c on_others on_items IsOf part
+            (first_part on_others on_certified IsOf
+            (λ request of. sections_idle request (others request of).0) middle_accounts middle))
 
-        pub values_part : HaveAccountsOfFirst on_values on_texts
-            → PromiseAsFirst on_values on_texts → IsPart on_values IsOfValues
-        values_part accounts promise =
-            part_of_all on_values IsOfValues (λ request of. let o = of_values_others request of in (o.1, o.2, o.3))
-            (first_part on_values on_texts IsOfValues
-            (λ request of. texts_idle request (of_values_others request of).0) accounts promise)
+        module _ (inner_accounts : HaveAccountsOfFirst on_values_or_texts on_certificates)
+            (inner : PromiseAsFirst on_values_or_texts on_certificates) where
+          -- and one of those on values or texts
+          part_of_all : {A : Type 0} (c : Commands A) (IsOf : Request → Type 0)
+              → ((request : Request) → IsOf request
+              → (verified_by request ≡ None) × (certified_by request ≡ None)
+              × (searched_by request ≡ None) × (generated_by request ≡ None))
+              → IsPartOf on_values_or_texts c IsOf → IsPart c IsOf
+          part_of_all c IsOf others part =
+              part_of_others c IsOf (λ request of. let o = others request of in (o.1, o.2, o.3))
+              (part_of_part c on_values_or_texts on_others IsOf part
+              (first_part on_values_or_texts on_certificates IsOf
+              (λ request of. certificates_idle request (others request of).0)
+              inner_accounts inner))
 
-        pub texts_part : HaveAccountsOfSecond on_values on_texts
-            → PromiseAsSecond on_values on_texts → IsPart on_texts IsOfTexts
-        texts_part accounts promise =
-            part_of_all on_texts IsOfTexts (λ request of. let o = of_texts_others request of in (o.1, o.2, o.3))
-            (second_part on_values on_texts IsOfTexts
-            (λ request of. (of_texts_others request of).0) accounts promise)
+          pub values_part : HaveAccountsOfFirst on_values on_texts
+              → PromiseAsFirst on_values on_texts → IsPart on_values IsOfValues
+          values_part accounts promise =
+              part_of_all on_values IsOfValues
+              (λ request of. let o = of_values_others request of in (o.1, o.2, o.3, o.4))
+              (first_part on_values on_texts IsOfValues
+              (λ request of. texts_idle request (of_values_others request of).0)
+              accounts promise)
 
-      pub certificates_part : AreIdleTogether on_values on_texts
-          → HaveAccountsOfSecond on_values_or_texts on_certificates
-          → PromiseAsSecond on_values_or_texts on_certificates
-          → IsPart on_certificates IsOfCertificates
-      certificates_part together accounts promise =
-          part_of_others on_certificates IsOfCertificates
-          (λ request of. let o = of_certificates_others request of in (o.2, o.3))
-          (second_part on_values_or_texts on_certificates IsOfCertificates
+          pub texts_part : HaveAccountsOfSecond on_values on_texts
+              → PromiseAsSecond on_values on_texts → IsPart on_texts IsOfTexts
+          texts_part accounts promise =
+              part_of_all on_texts IsOfTexts
+              (λ request of. let o = of_texts_others request of in (o.1, o.2, o.3, o.4))
+              (second_part on_values on_texts IsOfTexts
+              (λ request of. (of_texts_others request of).0) accounts promise)
+
+        pub certificates_part : AreIdleTogether on_values on_texts
+            → HaveAccountsOfSecond on_values_or_texts on_certificates
+            → PromiseAsSecond on_values_or_texts on_certificates
+            → IsPart on_certificates IsOfCertificates
+        certificates_part together accounts promise =
+            part_of_others on_certificates IsOfCertificates
+            (λ request of. let o = of_certificates_others request of in (o.2, o.3, o.4))
+            (second_part on_values_or_texts on_certificates IsOfCertificates
+            (λ request of.
+            let others = of_certificates_others request of in
+            together request others.0 (texts_idle request others.1))
+            accounts promise)
+
+      pub sections_part : AreIdleTogether on_values on_texts
+          → AreIdleTogether on_values_or_texts on_certificates
+          → HaveAccountsOfSecond on_others on_certified → PromiseAsSecond on_others on_certified
+          → IsPart on_certified IsOfSections
+      sections_part inner together accounts promise =
+          part_of_items on_certified IsOfSections
+          (λ request of. let o = of_sections_others request of in (o.3, o.4))
+          (second_part on_others on_certified IsOfSections
           (λ request of.
-          let others = of_certificates_others request of in
-          together request others.0 (texts_idle request others.1))
+          let others = of_sections_others request of in
+          together request (inner request others.0 (texts_idle request others.1))
+          (certificates_idle request others.2))
           accounts promise)
 
-    pub sections_part : AreIdleTogether on_values on_texts
+    pub places_part : AreIdleTogether on_values on_texts
         → AreIdleTogether on_values_or_texts on_certificates
-        → HaveAccountsOfSecond on_others on_certified → PromiseAsSecond on_others on_certified
-        → IsPart on_certified IsOfSections
-    sections_part inner together accounts promise =
-        part_of_input on_certified IsOfSections (λ request of. (of_sections_others request of).3)
-        (second_part on_others on_certified IsOfSections
+        → AreIdleTogether on_others on_certified
+        → HaveAccountsOfSecond on_items on_places → PromiseAsSecond on_items on_places
+        → IsPart on_places IsOfPlaces
+    places_part inner middle together accounts promise =
+        part_of_input on_places IsOfPlaces (λ request of. (of_places_others request of).4)
+        (second_part on_items on_places IsOfPlaces
         (λ request of.
-        let others = of_sections_others request of in
-        together request (inner request others.0 (texts_idle request others.1))
+        let others = of_places_others request of in
+        together request
+        (middle request (inner request others.0 (texts_idle request others.1))
         (certificates_idle request others.2))
+        (sections_idle request others.3))
         accounts promise)
 
   pub made_part : AreIdleTogether on_values on_texts
       → AreIdleTogether on_values_or_texts on_certificates
-      → AreIdleTogether on_others on_certified → HaveAccountsOfSecond on_input on_made
-      → PromiseAsSecond on_input on_made → IsPart on_made IsOfMade
-  made_part inner middle together accounts promise =
+      → AreIdleTogether on_others on_certified → AreIdleTogether on_items on_places
+      → HaveAccountsOfSecond on_input on_made → PromiseAsSecond on_input on_made
+      → IsPart on_made IsOfMade
+  made_part inner middle outer together accounts promise =
       second_part on_input on_made IsOfMade
       (λ request of.
       let others = of_made_others request of in
       together request
+      (outer request
       (middle request (inner request others.0 (texts_idle request others.1))
       (certificates_idle request others.2))
       (sections_idle request others.3))
+      (places_idle request others.4))
       accounts promise
 
 -- words ask for one request at most
@@ -209,13 +256,16 @@ values_in_turns request files turn name (inl (first, w)) = omega (arith, first)
 values_in_turns request files turn name (inr (second, w)) = omega (arith, second)
 
 pub all_in_turns : WantsInTurns 2 all_commands
-all_in_turns request files turn name (inl (inl (inl (inl w)))) =
+all_in_turns request files turn name (inl (inl (inl (inl (inl w))))) =
     values_in_turns request files turn name w
-all_in_turns request files turn name (inl (inl (inl (inr (first, type, asked))))) =
+all_in_turns request files turn name (inl (inl (inl (inl (inr (first, type, asked)))))) =
     omega (arith, first)
-all_in_turns request files turn name (inl (inl (inr (asked, is, inl (first, named))))) =
+all_in_turns request files turn name (inl (inl (inl (inr (asked, is, inl (first, named)))))) =
     omega (arith, first)
-all_in_turns request files turn name (inl (inl (inr (asked, is, inr (second, named, type, typed))))) =
+all_in_turns request files turn name
+    (inl (inl (inl (inr (asked, is, inr (second, named, type, typed)))))) =
     omega (arith, second)
-all_in_turns request files turn name (inl (inr (asked, is, first, named))) = omega (arith, first)
+all_in_turns request files turn name (inl (inl (inr (asked, is, first, named)))) =
+    omega (arith, first)
+all_in_turns request files turn name (inl (inr never)) = absurd never
 all_in_turns request files turn name (inr never) = absurd never

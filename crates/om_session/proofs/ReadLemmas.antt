@@ -1,7 +1,7 @@
 -- What is said of the values so far, as a piece is taken.
 use Rattle.std.proofs.Common.{◌≡◌, ◌⊎◌, ℕ, zero, suc, ◌+◌, ◌^◌, ◌<◌, ◌≤◌, Bool, true, false, List, [], ◌∷◌, ◌++◌, length, take, drop, Result, Ok, Err, inl, inr, refl, sym, ap, ◌∙◌, subst, append_assoc, append-nil, length-append, take_all, arith}
 use Rattle.std.proofs.lemmas.List.{length-take-le, take-append-drop}
-use Rattle.std.specs.Prelude.{◌&&◌, ◌↔◌, ◌≢◌, IsTrue, IsErrAnd, Vec}
+use Rattle.std.specs.Prelude.{◌&&◌, ◌↔◌, ◌≢◌, IsTrue, IsErrAnd, IfSome, Vec}
 use Rattle.std.specs.List.{AllZip, AllByRecursion}
 use Rattle.std.proofs.lemmas.List.Elements.{All-from_recursion, All-nil}
 use Rattle.std.specs.declared.alloc.Global.{Global}
@@ -106,7 +106,7 @@ begins_kept (jobs.Say speech most) kept earlier none no_earlier = tt
 begins_kept (jobs.Edit e most) kept earlier none no_earlier = record {
   others = [];
   done = refl;
-  kept = subst (λ made. AreMade [] made) (sym no_earlier) (All-nil (λ (made : Earlier). IsMade [] made.number made.value));
+  kept = subst (λ made. AreMade [] made) (sym no_earlier) (All-nil (λ (made : Earlier). IfSome made.value (λ value. IsMade [] made.number value)));
   needed = subst (λ made. AreEarlier e.script.now.lines 0 made) (sym no_earlier) (none_needed e.script.now.lines);
 }
 begins_kept (jobs.Compare most) kept earlier none no_earlier = (subst (λ k. AllZip IsValueOf k []) (sym none) tt, omega arith)

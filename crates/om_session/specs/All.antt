@@ -2,7 +2,7 @@
 -- is added here.
 use Rattle.std.specs.Prelude.{ℕ, ◌⊎◌, List}
 use Rattle.om_section.specs.declared.section.Section.{Section}
-use Rattle.om_outcome.specs.CommandLine.{certify}
+use Rattle.om_outcome.specs.CommandLine.{certify, scan, searched_by}
 use Rattle.om_outcome.specs.Outcome.{Request, own, build, generate, verify, Asks, Task}
 use Rattle.om_path.specs.declared.edits.ScriptLine.{ScriptLine}
 use Rattle.om_promises.specs.Account.{Account}
@@ -15,17 +15,22 @@ use Rattle.om_texts.specs.Texts.{building}
 use Rattle.om_generation.specs.Generation.{Making, generation}
 use Rattle.om_verification.specs.Verification.{Verification}
 use Rattle.om_certification.specs.Certification.{Certification}
+use Rattle.om_searching.specs.Searching.{searching}
 use Rattle.om_build.specs.Lines.{declared_texts}
 use Rattle.om_declared.specs.Language.{TypeOver, declared_types}
 pub use Rattle.om_verifier.specs.Reading.{on_certificates}
 pub use Rattle.om_certifier.specs.Certified.{on_certified}
 
--- the commands on values, the one on texts, and the one on a value that is made from a number
+-- the commands on values, the one on texts, the one on where values stand, and the one on a value
+-- that is made from a number
 abbrev pub on_values : Commands (Task TypeOver ScriptLine)
 on_values = commands declared_types
 
 abbrev pub on_texts : Commands TypeOver
 on_texts = building declared_types declared_texts
+
+abbrev pub on_places : Commands ℕ
+on_places = searching searched_by
 
 abbrev pub on_made : Commands (Making TypeOver)
 on_made = generation declared_types
@@ -37,19 +42,26 @@ ActOnValuesOrTexts = Task TypeOver ScriptLine ⊎ TypeOver
 abbrev pub on_values_or_texts : Commands ActOnValuesOrTexts
 on_values_or_texts = choice on_values on_texts
 
--- what may be done with the input, but to certify its values
+-- what may be done with the values or lines of the input, but to certify them
 abbrev pub ActOnOthers : Type 0
 ActOnOthers = ActOnValuesOrTexts ⊎ Verification TypeOver Section
 
 abbrev pub on_others : Commands ActOnOthers
 on_others = choice on_values_or_texts on_certificates
 
+-- what may be done with the values or lines of the input
+abbrev pub ActOnItems : Type 0
+ActOnItems = ActOnOthers ⊎ Certification TypeOver
+
+abbrev pub on_items : Commands ActOnItems
+on_items = choice on_others on_certified
+
 -- what may be done with the input
 abbrev pub ActOnInput : Type 0
-ActOnInput = ActOnOthers ⊎ Certification TypeOver
+ActOnInput = ActOnItems ⊎ ℕ
 
 abbrev pub on_input : Commands ActOnInput
-on_input = choice on_others on_certified
+on_input = choice on_items on_places
 
 -- what may be done, by one of them
 abbrev pub Act : Type 0
@@ -59,7 +71,7 @@ abbrev pub all_commands : Commands Act
 all_commands = choice on_input on_made
 
 -- what is asked for is to be done with values, with texts, with values and their certificate, with
--- values that are certified, or with a value that is made
+-- values that are certified, with bytes among which values stand, or with a value that is made
 abbrev pub IsOfValues : Request → Type 0
 IsOfValues (own request) = ⊥
 IsOfValues request = Unit {0}
@@ -75,6 +87,10 @@ IsOfCertificates request = ⊥
 abbrev pub IsOfSections : Request → Type 0
 IsOfSections (own (certify file type limit)) = Unit {0}
 IsOfSections request = ⊥
+
+abbrev pub IsOfPlaces : Request → Type 0
+IsOfPlaces (own (scan limit)) = Unit {0}
+IsOfPlaces request = ⊥
 
 abbrev pub IsOfMade : Request → Type 0
 IsOfMade (own (generate number count type)) = Unit {0}

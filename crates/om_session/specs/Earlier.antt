@@ -1,10 +1,11 @@
 -- The earlier values that are kept, for the lines that copy parts of them.
-use Rattle.std.specs.Prelude.{ℕ, ◌≡◌, ◌≤◌, ◌<◌, ◌∷◌, ◌++◌, List, [], Some, length, All, Any, nat_lt, if◌then◌else◌, slice_get}
-use Rattle.std.specs.List.Sorted.{IsNonDecreasingBy}
+use Rattle.std.specs.Prelude.{ℕ, ◌≡◌, ◌≤◌, ◌<◌, ◌∷◌, ◌++◌, List, [], None, Some, length, map, All, Any, IfSome, IsSome, nat_eq, nat_lt, if◌then◌else◌, slice_get}
+use Rattle.std.specs.List.{AllPairs}
 use Rattle.om_model.specs.Graph.{IsValue}
 use Rattle.om_edit.specs.Grafts.{Other}
-use Rattle.om_path.specs.Uses.{CopiesFrom}
+use Rattle.om_path.specs.Uses.{CopiesFrom, IsLastUse}
 use Rattle.om_path.specs.declared.edits.Action.{Action}
+use Rattle.om_path.specs.declared.edits.Action.TheVariants as actions
 use Rattle.om_path.specs.declared.edits.ScriptLine.{ScriptLine}
 use Rattle.om_read.specs.declared.value.Value.{Value}
 use Rattle.om_session.specs.declared.earlier.Earlier.{Earlier}
@@ -14,17 +15,17 @@ pub record IsMade (others : List Other) (number : ℕ) (value : Value) : Type 0 
   pub valid : IsValue (length value.heap) value.root
   pub same : slice_get others number ≡ Some (value.heap, value.root)
 
--- what is kept are such values
+-- the values that are kept are such
 abbrev pub AreMade : List Other → List Earlier → Type 0
-AreMade others kept = All (λ e. IsMade others e.number e.value) kept
+AreMade others kept = All (λ e. IfSome e.value (λ value. IsMade others e.number value)) kept
 
--- they are kept in their order
+-- the entries stand in the order of their numbers, and no two have one number
 abbrev pub AreInOrder : List Earlier → Type 0
-AreInOrder kept = IsNonDecreasingBy (λ e. e.number) kept
+AreInOrder kept = AllPairs (λ e later. e.number < later.number) kept
 
 -- the value of this number is kept
 abbrev pub IsThere : List Earlier → ℕ → Type 0
-IsThere kept number = Any (λ e. e.number ≡ number) kept
+IsThere kept number = Any (λ e. (e.number ≡ number) × IsSome e.value) kept
 
 -- the value that is copied from, if one is, can be found
 pub record IsServed (kept : List Earlier) (action : Action) : Type 0 where
@@ -35,17 +36,52 @@ pub record IsServed (kept : List Earlier) (action : Action) : Type 0 where
 abbrev pub AreServed : List Earlier → List ScriptLine → Type 0
 AreServed kept lines = All (λ line. IsServed kept line.action) lines
 
--- each of the first n values that a line of a later value copies from is kept up to that value
+-- The entry of one of the first n values, with the number of the last value into which a line
+-- copies from it. Once that one has come, the value is kept no more.
+pub record IsEntry (lines : List ScriptLine) (n : ℕ) (e : Earlier) : Type 0 where
+  pub before : e.number < n
+  pub last : IsLastUse lines e.number e.last
+  pub used : IsSome e.value → n ≤ e.last
+
+-- of the first n values those are kept that a line of a later value copies from, and no others
 pub record AreEarlier (lines : List ScriptLine) (n : ℕ) (kept : List Earlier) : Type 0 where
   pub in_order : AreInOrder kept
+  pub entries : All (IsEntry lines n) kept
   pub needed : All
       (λ line. (number : ℕ) → CopiesFrom number line.action → number < n → n ≤ line.value
-      → Any (λ e. (e.number ≡ number) × (line.value ≤ e.last)) kept)
+      → IsThere kept number)
       lines
 
 -- no line copies from the value of this number into one after the last
 abbrev pub IsUsedUpTo : List ScriptLine → ℕ → ℕ → Type 0
 IsUsedUpTo lines number last = All (λ line. CopiesFrom number line.action → line.value ≤ last) lines
+
+-- one of these lines copies from each value that is kept and not copied into a later one
+abbrev pub AreNamed : ℕ → List ScriptLine → List Earlier → Type 0
+AreNamed number lines kept =
+    All
+    (λ e. IsSome e.value → e.last ≤ number → Any (λ line. CopiesFrom e.number line.action) lines)
+    kept
+
+-- ---- what is left of the entries
+
+abbrev pub without : Earlier → Earlier
+without e = record { number = e.number; last = e.last; value = None }
+
+-- once the value of this number has come, one that is not copied into a later one is let go
+abbrev pub after_value : ℕ → Earlier → Earlier
+after_value number e = if nat_lt number e.last then e else without e
+
+-- the same, if it is the value that is copied from
+abbrev pub after_copy : ℕ → ℕ → Earlier → Earlier
+after_copy from number e = if nat_eq e.number from then after_value number e else e
+
+abbrev pub after_action : Action → ℕ → Earlier → Earlier
+after_action (actions.Edit edit) number e = e
+after_action (actions.Graft path from source) number e = after_copy from number e
+
+abbrev pub all_after : ℕ → List Earlier → List Earlier
+all_after number kept = map (after_value number) kept
 
 -- one more, if a part of it is copied into a value after it
 abbrev pub with_made : List Earlier → Earlier → List Earlier

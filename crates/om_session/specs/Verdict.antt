@@ -2,7 +2,6 @@
 use Rattle.std.specs.Prelude.{ℕ, ◌≡◌, Bool, true, List, ◌++◌}
 use Rattle.om_model.specs.declared.value.Val.{Val}
 use Rattle.om_model.specs.declared.value.Obj.{Obj}
-use Rattle.om_check.specs.declared.verdict.Verdict.{Verdict}
 use Rattle.om_outcome.specs.Outcome as outcome
 use Rattle.om_show.specs.Dumped.{dump_text}
 use Rattle.om_path.specs.declared.edits.ScriptLine.{ScriptLine}

@@ -1,6 +1,7 @@
 //! The commands of the program: those on values at declared types, the one on texts, the one that
-//! verifies certificates, the one that writes them, and the one on a value that is made; and all of
-//! them as one set, with what follows from what is promised of a call.
+//! verifies certificates, the one that writes them, the one that tells where values stand, and the
+//! one on a value that is made; and all of them as one set, with what follows from what is promised
+//! of a call.
 
 ghost use Rattle.om_causes.specs.Causes.{Causes as CausesBy};
 ghost use Rattle.om_commands.specs.Tasks.{commands};
@@ -9,7 +10,8 @@ ghost use Rattle.om_promises.specs.Causes.{OutsideCauses};
 ghost use Rattle.om_promises.specs.CommandLaws.{HaveOneOutcome, ArePromised, Follow};
 ghost use Rattle.om_promises.specs.Lawful.{AreLawful, AreInTurns};
 ghost use Rattle.om_declared.specs.Language.{declared_types};
-ghost use Rattle.om_session.specs.All.{on_values, on_texts, on_made, on_certificates, on_certified, all_commands, IsOfValues, IsOfTexts, IsOfMade, IsOfCertificates, IsOfSections, IsPart};
+ghost use Rattle.om_outcome.specs.CommandLine.{searched_by};
+ghost use Rattle.om_session.specs.All.{on_values, on_texts, on_made, on_certificates, on_certified, on_places, all_commands, IsOfValues, IsOfTexts, IsOfMade, IsOfCertificates, IsOfSections, IsOfPlaces, IsPart};
 ghost use Rattle.om_build.specs.Lines.{declared_texts};
 ghost use Rattle.om_texts.specs.Meanings.{texts_tables};
 ghost use Rattle.om_generation.specs.Meanings.{Causes as CausesOfMade};
@@ -17,11 +19,14 @@ ghost use Rattle.om_verification.specs.Meanings.{certificate_tables};
 ghost use Rattle.om_verifier.specs.Shown.{reads_sections, declared_sections};
 ghost use Rattle.om_certification.specs.Meanings.{certifying_tables};
 ghost use Rattle.om_certifier.specs.Certified.{declared_certificates};
+ghost use Rattle.om_searching.specs.Meanings.{searching_tables};
 
 use om_apart::laws::{
     certificates_stand_apart, certificates_stand_apart_from_made,
     certificates_stand_apart_from_texts, made_stands_apart, made_stands_apart_from_texts,
-    sections_stand_apart, sections_stand_apart_from_certificates, sections_stand_apart_from_made,
+    searches_stand_apart, searches_stand_apart_from_certificates, searches_stand_apart_from_made,
+    searches_stand_apart_from_sections, searches_stand_apart_from_texts, sections_stand_apart,
+    sections_stand_apart_from_certificates, sections_stand_apart_from_made,
     sections_stand_apart_from_texts,
 };
 use om_build::laws::{DeclaredTexts, declared_texts_are_read_once};
@@ -42,6 +47,10 @@ use om_generation::laws::{
 };
 use om_meanings::laws::causes_of_statuses;
 use om_promises::laws::{files_in_turns, lawful_commands, promised, promises_of_commands};
+use om_searching::laws::{
+    OnStretches, Searches, causes_of_searching, searching_is_idle_elsewhere, searching_is_lawful,
+    searching_takes_turns,
+};
 use om_texts::laws::{
     OnTexts, building_is_lawful, building_stands_apart, building_takes_turns, causes_of_texts,
 };
@@ -50,6 +59,13 @@ use om_verification::laws::{
     verifying_takes_turns,
 };
 use om_verifier::laws::{DeclaredSections, declared_sections_are_read_once};
+
+/// What asks where values stand.
+pub struct Scans;
+
+impl Searches for Scans {
+    ghost limit_by = { searched_by };
+}
 
 type Values = OnValues<DeclaredTypes>;
 
@@ -61,11 +77,15 @@ type Certificates = OnCertificates<DeclaredSections>;
 
 type Sections = OnCertified<DeclaredCertificates>;
 
+type Places = OnStretches<Scans>;
+
 type ValuesOrTexts = Choice<Values, Texts>;
 
 type Others = Choice<ValuesOrTexts, Certificates>;
 
-type Input = Choice<Others, Sections>;
+type Items = Choice<Others, Sections>;
+
+type Input = Choice<Items, Places>;
 
 type All = Choice<Input, Made>;
 
@@ -94,6 +114,13 @@ pub fn all_commands_are_lawful()
     sections_stand_apart_from_texts::<DeclaredTexts, DeclaredCertificates>();
     sections_stand_apart_from_certificates::<DeclaredSections, DeclaredCertificates>();
     sections_stand_apart_from_made::<DeclaredCertificates, DeclaredTypes>();
+    searching_is_lawful::<Scans>();
+    searching_takes_turns::<Scans>();
+    searches_stand_apart::<DeclaredTypes>();
+    searches_stand_apart_from_texts::<DeclaredTexts>();
+    searches_stand_apart_from_certificates::<DeclaredSections>();
+    searches_stand_apart_from_sections::<DeclaredCertificates>();
+    searches_stand_apart_from_made::<DeclaredTypes>();
     generation_is_lawful::<DeclaredTypes>();
     generation_takes_turns::<DeclaredTypes>();
     made_stands_apart::<DeclaredTypes>();
@@ -107,9 +134,15 @@ pub fn all_commands_are_lawful()
     choices_are_apart::<ValuesOrTexts, Certificates, Sections>();
     choices_are_lawful::<Others, Sections>();
     choices_take_turns::<Others, Sections>();
+    choices_are_apart::<Values, Texts, Places>();
+    choices_are_apart::<ValuesOrTexts, Certificates, Places>();
+    choices_are_apart::<Others, Sections, Places>();
+    choices_are_lawful::<Items, Places>();
+    choices_take_turns::<Items, Places>();
     choices_are_apart::<Values, Texts, Made>();
     choices_are_apart::<ValuesOrTexts, Certificates, Made>();
     choices_are_apart::<Others, Sections, Made>();
+    choices_are_apart::<Items, Places, Made>();
     choices_are_lawful::<Input, Made>();
     choices_take_turns::<Input, Made>();
 }
@@ -147,21 +180,26 @@ pub fn all_commands_have_parts()
     ensures texts { IsPart on_texts IsOfTexts }
     ensures certificates { IsPart on_certificates IsOfCertificates }
     ensures sections { IsPart on_certified IsOfSections }
+    ensures places { IsPart on_places IsOfPlaces }
     ensures made { IsPart on_made IsOfMade }
 {
     building_stands_apart::<DeclaredTexts>();
     verifying_is_idle_elsewhere::<DeclaredSections>();
     certifying_is_idle_elsewhere::<DeclaredCertificates>();
+    searching_is_idle_elsewhere::<Scans>();
     generation_is_idle_elsewhere::<DeclaredTypes>();
     choices_are_idle::<Values, Texts>();
     choices_are_idle::<ValuesOrTexts, Certificates>();
     choices_are_idle::<Others, Sections>();
+    choices_are_idle::<Items, Places>();
     choices_promise_as_the_first::<Values, Texts>();
     choices_promise_as_the_second::<Values, Texts>();
     choices_promise_as_the_first::<ValuesOrTexts, Certificates>();
     choices_promise_as_the_second::<ValuesOrTexts, Certificates>();
     choices_promise_as_the_first::<Others, Sections>();
     choices_promise_as_the_second::<Others, Sections>();
+    choices_promise_as_the_first::<Items, Places>();
+    choices_promise_as_the_second::<Items, Places>();
     choices_promise_as_the_first::<Input, Made>();
     choices_promise_as_the_second::<Input, Made>();
 }
@@ -202,6 +240,13 @@ pub fn statuses_of_sections_have_causes()
     declared_types_are_lawful();
     declared_certificates_are_one();
     causes_of_sections::<DeclaredCertificates>();
+}
+
+/// And so does what is promised by the one that tells where values stand.
+pub fn statuses_of_places_have_causes()
+    ensures { Follow on_places (CausesBy on_places searching_tables) }
+{
+    causes_of_searching::<Scans>();
 }
 
 /// And so does what is promised by the one on a value that is made.

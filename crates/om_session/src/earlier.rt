@@ -1,38 +1,47 @@
 //! The earlier values of the input, for the lines that copy parts of them.
 
-ghost use Rattle.std.specs.Prelude.{◌≡◌, ◌<◌, ◌++◌, ◌∷◌, List, [], Any, OnOk, filter, nat_lt, vec_len};
+ghost use Rattle.std.specs.Prelude.{◌≡◌, ◌<◌, ◌++◌, ◌∷◌, [], Some, Any, OnOk, map, vec_len};
 ghost use Rattle.std.specs.Vec.{vec_capacity};
+ghost use Rattle.om_path.specs.Order.{lines_of};
 ghost use Rattle.om_read.specs.Reader.{Leads};
-ghost use Rattle.om_session.specs.Earlier.{AreInOrder, IsThere, with_made};
+ghost use Rattle.om_session.specs.Earlier.{AreInOrder, AreNamed, IsThere, after_action, after_copy, all_after, with_made};
 
 use om_model::Memory;
+use om_path::{Action, Script};
 use om_read::{Reader, Value};
 use std::alloc::Global;
 
-/// A value that came before, as its lines made it.
+/// A value that came before, as its lines made it, until it is let go.
 #[derive(Drop)]
 pub struct Earlier {
     pub number: u64,
     /// The number of the last value that a part of it is copied into.
     pub last: u64,
-    pub value: Value,
+    pub value: Option<Value>,
 }
 
 /// The earlier value of this number, found without a look at the others.
 pub fn earlier_value(kept: &[Earlier], number: u64) -> &Value
     requires order { AreInOrder kept.now }
     requires there { IsThere kept.now number }
-    ensures { Any (λ e. (e.number ≡ number) × (e.value ≡ result.now)) kept.now }
+    ensures { Any (λ e. (e.number ≡ number) × (e.value ≡ Some result.now)) kept.now }
 {
     let place = kept.partition_point(|made| made.number < number);
-    &kept[place].value
+    match &kept[place].value {
+        Some(value) => value,
+        None => unreachable!(),
+    }
 }
 
-/// Makes room for one more.
-pub fn make_room(kept: &mut Vec<Earlier>) -> Result<(), Memory>
+/// Makes room for the value of this number, if a part of it is copied into a later one, up to
+/// `last`.
+pub fn make_room(kept: &mut Vec<Earlier>, number: u64, last: u64) -> Result<(), Memory>
     ensures items { kept.new.items ≡ kept.old.items }
-    ensures room { OnOk result (vec_len kept.new < vec_capacity kept.new) }
+    ensures room { OnOk result (number < last → vec_len kept.new < vec_capacity kept.new) }
 {
+    if last <= number {
+        return Ok(());
+    }
     Ok(kept.reserve(1)?)
 }
 
@@ -44,36 +53,84 @@ fn keep_made(kept: &mut Vec<Earlier>, made: Earlier)
     let _pushed = kept.push(made);
 }
 
-/// Keeps the value of this number, if a part of it is copied into a later one, up to `last`. A
-/// reader waits for the next value, in the memory of this one unless that is kept.
+/// Lets the value go, if it has the number `from` and no part of it is copied into a value after
+/// that of `number`.
+fn let_go(made: &mut Earlier, from: u64, number: u64)
+    ensures { made.new ≡ after_copy from number made.old }
+{
+    if made.number != from {
+        return;
+    }
+    if number < made.last {
+        return;
+    }
+    made.value = None;
+}
+
+/// The same with the value of the number `from`, found without a look at the others.
+fn let_go_of(kept: &mut [Earlier], from: u64, number: u64)
+    requires { AreInOrder kept.old }
+    ensures { kept.new ≡ map (λ made. after_copy from number made) kept.old }
+{
+    let place = kept.partition_point(|made| made.number < from);
+    if place < kept.len() {
+        let_go(&mut kept[place], from, number);
+    }
+}
+
+/// The same with the value that a line of this value copies from, if it copies.
+fn let_go_by(kept: &mut [Earlier], action: &Action, number: u64)
+    requires { AreInOrder kept.old }
+    ensures { kept.new ≡ map (after_action action.now number) kept.old }
+{
+    match action {
+        Action::Edit(_) => {}
+        Action::Graft(_, from, _) => let_go_of(kept, *from, number),
+    }
+}
+
+/// Lets the values go of which no part is copied into a value after that of this number. A look is
+/// taken at those alone that its own lines copy from.
+fn drop_used(kept: &mut [Earlier], script: &Script, number: u64)
+    requires order { AreInOrder kept.old }
+    requires named { AreNamed number (lines_of number script.now.lines) kept.old }
+    ensures { kept.new ≡ all_after number kept.old }
+{
+    let mut rest = script.lines_of(number);
+    while let Some(line) = rest.next() {
+        let_go_by(kept, &line.action, number);
+    }
+}
+
+/// Once the value of this number is edited: lets those go that no later line copies from, and keeps
+/// this one, if a part of it is copied into a later value, up to `last`. A reader waits for the next
+/// value, in the memory of this one unless that is kept.
 pub fn next_reader(
     alloc: Global,
     limit: u64,
     kept: &mut Vec<Earlier>,
+    script: &Script,
     number: u64,
     value: Value,
     last: u64,
 ) -> Reader
-    requires { vec_len kept.old < vec_capacity kept.old }
+    requires room { number < last → vec_len kept.old < vec_capacity kept.old }
+    requires order { AreInOrder kept.old.items }
+    requires named { AreNamed number (lines_of number script.now.lines) kept.old.items }
     ensures leads { Leads limit [] result }
     ensures kept { kept.new.items
-        ≡ with_made kept.old.items (record { number = number; last = last; value = value }) }
+        ≡ with_made (all_after number kept.old.items)
+        (record { number = number; last = last; value = Some value }) }
 {
+    drop_used(kept.as_mut_slice(), script, number);
     if last <= number {
         return Reader::over(alloc, limit, value.heap);
     }
     let made = Earlier {
         number,
         last,
-        value,
+        value: Some(value),
     };
     keep_made(kept, made);
     Reader::new(alloc, limit)
-}
-
-/// Drops the values of which no part is copied into a value after that of this number.
-pub fn drop_used(kept: &mut Vec<Earlier>, number: u64)
-    ensures { kept.new.items ≡ filter (λ made. nat_lt number made.last) kept.old.items }
-{
-    kept.retain(|made| number < made.last);
 }

@@ -12,7 +12,7 @@ mod verdict;
 
 pub use commands::{
     all_commands_are_lawful, all_commands_have_one_outcome, all_commands_have_parts,
-    all_commands_keep_promises, statuses_of_made_have_causes, statuses_of_texts_have_causes,
-    statuses_of_values_have_causes, values_have_one_outcome,
+    all_commands_keep_promises, statuses_of_made_have_causes, statuses_of_places_have_causes,
+    statuses_of_texts_have_causes, statuses_of_values_have_causes, values_have_one_outcome,
 };
 pub use top::run;

@@ -20,7 +20,8 @@ ghost use Rattle.om_verification.specs.Meanings.{certificate_tables};
 ghost use Rattle.om_verifier.specs.Shown.{reads_sections, declared_sections};
 ghost use Rattle.om_certification.specs.Meanings.{certifying_tables};
 ghost use Rattle.om_certifier.specs.Certified.{declared_certificates};
-ghost use Rattle.om_session.specs.All.{on_texts, on_certificates, on_certified, all_commands, IsOfValues, IsOfTexts, IsOfMade, IsOfCertificates, IsOfSections, AskOnly};
+ghost use Rattle.om_searching.specs.Meanings.{searching_tables};
+ghost use Rattle.om_session.specs.All.{on_texts, on_certificates, on_certified, on_places, all_commands, IsOfValues, IsOfTexts, IsOfMade, IsOfCertificates, IsOfSections, IsOfPlaces, AskOnly};
 ghost use Rattle.om_work.specs.Reported.{HasAccount};
 ghost use Rattle.om_session.specs.Telling.{AsksToTell, AsksToEdit};
 ghost use Rattle.om_declared.specs.Types.{IsReady};
@@ -32,9 +33,10 @@ ghost use Rattle.om_stops.specs.Stops.{stop_of, Reports};
 
 use crate::build::build;
 use crate::commands::{
-    all_commands_have_parts, all_commands_keep_promises, statuses_of_certificates_have_causes,
-    statuses_of_made_have_causes, statuses_of_sections_have_causes, statuses_of_texts_have_causes,
-    statuses_of_values_have_causes, values_have_one_outcome,
+    Scans, all_commands_have_parts, all_commands_keep_promises,
+    statuses_of_certificates_have_causes, statuses_of_made_have_causes,
+    statuses_of_places_have_causes, statuses_of_sections_have_causes,
+    statuses_of_texts_have_causes, statuses_of_values_have_causes, values_have_one_outcome,
 };
 use crate::edit::Edits;
 use crate::values::{Job, Progress};
@@ -46,6 +48,7 @@ use om_edge::{Opener, Sink, Source};
 use om_generator::run_generation;
 use om_outcome::status::Status;
 use om_path::{Script, lines_in_time, read_path};
+use om_searcher::search_input;
 use om_stops::stop::{Stop, report_stop};
 use om_verifier::verify;
 use om_work::run_reported;
@@ -379,6 +382,7 @@ fn run_request<S: Source, O: Opener, K: Sink, E: Sink>(
             count,
             type_text,
         } => run_generation(alloc, number, count, type_text, input, out, err),
+        Request::Scan { limit } => search_input::<Scans, S, K, E>(alloc, limit, input, out, err),
     }
 }
 
@@ -448,6 +452,12 @@ pub fn run<S: Source, O: Opener, K: Sink, E: Sink>(
         (change (O.state files.old) (O.state files.new))
         (change (K.state out.old) (K.state out.new))
         (change (E.state err.old) (E.state err.new)) result) }
+    ensures causes_of_places { AskOnly IsOfPlaces (texts words.now)
+        → CausesBy on_places searching_tables (texts words.now)
+        (call (change (S.state input.old) (S.state input.new))
+        (change (O.state files.old) (O.state files.new))
+        (change (K.state out.old) (K.state out.new))
+        (change (E.state err.old) (E.state err.new)) result) }
     ensures causes_of_made { AskOnly IsOfMade (texts words.now)
         → CausesOfMade declared_types (texts words.now)
         (call (change (S.state input.old) (S.state input.new))
@@ -468,6 +478,7 @@ pub fn run<S: Source, O: Opener, K: Sink, E: Sink>(
     statuses_of_texts_have_causes();
     statuses_of_certificates_have_causes();
     statuses_of_sections_have_causes();
+    statuses_of_places_have_causes();
     statuses_of_made_have_causes();
     run_command(alloc, words, input, files, out, err)
 }

@@ -15,7 +15,7 @@ ghost use Rattle.om_session.specs.SaidOfValue.{PutsSaid};
 ghost use Rattle.om_session.specs.Glimpse.{IsSeen, IsBetween};
 ghost use Rattle.om_session.specs.Values.{IsReadyJob, IsStopOf, AreValues, IsFull, MayTake, HasRead, IsValueRead, KeepsNext, PutsNext, Compares, EndsScript, task_of, word_limit};
 
-use crate::earlier::{Earlier, drop_used, make_room, next_reader};
+use crate::earlier::{Earlier, make_room, next_reader};
 use crate::edit::{Edits, edit_value, line_past};
 use crate::glimpse::{Looks, glimpse};
 use crate::verdict::{Saying, Speech, line_of};
@@ -205,7 +205,7 @@ impl Values {
         let reader = mem::replace(&mut self.reader, Reader::new(alloc, limit));
         let mut value = reader.finish();
         let last = edits.script.last_use(self.count).unwrap_or(0);
-        make_room(&mut self.earlier)?;
+        make_room(&mut self.earlier, self.count, last)?;
         edit_value(
             alloc,
             &mut value,
@@ -214,8 +214,15 @@ impl Values {
             self.earlier.as_slice(),
             out,
         )?;
-        self.reader = next_reader(alloc, limit, &mut self.earlier, self.count, value, last);
-        drop_used(&mut self.earlier, self.count);
+        self.reader = next_reader(
+            alloc,
+            limit,
+            &mut self.earlier,
+            edits.script,
+            self.count,
+            value,
+            last,
+        );
         self.count += 1;
         Ok(())
     }

@@ -23,7 +23,10 @@ returns-in_default c =
                 c.in_default.not-dump,
                 (
                   c.in_default.not-same,
-                  (c.in_default.not-build, (c.in_default.not-verify, (c.in_default.not-gen, tt))),
+                  (
+                    c.in_default.not-build,
+                    (c.in_default.not-verify, (c.in_default.not-gen, (c.in_default.not-scan, tt))),
+                  ),
                 ),
               ),
             ),

@@ -30,6 +30,11 @@ returns-clause-causes_of_sections g c = λ only.
     let all = c.all_commands_keep_promises.ensures.account _ _ c.tells_bytes.ensures c.run_command.ensures in
     c.statuses_of_sections_have_causes.ensures _ _ c.tells_bytes.ensures (c.all_commands_have_parts.ensures.sections.promises _ _ only all)
 
+pub returns-clause-causes_of_places : goal.returns-clause-causes_of_places
+returns-clause-causes_of_places g c = λ only.
+    let all = c.all_commands_keep_promises.ensures.account _ _ c.tells_bytes.ensures c.run_command.ensures in
+    c.statuses_of_places_have_causes.ensures _ _ c.tells_bytes.ensures (c.all_commands_have_parts.ensures.places.promises _ _ only all)
+
 pub returns-clause-causes_of_made : goal.returns-clause-causes_of_made
 returns-clause-causes_of_made g c = λ only.
     let all = c.all_commands_keep_promises.ensures.account _ _ c.tells_bytes.ensures c.run_command.ensures in

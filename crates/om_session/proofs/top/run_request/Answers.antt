@@ -1,8 +1,8 @@
 use Rattle.std.proofs.Common.{refl}
-use Rattle.om_outcome.specs.CommandLine.{certify}
+use Rattle.om_outcome.specs.CommandLine.{certify, scan}
 use Rattle.om_outcome.specs.Outcome.{Request, tell, the_verdict, the_text, the_trees, get, edit, dump, compare, own, build, generate, verify, Asks}
 use Rattle.om_edge.specs.State.{change}
-use Rattle.om_session.specs.All.{on_values, on_texts, on_made, on_certificates, on_certified, IsOfValues, IsOfTexts, IsOfMade, IsOfCertificates, IsOfSections}
+use Rattle.om_session.specs.All.{on_values, on_texts, on_made, on_certificates, on_certified, on_places, IsOfValues, IsOfTexts, IsOfMade, IsOfCertificates, IsOfSections, IsOfPlaces}
 use Rattle.om_session.proofs.AccountLemmas.{dump_account, compare_account}
 use Rattle.om_session.proofs.PartLemmas.{all_account}
 use Rattle.om_session.proofs.top.run_request.Goals as goal
@@ -82,3 +82,10 @@ returns-in-Generate g c = λ words asks.
     let asked : Asks words request = rw c.in-Generate.is at asks in
     all_account on_made IsOfMade c.all_commands_have_parts.ensures.made words _ request asked tt
     (c.run_generation.ensures.account words asked (g.O.Opener.state c.args.files.now))
+
+pub returns-in-Scan : goal.returns-in-Scan
+returns-in-Scan g c = λ words asks.
+    let request : Request = own (scan c.in-Scan.limit) in
+    let asked : Asks words request = rw c.in-Scan.is at asks in
+    all_account on_places IsOfPlaces c.all_commands_have_parts.ensures.places words _ request asked tt
+    (c.search_input.ensures words request asked refl (g.O.Opener.state c.args.files.now))

@@ -1,12 +1,12 @@
-use Rattle.std.proofs.Common.{◌≡◌, ◌∙◌, ◌+◌, List, length, refl, sym, ap, subst, arith}
-use Rattle.std.specs.Prelude.{filter, nat_lt}
+use Rattle.std.proofs.Common.{◌≡◌, ◌∙◌, ◌+◌, ◌<◌, List, Some, length, refl, sym, ap, subst, arith}
 use Rattle.om_edge.specs.State.{change}
 use Rattle.om_read.specs.Reader.{Leads}
+use Rattle.om_path.specs.Uses.{IsLastUse}
 use Rattle.om_declared.specs.Language.{lines_of_value}
-use Rattle.om_session.specs.Earlier.{AreMade, AreServed, AreEarlier, IsUsedUpTo}
+use Rattle.om_session.specs.Earlier.{AreInOrder, AreMade, AreNamed, AreServed, AreEarlier, IsUsedUpTo, all_after, with_made}
 use Rattle.om_session.specs.declared.earlier.Earlier.{Earlier}
 use Rattle.om_session.specs.declared.values.Job.TheVariants.{Edit}
-use Rattle.om_session.proofs.EarlierLemmas.{all_stay, last_made, still_used, still_is, still_made, used_up_to, more_needed, all_served, all_below}
+use Rattle.om_session.proofs.EarlierLemmas.{all_stay, last_made, still_made, used_up_to, used_last, more_needed, all_named, all_served}
 use Rattle.om_session.proofs.ReadLemmas.{edited_put, edited_halts, comes_last, all_made, memory_halts, room_for_one}
 use Rattle.om_session.proofs.values.Values.put_edited.Goals as goal
 
@@ -35,6 +35,20 @@ edit_value-requires-clause-served g c =
 pub edit_value-requires-clause-ready : goal.edit_value-requires-clause-ready
 edit_value-requires-clause-ready g c = c.requires.2.ready.0
 
+pub next_reader-requires-clause-room : goal.next_reader-requires-clause-room
+next_reader-requires-clause-room g c = c.in_ok-make_room.ensures.room
+
+pub next_reader-requires-clause-order : goal.next_reader-requires-clause-order
+next_reader-requires-clause-order g c = subst AreInOrder (sym c.make_room.ensures.items) c.requires.2.kept.needed.in_order
+
+pub next_reader-requires-clause-named : goal.next_reader-requires-clause-named
+next_reader-requires-clause-named g c =
+    let v = c.requires.2 in
+    let lines = c.args.edits.script.now.lines in
+    let named : AreNamed c.args.self.now.count (lines_of_value c.args.self.now.count lines) c.args.self.now.earlier.items =
+    subst (λ n. AreNamed n (lines_of_value n lines) c.args.self.now.earlier.items) (sym v.counted) (all_named lines (length v.trees) c.args.self.now.earlier.items v.kept.needed) in
+    subst (AreNamed c.args.self.now.count (lines_of_value c.args.self.now.count lines)) (sym c.make_room.ensures.items) named
+
 pub returns-in_err-make_room : goal.returns-in_err-make_room
 returns-in_err-make_room g c = λ taken said v.
     memory_halts (Edit c.args.edits c.args.limit) taken said v.trees v.whole (g.K.Sink.state c.args.out.now) _ c.from_residual.result c.from_residual.ensures.1
@@ -56,22 +70,21 @@ returns g c = λ taken said v.
     let kept = subst (λ (kept : List Earlier). AreMade v.kept.others kept) (sym (c.as_slice.ensures.value ∙ c.make_room.ensures.items)) v.kept.kept in
     let all = c.in_ok-edit_value.ensures.made v.kept.others kept in
     let lines = c.args.edits.script.now.lines in
-    let made : Earlier = record { number = c.args.self.now.count; last = c.unwrap_or-last.result; value = new } in
+    let made : Earlier = record { number = c.args.self.now.count; last = c.unwrap_or-last.result; value = Some new } in
     let stay = all_stay v.kept.others (new.heap, new.root) c.args.self.now.earlier.items v.kept.kept in
     let last = last_made v.kept.others c.args.self.now.count new all.valid (comes_last c.args.edits c.args.limit taken said c.args.self.now v c.finish-value.result f) in
-    let after : c.drop_used.new.kept.items ≡ still_used c.args.self.now.earlier.items made =
-    c.drop_used.ensures
-    ∙ (ap (λ (kept : List Earlier). filter (λ e. nat_lt made.number e.last) kept) c.next_reader.ensures.kept
-    ∙ (still_is c.make_room.new.kept.items made ∙ ap (λ (kept : List Earlier). still_used kept made) c.make_room.ensures.items)) in
-    let used : AreMade others c.drop_used.new.kept.items =
-    subst (λ (kept : List Earlier). AreMade others kept) (sym after) (still_made others c.args.self.now.earlier.items made stay last) in
+    let after : c.next_reader.new.kept.items ≡ with_made (all_after c.args.self.now.count c.args.self.now.earlier.items) made =
+    c.next_reader.ensures.kept ∙ ap (λ (kept : List Earlier). with_made (all_after c.args.self.now.count kept) made) c.make_room.ensures.items in
+    let used : AreMade others c.next_reader.new.kept.items =
+    subst (λ (kept : List Earlier). AreMade others kept) (sym after) (still_made others c.args.self.now.count c.args.self.now.earlier.items made stay last) in
     let up_to : IsUsedUpTo lines c.args.self.now.count c.unwrap_or-last.result =
     subst (λ n. IsUsedUpTo lines c.args.self.now.count n) (sym c.unwrap_or-last.ensures) (used_up_to lines c.args.self.now.count c.last_use.result c.last_use.ensures) in
+    let is_last : c.args.self.now.count < c.unwrap_or-last.result → IsLastUse lines c.args.self.now.count c.unwrap_or-last.result =
+    subst (λ n. c.args.self.now.count < n → IsLastUse lines c.args.self.now.count n) (sym c.unwrap_or-last.ensures) (used_last lines c.args.self.now.count c.last_use.result c.last_use.ensures) in
     let needed = subst (λ n. AreEarlier lines n c.args.self.now.earlier.items) (sym v.counted) v.kept.needed in
-    let below = all_below v.kept.others c.args.self.now.earlier.items c.args.self.now.count (comes_last c.args.edits c.args.limit taken said c.args.self.now v c.finish-value.result f) v.kept.kept in
-    let more : AreEarlier lines (c.args.self.now.count + 1) c.drop_used.new.kept.items =
+    let more : AreEarlier lines (c.args.self.now.count + 1) c.next_reader.new.kept.items =
     subst (λ (kept : List Earlier). AreEarlier lines (c.args.self.now.count + 1) kept) (sym after)
-    (more_needed lines c.args.self.now.count c.args.self.now.earlier.items needed made refl up_to below) in
+    (more_needed lines c.args.self.now.count c.args.self.now.earlier.items needed made refl refl is_last up_to) in
     edited_put c.args.edits c.args.limit taken said c.args.self.now v c.finish-value.result f new
     (change (g.K.Sink.state c.args.out.now) (g.K.Sink.state c.edit_value.new.out)) (c.in_ok-edit_value.ensures.puts v.kept.others kept) all c.next_reader.result c.next_reader.ensures.leads
-    c.drop_used.new.kept used more
+    c.next_reader.new.kept used more
