@@ -15,7 +15,7 @@ use Rattle.om_types.specs.Typing.{IsHeld}
 use Rattle.om_heap.specs.Heap.{field_at}
 use Rattle.om_fits.specs.declared.needs.Needs.{Needs}
 use Rattle.om_fits.specs.Needs.{needs_in}
-use Rattle.om_scan.specs.Scanned.{object_needs, object_typed}
+use Rattle.om_scan.specs.Scanned.{object_typed}
 use Rattle.om_model.proofs.Lists.{Contains-place as place_in}
 use Rattle.om_scan.proofs.IncreaseLemmas.{place_before}
 use Rattle.om_scan.proofs.FieldLemmas.{field_there}

@@ -15,7 +15,7 @@ ghost use Rattle.om_cert.specs.Testing.{AreAllThere, IsCrowd, HoldsAll, IsFirstL
 
 use crate::held::{is_elsewhere, is_held};
 use crate::verified::Why;
-use om_fits::{Needs, Row, is_mutable, is_asked, known_needs};
+use om_fits::{Needs, Row, is_asked, is_mutable, known_needs};
 use om_heap::Heap;
 use om_model::value::Val;
 use om_scan::fits_type;

@@ -3,7 +3,6 @@ use Rattle.std.proofs.Common.{◌≡◌, ◌⊎◌, ℕ, zero, suc, ◌+◌, ◌
 use Rattle.std.specs.Prelude.{◌&&◌, IsErrAnd}
 use Rattle.std.proofs.lemmas.List.{length-take-le, take-append-drop}
 use Rattle.om_model.specs.declared.refusal.ReadRefusal.{ReadRefusal}
-use Rattle.om_model.specs.declared.value.Val.{Val}
 use Rattle.om_format.specs.Front.{IsFront, IsRefused}
 use Rattle.om_format.specs.Spelled.{SpelledUnder}
 use Rattle.om_format.specs.Stream.{clean, cut}

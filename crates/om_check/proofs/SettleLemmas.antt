@@ -18,7 +18,7 @@ use Rattle.om_scan.specs.declared.seconds.Seconds.{Seconds}
 use Rattle.om_scan.specs.Paths.{HasPath}
 use Rattle.om_scan.specs.Seconds.{noted_in, AreSeconds, IsNoting}
 use Rattle.om_scan.specs.Taken.{size_of}
-use Rattle.om_scan.specs.Scanned.{object_needs, IsFoundIn, pairs_with, IsNotedOver, object_typed}
+use Rattle.om_scan.specs.Scanned.{IsFoundIn, pairs_with, IsNotedOver, object_typed}
 use Rattle.om_scan.proofs.PlaceLemmas.{slice_get-append_below, contains_left, contains_right, contains_push, contains_cases}
 use Rattle.om_types.proofs.AskedLemmas.{need_typed}
 use Rattle.om_scan.proofs.ScanLemmas.{pair_there}

@@ -20,7 +20,7 @@ use Rattle.om_scan.specs.declared.seconds.Seconds.{Seconds}
 use Rattle.om_scan.specs.Paths.{HasPath}
 use Rattle.om_scan.specs.Seconds.{noted_in}
 use Rattle.om_scan.specs.Taken.{size_of}
-use Rattle.om_scan.specs.Scanned.{object_needs, IsFoundIn, pairs_with, cost_of, object_typed}
+use Rattle.om_scan.specs.Scanned.{IsFoundIn, pairs_with, cost_of, object_typed}
 use Rattle.om_scan.proofs.PlaceLemmas.{mapped_at, contains_left, contains_cases, slice_get-append_cases}
 use Rattle.om_types.proofs.AskedLemmas.{need_typed}
 use Rattle.om_scan.proofs.FieldLemmas.{field_there}

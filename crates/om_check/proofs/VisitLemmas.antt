@@ -27,7 +27,7 @@ use Rattle.om_check.specs.Clash.{IsWithin}
 use Rattle.om_check.specs.Told.{AreOrdered, AreTold}
 use Rattle.om_check.specs.Explored.{entry_fields, root_of, AreExplored, IsExplored}
 use Rattle.om_check.specs.Visits.{IsMet}
-use Rattle.om_check.specs.Search.{EntersValue, TestsNeed, IsMisfitAt, Grows, IsTesting, TestsVisit, visit_needs, visit_fields}
+use Rattle.om_check.specs.Search.{EntersValue, TestsNeed, IsMisfitAt, Grows, IsTesting, TestsVisit, visit_fields}
 use Rattle.om_scan.proofs.PlaceLemmas.{slice_get-append_below, slice_get-push_cases}
 use Rattle.om_check.proofs.ExploredLemmas.{need_before, need_leads, entries_before, explored_same, explored_more, explored_next}
 

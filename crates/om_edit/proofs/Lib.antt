@@ -5,3 +5,4 @@ pub mod ApplyLemmas
 pub mod GraftLemmas
 pub mod GraftAnswers
 pub mod LineLemmas
+pub mod HiddenLemmas

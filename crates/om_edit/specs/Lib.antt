@@ -8,3 +8,4 @@ pub mod EditedLines
 pub mod GraftLaws
 pub mod LineLaws
 pub mod WorkedEdits
+pub mod HiddenLaws

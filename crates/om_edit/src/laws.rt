@@ -1,6 +1,7 @@
 //! Laws over the definitions. The functions do nothing: what each ensures is the law.
 
 ghost use Rattle.om_edit.specs.GraftLaws.{GraftsAreTheSame, GraftsHaveOneAnswer, TablesGraftAlike};
+ghost use Rattle.om_edit.specs.HiddenLaws.{EditsLeaveWhatIsHidden};
 ghost use Rattle.om_edit.specs.Laws.{EditsHaveOneAnswer, TablesEditAlike};
 ghost use Rattle.om_edit.specs.LineLaws.{TablesAnswerLinesAlike};
 ghost use Rattle.om_edit.specs.WorkedEdits.{Rows};
@@ -40,4 +41,9 @@ pub fn tables_graft_alike()
 /// What a table of types says of the lines of a script is what its types say.
 pub fn tables_answer_lines_alike()
     ensures { TablesAnswerLinesAlike }
+{}
+
+/// An edit leaves each object to which no path leads as it was, so also what is hidden alone.
+pub fn edits_leave_what_is_hidden()
+    ensures { EditsLeaveWhatIsHidden }
 {}

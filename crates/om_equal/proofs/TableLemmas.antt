@@ -243,9 +243,11 @@ module _ (decls : List Decl) (types : List Ty) (table : Table) (made : IsTableOf
           let is = asked_is node (or_none (numbers_at v i)) k j has in
           let found = need_matched Of (numbers_at v i) (types_at v u) (fields_same v i u of) k j
           is.0 in
-          let asked = subst IsTrue (asked_at j found.0 found.2) is.1 in
-          (found.0, is_needed (shape decls) (or_none (types_at v u)) k found.0 found.1 asked,
-          found.2)
+          let asked = subst IsTrue (asked_at j found.0 found.2) is.1 in (
+            found.0,
+            is_needed (shape decls) (or_none (types_at v u)) k found.0 found.1 asked,
+            found.2,
+          )
 
       pub need_back : (v : Val) (i : ℕ) (u : Ty) (k : ℕ) (a : Ty) → Of i u
           → Contains ((declared_shapes decls).needs graph v u) (k, a)

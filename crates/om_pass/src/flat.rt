@@ -11,8 +11,9 @@ ghost use Rattle.om_pass_law.specs.Noted.{IsAt, IsFlat, IsFlatNoted};
 ghost use Rattle.om_pass.specs.Again.{IsSeen, SpellAll, AreMarks, AreFields, IsKnown};
 
 use crate::again::{Seen, block_at, look};
-use crate::fits::{block_places, fits_atom, fits_int, is_equal, is_hidden, may_change, shape_of};
-use crate::fits::{type_at};
+use crate::fits::{
+    block_places, fits_atom, fits_int, is_equal, is_hidden, may_change, shape_of, type_at,
+};
 use crate::places::Open;
 use om_type_table::TypeTable;
 

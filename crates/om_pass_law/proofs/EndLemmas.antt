@@ -12,7 +12,6 @@ use Rattle.om_pass_law.specs.Asked.{Need, of_type, hash_of, Asks, values_in}
 use Rattle.om_pass_law.specs.OnePass.{Passed, start, further}
 use Rattle.om_pass_law.proofs.BlockLemmas.{fields_many}
 
-
 -- ---- the open places are the values to come
 
 pub values_in-append : (xs ys : List Need) → values_in (xs ++ ys) ≡ values_in xs + values_in ys

@@ -13,10 +13,10 @@ use Rattle.om_format.specs.Words.{of_object}
 use Rattle.om_format.specs.Token.{Token, integer, atom, shared, block, leaf, IsLeaf, leaf_measure}
 use Rattle.om_format.specs.Tree.{Tree, Forest, node, none, more, trees_in, IsTree, AreTrees, tokens, forest_tokens, root, roots, made, all_made, objects_of, all_objects}
 use Rattle.om_format.proofs.Counts.{leaf_fields, length-roots, length-objects_of}
-use Rattle.om_pass_law.specs.Asked.{Need, of_type, hash_of, shape_at, block_needs, type_in, Passes, values_in, fields_ask}
+use Rattle.om_pass_law.specs.Asked.{Need, of_type, hash_of, shape_at, type_in, Passes, values_in, fields_ask}
 use Rattle.om_pass_law.specs.Noted.{IsAt, AreAt}
 use Rattle.om_pass_law.proofs.Kernel.{IsGood, AreGood, good_append}
-use Rattle.om_pass_law.proofs.BlockLemmas.{needs_many, block_good, fields_many, asked_good}
+use Rattle.om_pass_law.proofs.BlockLemmas.{fields_many, asked_good}
 
 -- ---- leaves
 

@@ -1,5 +1,5 @@
 -- A value at a declared type, and its parts, can be shown.
-use Rattle.std.proofs.Common.{ℕ, ◌≡◌, List, [], ◌∷◌, Some, refl}
+use Rattle.std.proofs.Common.{ℕ, ◌≡◌, List, ◌∷◌, Some}
 use Rattle.std.specs.Prelude.{Contains}
 use Rattle.om_model.specs.declared.value.Val.{Val}
 use Rattle.om_model.specs.declared.value.Val.TheVariants as vals
@@ -8,8 +8,8 @@ use Rattle.om_types.specs.declared.decl.Decl.{Decl}
 use Rattle.om_types.specs.Accepted.{AreWellFormed, IsSoundType}
 use Rattle.om_types.specs.Lawful.{AreLawful}
 use Rattle.om_types.specs.Typing.{IsHeld, IsTyping}
-use Rattle.om_types.specs.Fault.{field_of, type_of_field, value_at}
-use Rattle.om_types.proofs.FaultLemmas.{held_by_some, place_is_held, named_is_needed, field_is_held}
+use Rattle.om_types.specs.Fault.{field_of, type_of_field}
+use Rattle.om_types.proofs.FaultLemmas.{held_by_some, named_is_needed, field_is_held}
 use Rattle.om_types.specs.Fitting.{fields_of, or_none}
 use Rattle.om_types.proofs.AskedLemmas.{is_needed}
 use Rattle.om_types.specs.Equal.{declared_shapes}

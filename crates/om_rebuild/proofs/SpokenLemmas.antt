@@ -1,11 +1,11 @@
 -- Where names are lexemes, what a type's text names is read back.
-use Rattle.std.proofs.Common.{◌≡◌, ◌≢◌, ℕ, ℤ, pos, negsuc, zero, suc, ◌+◌, ◌<◌, ◌≤◌, inl, inr, Bool, true, false, cond, List, [], ◌∷◌, length, Option, Some, None, refl, sym, ap, subst, ◌∙◌, arith}
+use Rattle.std.proofs.Common.{◌≡◌, ◌≢◌, ℕ, ℤ, zero, suc, ◌+◌, ◌<◌, ◌≤◌, inl, inr, Bool, true, false, cond, List, [], ◌∷◌, length, Option, Some, None, refl, sym, ap, subst, ◌∙◌, arith}
 use Rattle.std.specs.Prelude.{slice_get, find, map, codes, option_and_then, Contains}
 use Rattle.om_model.proofs.Options.{Contains-first}
 use Rattle.std.specs.List.{AllByRecursion}
 use Rattle.std.specs.Str.{bytes_eq}
 use Rattle.std.specs.Char.{is_ascii_uppercase}
-use Rattle.std.proofs.lemmas.Bool.{false≢true, true≢false, and_parts, and_from, eq-eqb}
+use Rattle.std.proofs.lemmas.Bool.{false≢true, true≢false, and_parts, and_from}
 use Rattle.std.proofs.lemmas.Slice.Eq.{bytes_eq-Decides}
 use Rattle.std.proofs.lemmas.List.{length-map}
 use Rattle.std.proofs.lemmas.Option.{same_Some}
@@ -30,12 +30,11 @@ use Rattle.om_types.specs.declared.head.HeadOf.TheVariants as heads
 use Rattle.om_types.specs.declared.names.ConstrNames.{ConstrNames}
 use Rattle.om_types.specs.declared.names.TagName.{TagName}
 use Rattle.om_types.specs.declared.names.Names.{Names}
-use Rattle.om_types.specs.declared.shape.ShapeOf.TheVariants as shapes
 use Rattle.om_types.specs.Ty.{Ty}
 use Rattle.om_types.specs.Declarations.{declaration_of, instance_of}
-use Rattle.om_types.specs.Fitting.{is_number, tag_with}
+use Rattle.om_types.specs.Fitting.{tag_with}
 use Rattle.om_types.specs.Names.{no_names, field_names, constant_name, carrying_names, constr_names, tag_name, body_names, declared_body_names, predeclared_type_names, head_names}
-use Rattle.om_types.specs.Shape.{is_constant, is_flat, is_float_head, array_of, predeclared_shape, record_shape, body_shape, datatype_shape, tag_shape, head_shape}
+use Rattle.om_types.specs.Shape.{is_constant, is_flat, array_of, predeclared_shape, record_shape, body_shape, datatype_shape, tag_shape, head_shape}
 use Rattle.om_leaves.specs.Frames.{is_hash}
 use Rattle.om_literal_grammar.specs.Literal.{upper_head, cons_head, empty_head, ref_head}
 use Rattle.om_literal.specs.Starts.{is_constr, same_names}

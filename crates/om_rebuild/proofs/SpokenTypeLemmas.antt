@@ -20,12 +20,11 @@ use Rattle.om_types.specs.declared.head.HeadOf.{HeadOf}
 use Rattle.om_types.specs.declared.head.HeadOf.TheVariants as heads
 use Rattle.om_types.specs.declared.shape.Constr.{Constr}
 use Rattle.om_types.specs.declared.shape.PolyTag.{PolyTag}
-use Rattle.om_types.specs.declared.shape.ShapeOf.TheVariants as shapes
 use Rattle.om_types.specs.Ty.{Ty, variable, named, tuple, bracket, part, tag, tag_of, including, name_of, parts, instance, argument_for}
 use Rattle.om_types.specs.Declarations.{predeclared, declaration_of, instance_of, abbreviated, abbreviated_at, abbreviated_by, unfolded}
 use Rattle.om_types.specs.Head.{has_tag, with_tags, tags_in, bare_tag, carrying_tag, head_meant, with_part, plain_head, head_by, head_within, enough, head}
 use Rattle.om_types.specs.Names.{names_of}
-use Rattle.om_types.specs.Shape.{is_flat, is_float_head, array_of, predeclared_shape, record_shape, types_of_fields, block_of, blocks_in, body_shape, datatype_shape, tag_shape, head_shape, shape}
+use Rattle.om_types.specs.Shape.{is_flat, array_of, predeclared_shape, record_shape, types_of_fields, block_of, blocks_in, body_shape, datatype_shape, tag_shape, head_shape, shape}
 use Rattle.om_types.specs.Reached.{listed_if, named_in, parts_of, is_any_head, NoneIsHidden, reached_from, IsReached}
 use Rattle.om_equal.proofs.ReachedLemmas.{parts_listed}
 use Rattle.om_literal_texts.specs.Readable.{IsReadable, AreReadable}

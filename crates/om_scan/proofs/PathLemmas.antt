@@ -7,7 +7,6 @@ use Rattle.om_model.specs.declared.value.Val.{Val}
 use Rattle.om_model.specs.declared.value.Val.TheVariants as vals
 use Rattle.om_model.specs.declared.value.Obj.{Obj}
 use Rattle.om_model.proofs.Numbers.{less_same_more}
-use Rattle.om_types.specs.declared.shape.ShapeOf.{ShapeOf}
 use Rattle.om_types.specs.Fault.{type_of_field, step}
 use Rattle.om_types.specs.Table.{Table, table_shapes, node_or_none, is_asked_in}
 use Rattle.om_types.proofs.AskedLemmas.{need_typed, typed_needed}

@@ -35,7 +35,7 @@ use Rattle.om_types.specs.Declarations.{declaration_of, instance_of}
 use Rattle.om_types.specs.Fitting.{is_number, tag_with, is_bare, fits_int, constr_fields, fields_if, tag_fields, argument_field, block_fields, has_doubles, none_if, object_fields, fields_of}
 use Rattle.om_types.specs.Head.{head}
 use Rattle.om_types.specs.Names.{no_names, field_names, constant_name, carrying_names, constr_names, tag_name, body_names, declared_body_names, predeclared_type_names, head_names, names_of}
-use Rattle.om_types.specs.Shape.{is_flat, is_float_head, is_constant, constants_in, types_of_fields, block_of, blocks_in, array_of, predeclared_shape, record_shape, body_shape, datatype_shape, tag_shape, head_shape, shape}
+use Rattle.om_types.specs.Shape.{is_flat, is_constant, constants_in, types_of_fields, block_of, blocks_in, array_of, predeclared_shape, record_shape, body_shape, datatype_shape, tag_shape, head_shape, shape}
 use Rattle.om_leaves.specs.Frames.{is_hash, tag_of_values}
 use Rattle.om_show.specs.Named.{HasTag, AreForFields, HasIntName, HasBlockNames, HasDoublesNames, HasObjectNames, HasItsNames}
 

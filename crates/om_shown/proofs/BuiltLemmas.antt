@@ -12,7 +12,7 @@ use Rattle.om_outcome.specs.Outcome.{whole, found_of, own, build, Asks, tell, th
 use Rattle.om_edge.specs.Files.{File, contents_of}
 use Rattle.om_edge.specs.Sink.{Puts}
 use Rattle.om_promises.specs.Account.{IsWanted}
-use Rattle.om_promises.specs.Call.{Call, HasPut}
+use Rattle.om_promises.specs.Call.{Call}
 use Rattle.om_promises.specs.Causes.{AreAsTold}
 use Rattle.om_promises.specs.CommandLaws.{HaveOneOutcome, Follow}
 use Rattle.om_promises.specs.Commands.{Item, text, Given, Cut, AllSay, Answers, Outcome}

@@ -16,7 +16,6 @@ use Rattle.om_types.specs.Accepted.{AreKnownByHash}
 use Rattle.om_types.specs.Equal.{declared_shapes}
 use Rattle.om_types.specs.Fault.{IsFault}
 use Rattle.om_types.specs.Fitting.{or_none, fields_of, is_mutable}
-use Rattle.om_types.specs.Shape.{shape}
 use Rattle.om_types.specs.Table.{Table, table_shapes, node_or_none, IsTableOf}
 use Rattle.om_types.specs.Typing.{field_at, IsListed, IsHeld, IsTyping, IsTyped, HasType}
 use Rattle.om_model.proofs.Options.{Contains-first, Contains-later, Contains-none, same_or_not, true_or_not, slice_get-Contains}

@@ -5,7 +5,6 @@ use Rattle.std.specs.Prelude.{Contains, IsTrue, find, option_map, option_and_the
 use Rattle.std.specs.Prelude.{slice_get, IsSome, pos}
 use Rattle.std.proofs.lemmas.Bool.{false≢true}
 use Rattle.std.proofs.lemmas.Bool.Decides.{Decides-eqb}
-use Rattle.std.proofs.lemmas.Option.{none-some}
 use Rattle.om_model.proofs.Options.{Contains-first, Contains-later}
 use Rattle.om_model.specs.declared.value.Val.{Val}
 use Rattle.om_model.specs.declared.value.Val.TheVariants as vals

@@ -3,13 +3,12 @@ use Rattle.std.proofs.Common.{ℕ, ◌≡◌, ◌∙◌, ⊎_elim, List, [], ◌
 use Rattle.std.specs.Prelude.{Contains, IsSome, IsSomeAnd, slice_get, option_and_then}
 use Rattle.std.proofs.lemmas.Bool.{false≢true}
 use Rattle.om_model.proofs.Options.{Contains-none, Contains-cases}
-use Rattle.om_model.specs.declared.value.Val.{Val}
 use Rattle.om_model.specs.declared.value.Val.TheVariants as vals
 use Rattle.om_model.specs.declared.value.Obj.{Obj}
 use Rattle.om_model.specs.declared.value.Obj.TheVariants as objects
 use Rattle.om_types.specs.declared.shape.ShapeOf.{ShapeOf}
 use Rattle.om_types.specs.declared.shape.ShapeOf.TheVariants as shapes
-use Rattle.om_types.specs.Fitting.{object_fields, fields_of, or_none, is_asked, is_mutable, asked_of, shaped}
+use Rattle.om_types.specs.Fitting.{object_fields, fields_of, or_none, is_asked, asked_of, shaped}
 use Rattle.om_types.specs.Typing.{field_at, IsHeld, IsTyping}
 
 pub hidden_is : {T : Type 0} (s : ShapeOf T) → is_asked s ≡ false → s ≡ shapes.Anything

@@ -1,0 +1,139 @@
+-- An edit changes a field of an object to which a path leads, and no other object that was there.
+use Rattle.std.proofs.Common.{ℕ, zero, suc, ◌≡◌, ◌≢◌, ◌∙◌, List, [], ◌∷◌, ◌++◌, length, set, Option, Some, None, Result, Ok, Err, refl, ap, sym, subst}
+use Rattle.std.specs.Prelude.{slice_get, option_map, option_and_then, ⊤}
+use Rattle.std.proofs.lemmas.Option.{none-some}
+use Rattle.om_model.specs.declared.value.Val.{Val}
+use Rattle.om_model.specs.declared.value.Val.TheVariants as vals
+use Rattle.om_model.specs.declared.value.Obj.{Obj}
+use Rattle.om_lex.specs.declared.lexeme.Lexeme.{Lexeme}
+use Rattle.om_types.specs.declared.names.Names.{Names}
+use Rattle.om_types.specs.declared.shape.ShapeOf.{ShapeOf}
+use Rattle.om_types.specs.Shapes.{Shapes}
+use Rattle.om_types.specs.Fault.{step, value_at}
+use Rattle.om_types.specs.Fitting.{shaped}
+use Rattle.om_heap.specs.Heap.{object_at, with_field}
+use Rattle.om_path.specs.declared.edits.Edit.{Edit}
+use Rattle.om_path.specs.declared.edits.Edit.TheVariants as edits
+use Rattle.om_edit.specs.declared.spots.Spot.{Spot}
+use Rattle.om_edit.specs.declared.spots.Spot.TheVariants as spots
+use Rattle.om_edit.specs.declared.spots.Place.{Place}
+use Rattle.om_edit.specs.declared.refusal.Side.TheVariants.{Left}
+use Rattle.om_edit.specs.Reasons.{no_field}
+use Rattle.om_edit.specs.Places.{spot_after, or_step, place_from, place_at}
+use Rattle.om_edit.specs.EditedValues.{Answer, put_at, linked, object_of, copied, unshared, place_in, IsSet, IsMade}
+use Rattle.om_edit.specs.HiddenLaws.{IsUnreached}
+
+-- ---- lists
+
+kept_before : {X : Type 0} (xs ys : List X) (k : ℕ) (x : X) → slice_get xs k ≡ Some x → slice_get (xs ++ ys) k ≡ Some x
+kept_before [] ys k x is = absurd (none-some x is)
+kept_before (y ∷ xs) ys zero x is = is
+kept_before (y ∷ xs) ys (suc k) x is = kept_before xs ys k x is
+
+set_elsewhere : {X : Type 0} (xs : List X) (p k : ℕ) (new : X) → p ≢ k → slice_get (set xs p new) k ≡ slice_get xs k
+set_elsewhere [] p k new other = refl
+set_elsewhere (x ∷ xs) zero zero new other = absurd (other refl)
+set_elsewhere (x ∷ xs) zero (suc k) new other = refl
+set_elsewhere (x ∷ xs) (suc p) zero new other = refl
+set_elsewhere (x ∷ xs) (suc p) (suc k) new other = set_elsewhere xs p k new (λ same. other (ap suc same))
+
+-- ---- places
+
+module _ {T : Type 0} (shapes : Shapes T) (graph : List Obj) (o : ℕ) where
+  -- it is no field of the object
+  abbrev IsElsewhere : Spot → Type 0
+  IsElsewhere spots.Root = ⊤
+  IsElsewhere (spots.Field p i) = p ≢ o
+
+  spot_elsewhere : (v : Val) (t : T) (i : ℕ) → IsUnreached shapes graph o v t → IsElsewhere (spot_after v i)
+  spot_elsewhere (vals.Int z) t i unreached = tt
+  spot_elsewhere (vals.Atom tag) t i unreached = tt
+  spot_elsewhere (vals.Ref p) t i unreached = λ same. unreached [] t (ap (λ q. Some (vals.Ref q, t)) same)
+
+  -- nor does a path lead there from where a step leads
+  step_unreached : (v : Val) (t : T) (i : ℕ) (next : Val × T) → step shapes graph v t i ≡ Some next → IsUnreached shapes graph o v t
+      → IsUnreached shapes graph o next.0 next.1
+  step_unreached v t i next is unreached path u leads =
+      unreached (i ∷ path) u (ap (option_and_then (λ (next : Val × T). value_at shapes graph next.0 next.1 path)) is ∙ leads)
+
+  on_elsewhere : (v : Val) (i n : ℕ) (q : Place T) (go : Place T → Result (Place T) ℕ) (o' : Option (Val × T))
+      → ((next : Val × T) → o' ≡ Some next → go (record { spot = spot_after v i; value = next.0; ty = next.1 }) ≡ Ok q → IsElsewhere q.spot)
+      → or_step n go (option_map (λ (next : Val × T). record { spot = spot_after v i; value = next.0; ty = next.1 }) o') ≡ Ok q
+      → IsElsewhere q.spot
+  on_elsewhere v i n q go None rest is = absurd (never n q is) where
+    never : (n : ℕ) (q : Place T) → ◌≡◌ {A = Result (Place T) ℕ} (Err n) (Ok q) → ⊥
+    never n q is = cc
+  on_elsewhere v i n q go (Some next) rest is = rest next refl is
+
+  from_elsewhere : (path : List ℕ) (n : ℕ) (p q : Place T) → IsElsewhere p.spot → IsUnreached shapes graph o p.value p.ty
+      → place_from shapes graph n p path ≡ Ok q → IsElsewhere q.spot
+  from_elsewhere [] n p q here unreached is = subst (λ (x : Place T). IsElsewhere x.spot) (inside p q is) here where
+    inside : (a b : Place T) → ◌≡◌ {A = Result (Place T) ℕ} (Ok a) (Ok b) → a ≡ b
+    inside a b is = cc
+  from_elsewhere (i ∷ path) n p q here unreached is =
+      on_elsewhere p.value i n q (λ next. place_from shapes graph (suc n) next path) (step shapes graph p.value p.ty i)
+      (λ next at there. from_elsewhere path (suc n) _ q (spot_elsewhere p.value p.ty i unreached)
+      (step_unreached p.value p.ty i next at unreached) there)
+      is
+
+  place_elsewhere : (root : Val) (t : T) (path : List ℕ) (q : Place T) → IsUnreached shapes graph o root t
+      → place_at shapes graph root t path ≡ Ok q → IsElsewhere q.spot
+  place_elsewhere root t path q unreached is = from_elsewhere path 0 _ q tt unreached is
+
+  -- ---- what is put there
+
+  put_elsewhere : (spot : Spot) (new : Val) (all : List Obj) (root : Val) (object : Obj) → IsElsewhere spot → slice_get all o ≡ Some object
+      → slice_get (put_at spot new all root).0 o ≡ Some object
+  put_elsewhere spots.Root new all root object elsewhere at = at
+  put_elsewhere (spots.Field p i) new all root object elsewhere at =
+      set_elsewhere all p o (with_field (object_at all p) i new) elsewhere ∙ at
+
+-- ---- edits
+
+made_inside : {T : Type 0} (one other : List Obj × Val) → ◌≡◌ {A = Answer T} (Ok one) (Ok other) → one ≡ other
+made_inside one other is = cc
+
+module _ {T : Type 0} (shape : T → ShapeOf T) (names : T → Names) (Equal : T → T → Type 0) (t : T) (graph : List Obj) (root : Val) (o : ℕ) (object : Obj)
+    (at : slice_get graph o ≡ Some object) (unreached : IsUnreached (shaped shape Equal) graph o root t) (edited : List Obj × Val) where
+  abbrev Kept : List Obj × Val → Type 0
+  Kept made = slice_get made.0 o ≡ Some object
+
+  elsewhere : (path : List ℕ) (q : Place T) → place_in shape names Equal t graph root path ≡ Ok q → IsElsewhere (shaped shape Equal) graph o q.spot
+  elsewhere path q is = place_elsewhere (shaped shape Equal) graph o root t path q unreached is
+
+  kept_by : (spot : Spot) (new : Val) (all : List Obj) → IsElsewhere (shaped shape Equal) graph o spot → slice_get all o ≡ Some object → edited ≡ put_at spot new all root
+      → Kept edited
+  kept_by spot new all there kept is = subst Kept (sym is) (put_elsewhere (shaped shape Equal) graph o spot new all root object there kept)
+
+  set_keeps : (p : Result (Place T) ℕ) → ((q : Place T) → p ≡ Ok q → IsElsewhere (shaped shape Equal) graph o q.spot)
+      → (lexemes : List Lexeme) (end : ℕ) → IsSet shape names graph root p lexemes end (Ok edited) → Kept edited
+  set_keeps (Err step) there lexemes end is = absurd (never step edited is) where
+    never : (step : ℕ) (edited : List Obj × Val) → ◌≡◌ {A = Answer T} (Ok edited) (Err (no_field Left step)) → ⊥
+    never step edited is = cc
+  set_keeps (Ok q) there lexemes end (objects, value, literal, is) =
+      kept_by q.spot value (graph ++ objects) (there q refl) (kept_before graph objects o object at) is
+
+  link_keeps : (p source : Result (Place T) ℕ) → ((q : Place T) → p ≡ Ok q → IsElsewhere (shaped shape Equal) graph o q.spot)
+      → Ok edited ≡ linked graph root p source → Kept edited
+  link_keeps (Err step) source there is = absurd cc
+  link_keeps (Ok q) (Err step) there is = absurd cc
+  link_keeps (Ok q) (Ok source) there is =
+      kept_by q.spot source.value graph (there q refl) at (made_inside {T = T} edited (put_at q.spot source.value graph root) is)
+
+  copy_keeps : (spot : Spot) (found : Option Obj) → IsElsewhere (shaped shape Equal) graph o spot
+      → Ok edited ≡ copied {T = T} graph root spot found → Kept edited
+  copy_keeps spot None there is = absurd cc
+  copy_keeps spot (Some copy) there is =
+      kept_by spot (vals.Ref (length graph)) (graph ++ copy ∷ []) there (kept_before graph (copy ∷ []) o object at)
+      (made_inside {T = T} edited (put_at spot (vals.Ref (length graph)) (graph ++ copy ∷ []) root) is)
+
+  unshare_keeps : (p : Result (Place T) ℕ) → ((q : Place T) → p ≡ Ok q → IsElsewhere (shaped shape Equal) graph o q.spot)
+      → Ok edited ≡ unshared graph root p → Kept edited
+  unshare_keeps (Err step) there is = absurd cc
+  unshare_keeps (Ok q) there is = copy_keeps q.spot (object_of graph q.value) (there q refl) is
+
+  pub edit_keeps : (edit : Edit) → IsMade shape names Equal t edit graph root (Ok edited) → Kept edited
+  edit_keeps (edits.Set path lexemes end) is = set_keeps (place_in shape names Equal t graph root path) (elsewhere path) lexemes end is
+  edit_keeps (edits.Link path source) is =
+      link_keeps (place_in shape names Equal t graph root path) (place_in shape names Equal t graph root source) (elsewhere path) is
+  edit_keeps (edits.Unshare path) is = unshare_keeps (place_in shape names Equal t graph root path) (elsewhere path) is
