@@ -49,7 +49,9 @@ completes '--compat32 --limit' edit --
 completes '--limit' scan --
 completes '--cert --limit' check shop.types --
 completes 'shop.types' check --cert shop.t
-completes '--limit' show shop.types --
+completes '--limit --pretty' show shop.types --
+completes '--limit' trees shop.types --
+completes 'shop.types' get --pretty shop.t
 completes '' same ''
 completes '' get shop.types --limit ''
 echo "$passed passed, $failed failed"

@@ -9,7 +9,8 @@ _omarshal() {
     case $command in
     build | gen) options= ;;
     check) options='--limit --cert' ;;
-    dump | get | same | scan | show | trees | verify) ;;
+    get | show) options='--limit --pretty' ;;
+    dump | same | scan | trees | verify) ;;
     edit) options='--limit --compat32' ;;
     *) return ;;
     esac

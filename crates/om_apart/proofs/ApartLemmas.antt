@@ -20,7 +20,7 @@ use Rattle.om_searching.proofs.LawfulLemmas.{stands_apart}
 module _ {D T E : Type 0} (language : Language D T E) where
   pub made_apart : AreApart (commands language) (generation language)
   made_apart (tell saying f t most) = inr (generation_idle language (tell saying f t most) refl)
-  made_apart (get f t path most) = inr (generation_idle language (get f t path most) refl)
+  made_apart (get f t path style most) = inr (generation_idle language (get f t path style most) refl)
   made_apart (edit f t script compat most) = inr (generation_idle language (edit f t script compat most) refl)
   made_apart (dump most) = inr (generation_idle language (dump most) refl)
   made_apart (compare most) = inr (generation_idle language (compare most) refl)
@@ -41,8 +41,8 @@ module _ {D T E : Type 0} (language : Language D T E) where
       inl (texts_idle other TextOf (own (scan most)) refl)
   made_apart_from_texts other TextOf (tell saying f t most) =
       inr (generation_idle language (tell saying f t most) refl)
-  made_apart_from_texts other TextOf (get f t path most) =
-      inr (generation_idle language (get f t path most) refl)
+  made_apart_from_texts other TextOf (get f t path style most) =
+      inr (generation_idle language (get f t path style most) refl)
   made_apart_from_texts other TextOf (edit f t script compat most) =
       inr (generation_idle language (edit f t script compat most) refl)
   made_apart_from_texts other TextOf (dump most) = inr (generation_idle language (dump most) refl)
@@ -52,7 +52,7 @@ module _ {D T E S : Type 0} (language : Language D T E) (Reads : ReadsSections S
     (ShownBy : T → S → Tree → Shown → Type 0) where
   pub certificates_apart : AreApart (commands language) (verifying language Reads ShownBy)
   certificates_apart (tell saying f t most) = inr (certificates_idle language Reads ShownBy (tell saying f t most) refl)
-  certificates_apart (get f t path most) = inr (certificates_idle language Reads ShownBy (get f t path most) refl)
+  certificates_apart (get f t path style most) = inr (certificates_idle language Reads ShownBy (get f t path style most) refl)
   certificates_apart (edit f t script compat most) = inr (certificates_idle language Reads ShownBy (edit f t script compat most) refl)
   certificates_apart (dump most) = inr (certificates_idle language Reads ShownBy (dump most) refl)
   certificates_apart (compare most) = inr (certificates_idle language Reads ShownBy (compare most) refl)
@@ -73,8 +73,8 @@ module _ {D T E S : Type 0} (language : Language D T E) (Reads : ReadsSections S
       inr (certificates_idle language Reads ShownBy (own (scan most)) refl)
   certificates_apart_from_texts other TextOf (tell saying f t most) =
       inr (certificates_idle language Reads ShownBy (tell saying f t most) refl)
-  certificates_apart_from_texts other TextOf (get f t path most) =
-      inr (certificates_idle language Reads ShownBy (get f t path most) refl)
+  certificates_apart_from_texts other TextOf (get f t path style most) =
+      inr (certificates_idle language Reads ShownBy (get f t path style most) refl)
   certificates_apart_from_texts other TextOf (edit f t script compat most) =
       inr (certificates_idle language Reads ShownBy (edit f t script compat most) refl)
   certificates_apart_from_texts other TextOf (dump most) =
@@ -96,8 +96,8 @@ module _ {D T E S : Type 0} (language : Language D T E) (Reads : ReadsSections S
       inr (generation_idle other (own (scan most)) refl)
   certificates_apart_from_made other (tell saying f t most) =
       inr (generation_idle other (tell saying f t most) refl)
-  certificates_apart_from_made other (get f t path most) =
-      inr (generation_idle other (get f t path most) refl)
+  certificates_apart_from_made other (get f t path style most) =
+      inr (generation_idle other (get f t path style most) refl)
   certificates_apart_from_made other (edit f t script compat most) =
       inr (generation_idle other (edit f t script compat most) refl)
   certificates_apart_from_made other (dump most) =
@@ -108,7 +108,7 @@ module _ {D T E S : Type 0} (language : Language D T E) (Reads : ReadsSections S
 module _ {D T E : Type 0} (language : Language D T E) (SectionOf : SaysSections T) where
   pub sections_apart : AreApart (commands language) (certifying language SectionOf)
   sections_apart (tell saying f t most) = inr (certifying_idle language SectionOf (tell saying f t most) refl)
-  sections_apart (get f t path most) = inr (certifying_idle language SectionOf (get f t path most) refl)
+  sections_apart (get f t path style most) = inr (certifying_idle language SectionOf (get f t path style most) refl)
   sections_apart (edit f t script compat most) = inr (certifying_idle language SectionOf (edit f t script compat most) refl)
   sections_apart (dump most) = inr (certifying_idle language SectionOf (dump most) refl)
   sections_apart (compare most) = inr (certifying_idle language SectionOf (compare most) refl)
@@ -131,8 +131,8 @@ module _ {D T E : Type 0} (language : Language D T E) (SectionOf : SaysSections 
       inr (certifying_idle language SectionOf (own (scan most)) refl)
   sections_apart_from_texts other TextOf (tell saying f t most) =
       inr (certifying_idle language SectionOf (tell saying f t most) refl)
-  sections_apart_from_texts other TextOf (get f t path most) =
-      inr (certifying_idle language SectionOf (get f t path most) refl)
+  sections_apart_from_texts other TextOf (get f t path style most) =
+      inr (certifying_idle language SectionOf (get f t path style most) refl)
   sections_apart_from_texts other TextOf (edit f t script compat most) =
       inr (certifying_idle language SectionOf (edit f t script compat most) refl)
   sections_apart_from_texts other TextOf (dump most) =
@@ -156,8 +156,8 @@ module _ {D T E : Type 0} (language : Language D T E) (SectionOf : SaysSections 
       inr (certifying_idle language SectionOf (own (scan most)) refl)
   sections_apart_from_certificates other Reads ShownBy (tell saying f t most) =
       inr (certifying_idle language SectionOf (tell saying f t most) refl)
-  sections_apart_from_certificates other Reads ShownBy (get f t path most) =
-      inr (certifying_idle language SectionOf (get f t path most) refl)
+  sections_apart_from_certificates other Reads ShownBy (get f t path style most) =
+      inr (certifying_idle language SectionOf (get f t path style most) refl)
   sections_apart_from_certificates other Reads ShownBy (edit f t script compat most) =
       inr (certifying_idle language SectionOf (edit f t script compat most) refl)
   sections_apart_from_certificates other Reads ShownBy (dump most) =
@@ -179,8 +179,8 @@ module _ {D T E : Type 0} (language : Language D T E) (SectionOf : SaysSections 
       inr (generation_idle other (own (scan most)) refl)
   sections_apart_from_made other (tell saying f t most) =
       inr (generation_idle other (tell saying f t most) refl)
-  sections_apart_from_made other (get f t path most) =
-      inr (generation_idle other (get f t path most) refl)
+  sections_apart_from_made other (get f t path style most) =
+      inr (generation_idle other (get f t path style most) refl)
   sections_apart_from_made other (edit f t script compat most) =
       inr (generation_idle other (edit f t script compat most) refl)
   sections_apart_from_made other (dump most) =

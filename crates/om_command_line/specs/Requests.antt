@@ -9,6 +9,7 @@ use Rattle.clap.specs.declared.builder.value_parser.ValueParser.TheVariants.{Uns
 use Rattle.clap.specs.declared.parser.matches.ArgMatches.{ArgMatches}
 use Rattle.om_outcome.specs.CommandLine.{Argument, flag, option, wanted, number, Asking, form_of}
 use Rattle.om_outcome.specs.CommandLine as outcome
+use Rattle.om_outcome.specs.declared.style.Style.{Style}
 use Rattle.om_command_line.specs.declared.read.Request.{Request}
 use Rattle.om_command_line.specs.declared.read.Request.TheVariants as requests
 use Rattle.om_command_line.specs.declared.read.Unread.{Unread}
@@ -20,8 +21,10 @@ texts words = map (λ word. string_bytes word) words
 abbrev pub request_of : Request → outcome.Request
 request_of (requests.Check file type limit) =
     outcome.tell outcome.the_verdict file.now type.now limit
-request_of (requests.Show file type limit) = outcome.tell outcome.the_text file.now type.now limit
-request_of (requests.Get file type path limit) = outcome.get file.now type.now path.now limit
+request_of (requests.Show file type style limit) =
+    outcome.tell (outcome.the_text style) file.now type.now limit
+request_of (requests.Get file type path style limit) =
+    outcome.get file.now type.now path.now style limit
 request_of (requests.Edit file type script compat limit) =
     outcome.edit file.now type.now script.now compat limit
 request_of (requests.Trees file type limit) =
@@ -53,6 +56,10 @@ word_in rows name = unwrap_or (first_of name rows) []
 -- whether the flag of this name is used
 abbrev pub flag_in : List Row → List ℕ → Bool
 flag_in rows name = bytes_eq (word_in rows name) (codes "true")
+
+-- how texts are put
+abbrev pub style_in : List Row → Style
+style_in rows = outcome.styled_by (flag_in rows (codes "pretty"))
 
 -- the number of 64 bits in a text, or 0
 abbrev pub number_of : Option (List ℕ) → ℕ

@@ -40,6 +40,8 @@ const COMPAT: Argument<'static> = Argument::Flag("compat32");
 
 const CERTIFIED: Argument<'static> = Argument::Flag("cert");
 
+const PRETTY: Argument<'static> = Argument::Flag("pretty");
+
 const FILE: Argument<'static> = Argument::Word("FILE");
 
 const TYPE: Argument<'static> = Argument::Word("TYPE");
@@ -56,8 +58,8 @@ const COUNT: Argument<'static> = Argument::Number("COUNT", GREATEST_COUNT);
 
 static FORMS: [Form<'static>; 11] = [
     ("check", &[CERTIFIED, LIMIT, FILE, TYPE]),
-    ("show", &[LIMIT, FILE, TYPE]),
-    ("get", &[LIMIT, FILE, TYPE, PATH]),
+    ("show", &[PRETTY, LIMIT, FILE, TYPE]),
+    ("get", &[PRETTY, LIMIT, FILE, TYPE, PATH]),
     ("edit", &[LIMIT, FILE, TYPE, SCRIPT, COMPAT]),
     ("trees", &[LIMIT, FILE, TYPE]),
     ("dump", &[LIMIT]),

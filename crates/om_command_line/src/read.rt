@@ -4,11 +4,12 @@ ghost use Rattle.std.specs.Prelude.{◌≡◌, ◌≢◌};
 ghost use Rattle.clap.specs.Words.{kind_of};
 ghost use Rattle.clap.specs.declared.error.kind.ErrorKind.TheVariants as kinds;
 ghost use Rattle.om_command_line.specs.declared.read.Unread.TheVariants as unreads;
-ghost use Rattle.om_command_line.specs.Requests.{arguments_of, check_asks, flag_in, number_in, request_of, texts, word_in, ReadsAsked, ReadsBy, ReadsMet, ReadsWords};
+ghost use Rattle.om_command_line.specs.Requests.{arguments_of, check_asks, flag_in, number_in, request_of, style_in, texts, word_in, ReadsAsked, ReadsBy, ReadsMet, ReadsWords};
 
 use crate::command_set::command_set;
 use clap::error::ErrorKind;
 use clap::{ArgMatches, Error};
+use om_outcome::style::Style;
 use std::alloc::{AllocError, Global};
 
 /// What the words ask for, with the limit of words on 64 bits in a value where values are read.
@@ -24,6 +25,7 @@ pub enum Request<'a> {
     Show {
         file: &'a str,
         type_text: &'a str,
+        style: Style,
         limit: u64,
     },
     /// The text of the part at the path, at the type.
@@ -31,6 +33,7 @@ pub enum Request<'a> {
         file: &'a str,
         type_text: &'a str,
         path_text: &'a str,
+        style: Style,
         limit: u64,
     },
     /// The bytes of the values of the input at the type, after the lines of a script that edit
@@ -118,6 +121,15 @@ fn flag(arguments: &ArgMatches, name: &str) -> bool
     word(arguments, name) == "true"
 }
 
+// How texts are put.
+fn style(arguments: &ArgMatches) -> Style
+    ensures { result ≡ style_in (arguments_of arguments.now) }
+{
+    Style {
+        pretty: flag(arguments, "pretty"),
+    }
+}
+
 // The number of this name.
 fn number(arguments: &ArgMatches, name: &str) -> u64
     ensures { result ≡ number_in (arguments_of arguments.now) name.now }
@@ -159,12 +171,14 @@ fn request_by<'a>(command: &str, arguments: &ArgMatches<'a>) -> Option<Request<'
         "show" => Some(Request::Show {
             file,
             type_text,
+            style: style(arguments),
             limit,
         }),
         "get" => Some(Request::Get {
             file,
             type_text,
             path_text: word(arguments, "PATH"),
+            style: style(arguments),
             limit,
         }),
         "edit" => Some(Request::Edit {

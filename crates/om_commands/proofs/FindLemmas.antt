@@ -126,10 +126,10 @@ module _ {D T E : Type 0} (language : Language D T E) (lawful : IsLawful languag
   work_once :
       (files : outcome.Fetches) (request : Request) → IsOnce (FindsWork language files request)
   work_once files (tell saying f t most) r s h k = tells_once files.file (f, t) saying r s h k
-  work_once files (get f t text most) r s h k =
+  work_once files (get f t text style most) r s h k =
       Then_once (ReadsPathOf language text)
-      (λ path. TellsAt language files.file (f, t) (the_part path))
-      (path_once text) (λ path. tells_once files.file (f, t) (the_part path)) r s h k
+      (λ path. TellsAt language files.file (f, t) (the_part path style))
+      (path_once text) (λ path. tells_once files.file (f, t) (the_part path style)) r s h k
   work_once files (edit f t script compat most) r s h k =
       edits_once files (f, t) script compat r s h k
   work_once files (dump most) r s h k = h ∙ sym k
@@ -191,11 +191,11 @@ module _ {D T E : Type 0} (language : Language D T E) (lawful : IsLawful languag
   work_by (tell saying f t most) files others result same h =
       tells_by (files 0) (others 0) (f, t) saying result
       (same 0 f (inl (refl, record { has_path = tt; type = t; typed = refl }))) h
-  work_by (get f t text most) files others result same (Err s, none, next) = (Err s, none, next)
-  work_by (get f t text most) files others result same (Ok path, is_path, h) = (
+  work_by (get f t text style most) files others result same (Err s, none, next) = (Err s, none, next)
+  work_by (get f t text style most) files others result same (Ok path, is_path, h) = (
     Ok path,
     is_path,
-    tells_by (files 0) (others 0) (f, t) (the_part path) result
+    tells_by (files 0) (others 0) (f, t) (the_part path style) result
         (same 0 f (inl (refl, record { has_path = (path, is_path); type = t; typed = refl }))) h,
   )
   work_by (edit f t script compat most) files others result same (type, reads, next) =
@@ -275,11 +275,11 @@ module _ {D T E : Type 0} (language : Language D T E) (lawful : IsLawful languag
   file_wanted (tell saying f t most) files result name h w =
       same_file f t name files result w.type w.typed
       (tells_read (files 0) (f, t) saying result h)
-  file_wanted (get f t text most) files result name (Err s, (none, is), next) w =
+  file_wanted (get f t text style most) files result name (Err s, (none, is), next) w =
       absurd (lawful.path_once text w.has_path.0 w.has_path.1 none)
-  file_wanted (get f t text most) files result name (Ok path, is_path, h) w =
+  file_wanted (get f t text style most) files result name (Ok path, is_path, h) w =
       same_file f t name files result w.type w.typed
-      (tells_read (files 0) (f, t) (the_part path) result h)
+      (tells_read (files 0) (f, t) (the_part path style) result h)
   file_wanted (edit f t script compat most) files result name h w =
       same_file f t name files result w.type w.typed
       (edits_read (by_turns files) (f, t) script compat result h)
@@ -292,7 +292,7 @@ module _ {D T E : Type 0} (language : Language D T E) (lawful : IsLawful languag
       → FindsWork language (by_turns files) request result
       → WantsScript language request files name → IsRead name (files 1 name) result
   script_wanted (tell saying f t most) files result name h w = let e = w.scripted in absurd (cc e)
-  script_wanted (get f t text most) files result name h w = let e = w.scripted in absurd (cc e)
+  script_wanted (get f t text style most) files result name h w = let e = w.scripted in absurd (cc e)
   script_wanted (edit f t script compat most) files result name (given, reads, next) w =
       from given (type_once (files 0) (f, t) (Ok w.type) given first reads) next where
         both : ◌≡◌ {A = List ℕ × List ℕ} (f, t) w.typed
@@ -394,12 +394,12 @@ module _ {D T E : Type 0} (language : Language D T E) (lawful : IsLawful languag
       at_file (tell saying f t most) files stop 0 f
       (inl (refl, record { has_path = tt; type = t; typed = refl }))
       (tells_inside (files 0) (f, t) saying stop h)
-  work_inside (get f t text most) files stop (Err s, (none, e), is) =
+  work_inside (get f t text style most) files stop (Err s, (none, e), is) =
       let same : stop ≡ s = cc is in inl (subst IsInner (sym (same ∙ e)) tt)
-  work_inside (get f t text most) files stop (Ok path, is_path, h) =
-      at_file (get f t text most) files stop 0 f
+  work_inside (get f t text style most) files stop (Ok path, is_path, h) =
+      at_file (get f t text style most) files stop 0 f
       (inl (refl, record { has_path = (path, is_path); type = t; typed = refl }))
-      (tells_inside (files 0) (f, t) (the_part path) stop h)
+      (tells_inside (files 0) (f, t) (the_part path style) stop h)
   work_inside (edit f t script compat most) files stop (Err s, reads, is) =
       let same : s ≡ stop = cc is in
       at_file (edit f t script compat most) files stop 0 f

@@ -30,8 +30,8 @@ module _ {D T E : Type 0} (language : Language D T E) (files : Fetches) where
 
   pub work_given : (request : Request) (work : Work T E) → FindsWork language files request (Ok work) → IsGivenWork language work
   work_given (tell saying f u most) work h = tells_given f u saying work h
-  work_given (get f u text most) work (Err s, reads, same) = absurd (cc same)
-  work_given (get f u text most) work (Ok path, reads, h) = tells_given f u (the_part path) work h
+  work_given (get f u text style most) work (Err s, reads, same) = absurd (cc same)
+  work_given (get f u text style most) work (Ok path, reads, h) = tells_given f u (the_part path style) work h
   work_given (edit f u script compat most) work h = edits_given f u script compat work h
   work_given (dump most) work h = let is : work ≡ dumps = cc in subst (IsGivenWork language) (sym is) tt
   work_given (compare most) work h = let is : work ≡ compares = cc in subst (IsGivenWork language) (sym is) tt

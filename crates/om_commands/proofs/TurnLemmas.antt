@@ -22,7 +22,7 @@ module _ {D T E : Type 0} (language : Language D T E) (lawful : IsLawful languag
       (request : Request) (name : List ℕ) → script_of request ≡ Some name
       → HasPath language request
   script_path (tell saying f t most) name e = absurd (cc e)
-  script_path (get f t text most) name e = absurd (cc e)
+  script_path (get f t text style most) name e = absurd (cc e)
   script_path (edit f t script compat most) name e = tt
   script_path (dump most) name e = absurd (cc e)
   script_path (compare most) name e = absurd (cc e)

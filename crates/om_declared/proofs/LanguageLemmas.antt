@@ -144,8 +144,8 @@ module _ (files_once : HasOneAnswer IsFileAnswer) (types_once : (decls : List De
     -- one thing is told of a value that has the type
     told_once : TreeVerdictsAreOne → (saying : Saying) (one other : Said) → IsToldOf saying t graph v one → IsToldOf saying t graph v other → one ≡ other
     told_once verdicts_once the_verdict one other is its = is ∙ sym its
-    told_once verdicts_once the_text one other is its = is ∙ sym its
-    told_once verdicts_once (the_part path) one other is its = is ∙ sym its
+    told_once verdicts_once (the_text style) one other is its = is ∙ sym its
+    told_once verdicts_once (the_part path style) one other is its = is ∙ sym its
     told_once verdicts_once the_trees one other (verdict, of, is) (second, of_second, its) =
         is ∙ (ap judged (verdicts_once t.decls graph v t.type verdict second of of_second) ∙ sym its)
 

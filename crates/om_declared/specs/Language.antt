@@ -1,6 +1,6 @@
 -- The language of declared types: FILE has declarations, TYPE is a type over them, and SCRIPT is a
 -- list of edits.
-use Rattle.std.specs.Prelude.{ℕ, ◌≤◌, ◌≡◌, ◌==◌, ◌≢◌, ◌⊎◌, Bool, true, false, List, [], ◌∷◌, ◌++◌, length, filter, Option, Some, None, Result, Ok, Err, codes}
+use Rattle.std.specs.Prelude.{ℕ, ◌≤◌, ◌≡◌, ◌==◌, ◌≢◌, ◌⊎◌, Bool, true, false, if◌then◌else◌, List, [], ◌∷◌, ◌++◌, length, filter, Option, Some, None, option_map, Result, Ok, Err, codes}
 use Rattle.om_model.specs.declared.value.Val.{Val}
 use Rattle.om_model.specs.declared.value.Obj.{Obj}
 use Rattle.om_types.specs.declared.decl.Decl.{Decl}
@@ -31,11 +31,13 @@ use Rattle.om_path.specs.ScriptAnswer.{AreEdits}
 use Rattle.om_path.specs.declared.edits.ScriptFault.{ScriptFault}
 use Rattle.om_path.specs.declared.edits.ScriptFault.TheVariants as script_faults
 use Rattle.om_path.specs.declared.edits.ScriptLine.{ScriptLine}
+use Rattle.om_pretty.specs.Lines.{pretty}
 use Rattle.om_show.specs.Dumped.{dump_text}
 use Rattle.om_show.specs.Shown.{shown_text, shown_at}
 use Rattle.om_trees.specs.Laws.{IsVerdictOf}
 use Rattle.om_trees.specs.declared.verdict.TreeVerdict.{TreeVerdict}
 use Rattle.om_tree_check.specs.VerdictText.{is_sound, verdict_text}
+use Rattle.om_outcome.specs.declared.style.Style.{Style}
 use Rattle.om_outcome.specs.RefusalText.{compat_text}
 use Rattle.om_outcome.specs.Outcome.{Language, Said, Saying, the_verdict, the_text, the_part, the_trees, Unedited, untyped, refused_line, too_large, line}
 
@@ -45,6 +47,10 @@ pub record TypeOver : Type 0 where
   pub type : Ty
 
 -- ---- lines
+
+-- a text in this style
+abbrev pub styled : Style → List ℕ → List ℕ
+styled style text = if style.pretty then pretty text else text
 
 -- the text of a part, if there is one
 abbrev pub part_or_none : Option (List ℕ) → Said
@@ -59,13 +65,14 @@ judged verdict = record { text = verdict_text verdict; well = is_sound verdict }
 -- the verdict on its sets and maps
 abbrev pub IsToldOf : Saying → TypeOver → List Obj → Val → Said → Type 0
 IsToldOf the_verdict t graph v said = said ≡ record { text = codes "yes"; well = true }
-IsToldOf the_text t graph v said = said ≡ record {
-  text = shown_text (shape t.decls) (names_of t.decls) graph v t.type;
+IsToldOf (the_text style) t graph v said = said ≡ record {
+  text = styled style (shown_text (shape t.decls) (names_of t.decls) graph v t.type);
   well = true;
 }
-IsToldOf (the_part path) t graph v said =
+IsToldOf (the_part path style) t graph v said =
     said
-    ≡ part_or_none (shown_at (shape t.decls) (names_of t.decls) graph (Equal t.decls) v t.type path)
+    ≡ part_or_none (option_map (styled style)
+    (shown_at (shape t.decls) (names_of t.decls) graph (Equal t.decls) v t.type path))
 IsToldOf the_trees t graph v said =
     (verdict : TreeVerdict) × IsVerdictOf t.decls graph v t.type verdict × (said ≡ judged verdict)
 

@@ -44,9 +44,9 @@ all_ranged : AllRanged forms
 all_ranged = (
   λ rows request h. subst IsRanged h.2.2.2.2 (either_ranged h.0 (own (certify h.2.2.0 h.2.2.2.0 h.2.0)) (tell the_verdict h.2.2.0 h.2.2.2.0 h.2.0) tt tt),
   (
-    λ rows request h. subst IsRanged h.2.2.2 tt,
+    λ rows request h. subst IsRanged h.2.2.2.2 tt,
     (
-      λ rows request h. subst IsRanged h.2.2.2.2 tt,
+      λ rows request h. subst IsRanged h.2.2.2.2.2 tt,
       (
         λ rows request h. subst IsRanged h.2.2.2.2.2 tt,
         (

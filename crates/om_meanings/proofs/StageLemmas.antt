@@ -105,12 +105,12 @@ module _ {D T E : Type 0} (language : Language D T E) where
   work_bar (tell saying f t most) files stop h =
       tells_bar (tell saying f t most) files f (record { has_path = tt; type = t; typed = refl })
       saying stop h
-  work_bar (get f t text most) files stop (Err s, (none, e), is) =
+  work_bar (get f t text style most) files stop (Err s, (none, e), is) =
       let same : stop ≡ s = cc is in
-      subst (BarBy (get f t text most) files) (sym (same ∙ e)) none
-  work_bar (get f t text most) files stop (Ok path, is_path, h) =
-      tells_bar (get f t text most) files f
-      (record { has_path = (path, is_path); type = t; typed = refl }) (the_part path) stop h
+      subst (BarBy (get f t text style most) files) (sym (same ∙ e)) none
+  work_bar (get f t text style most) files stop (Ok path, is_path, h) =
+      tells_bar (get f t text style most) files f
+      (record { has_path = (path, is_path); type = t; typed = refl }) (the_part path style) stop h
   work_bar (edit f t script compat most) files stop (Err s, reads, is) =
       let same : s ≡ stop = cc is in
       subst (BarBy (edit f t script compat most) files) same
@@ -154,7 +154,7 @@ module _ {D T E : Type 0} (language : Language D T E) where
       → FindsWork language (by_turns files) request (Err stop)
   type_work (tell saying f t most) files name wants stop reads =
       (Err stop, same_typed f t name wants.type (files 0) stop wants.typed reads, refl)
-  type_work (get f t text most) files name wants stop reads = (
+  type_work (get f t text style most) files name wants stop reads = (
     Ok wants.has_path.0,
     wants.has_path.1,
     (Err stop, same_typed f t name wants.type (files 0) stop wants.typed reads, refl),
@@ -172,7 +172,7 @@ module _ {D T E : Type 0} (language : Language D T E) where
       → FindsWork language (by_turns files) request (Err stop)
   script_work (tell saying f t most) files name wants stop read =
       let e = wants.scripted in absurd (cc e)
-  script_work (get f t text most) files name wants stop read =
+  script_work (get f t text style most) files name wants stop read =
       let e = wants.scripted in absurd (cc e)
   script_work (edit f t script compat most) files name wants stop read =
       let e : ◌≡◌ {A = Option (List ℕ)} (Some script) (Some name) = wants.scripted in
@@ -195,7 +195,7 @@ module _ {D T E : Type 0} (language : Language D T E) where
       (request : Request) (files : Fetches) → HasNoPath language request
       → FindsWork language (by_turns files) request (Err bad_path)
   path_work (tell saying f t most) files none = absurd none
-  path_work (get f t text most) files none = (Err bad_path, (none, refl), refl)
+  path_work (get f t text style most) files none = (Err bad_path, (none, refl), refl)
   path_work (edit f t script compat most) files none = absurd none
   path_work (dump most) files none = absurd none
   path_work (compare most) files none = absurd none

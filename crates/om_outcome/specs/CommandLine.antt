@@ -8,15 +8,20 @@ use Rattle.clap.specs.Words.{App, Row, Rule, Shape, fault_of, first_of, new_rule
 use Rattle.clap.specs.Simple.{new_shape}
 use Rattle.clap.specs.declared.builder.action.ArgAction.TheVariants.{SetTrue}
 use Rattle.clap.specs.declared.builder.value_parser.ValueParser.TheVariants.{Unsigned}
+use Rattle.om_outcome.specs.declared.style.Style.{Style}
 
 -- ---- what is asked for
+
+-- a text on one line
+abbrev pub plain : Style
+plain = record { pretty = false }
 
 -- what is said of a value at a type: whether it has the type, its text, the text of the part at a
 -- path, or whether its search trees are sound; where it has not the type, that and why
 pub data Saying : Type 0 where
   the_verdict : Saying
-  the_text : Saying
-  the_part : (path : List ℕ) → Saying
+  the_text : Style → Saying
+  the_part : (path : List ℕ) → Style → Saying
   the_trees : Saying
 
 -- what is asked of a command that is a set of commands of its own, beside those on values
@@ -30,7 +35,7 @@ pub data OwnRequest : Type 0 where
 -- what is asked for, with the limit of words on 64 bits in a value where values are read
 pub data Request : Type 0 where
   tell : Saying → (file type : List ℕ) → (limit : ℕ) → Request
-  get : (file type path : List ℕ) → (limit : ℕ) → Request
+  get : (file type path : List ℕ) → Style → (limit : ℕ) → Request
   edit : (file type script : List ℕ) → (compat : Bool) → (limit : ℕ) → Request
   dump : (limit : ℕ) → Request
   compare : (limit : ℕ) → Request
@@ -39,7 +44,7 @@ pub data Request : Type 0 where
 -- FILE and TYPE, where the command reads values at them
 abbrev pub typed_by : Request → Option (List ℕ × List ℕ)
 typed_by (tell saying file type limit) = Some (file, type)
-typed_by (get file type path limit) = Some (file, type)
+typed_by (get file type path style limit) = Some (file, type)
 typed_by (edit file type script compat limit) = Some (file, type)
 typed_by (dump limit) = None
 typed_by (compare limit) = None
@@ -47,7 +52,7 @@ typed_by (own request) = None
 
 -- PATH, where the command has one
 abbrev pub path_of : Request → Option (List ℕ)
-path_of (get file type path limit) = Some path
+path_of (get file type path style limit) = Some path
 path_of request = None
 
 -- SCRIPT, where the command has one
@@ -58,7 +63,7 @@ script_of request = None
 -- the limit of words on 64 bits in a value, where values are read
 abbrev pub limit_of : Request → ℕ
 limit_of (tell saying file type limit) = limit
-limit_of (get file type path limit) = limit
+limit_of (get file type path style limit) = limit
 limit_of (edit file type script compat limit) = limit
 limit_of (dump limit) = limit
 limit_of (compare limit) = limit
@@ -104,7 +109,7 @@ greatest_limit = 2 ^ 40
 abbrev pub usual_limit : List ℕ
 usual_limit = codes "134217728"
 
--- `--limit N`, `--compat32` and `--cert`
+-- `--limit N`, `--compat32`, `--cert` and `--pretty`
 abbrev pub limit_option : Argument
 limit_option = option (codes "limit") greatest_limit usual_limit
 
@@ -113,6 +118,13 @@ compat_flag = flag (codes "compat32")
 
 abbrev pub cert_flag : Argument
 cert_flag = flag (codes "cert")
+
+abbrev pub pretty_flag : Argument
+pretty_flag = flag (codes "pretty")
+
+-- how texts are put, where that flag is used or not
+abbrev pub styled_by : Bool → Style
+styled_by pretty = record { pretty = pretty }
 
 -- FILE and TYPE
 abbrev pub file_and_type : List Argument → List Argument
@@ -134,9 +146,10 @@ abbrev pub forms : List Form
 forms =
     row (codes "check") (cert_flag ∷ typed [])
     (λ cert n file type. if cert then own (certify file type n) else tell the_verdict file type n)
-    ∷ row (codes "show") (typed []) (λ n file type. tell the_text file type n)
-    ∷ row (codes "get") (typed (wanted (codes "PATH") ∷ []))
-    (λ n file type path. get file type path n)
+    ∷ row (codes "show") (pretty_flag ∷ typed [])
+    (λ pretty n file type. tell (the_text (styled_by pretty)) file type n)
+    ∷ row (codes "get") (pretty_flag ∷ typed (wanted (codes "PATH") ∷ []))
+    (λ pretty n file type path. get file type path (styled_by pretty) n)
     ∷ row (codes "edit") (typed (wanted (codes "SCRIPT") ∷ compat_flag ∷ []))
     (λ n file type script compat. edit file type script compat n)
     ∷ row (codes "trees") (typed []) (λ n file type. tell the_trees file type n)

@@ -4,7 +4,7 @@
 use Rattle.std.specs.Prelude.{ℕ, ◌<◌, ◌≡◌, ◌≢◌, ◌↔◌, ◌⊎◌, Bool, true, false, IsTrue, ◌&&◌, not, nat_lt, if◌then◌else◌, List, [], ◌∷◌, ◌++◌, length, find, Option, Some, None, Result, Ok, Err, MatchResult, codes, decimal}
 use Rattle.om_outcome.specs.declared.status.Status.{Status}
 use Rattle.om_outcome.specs.declared.status.Status.TheVariants as statuses
-pub use Rattle.om_outcome.specs.CommandLine.{Saying, the_verdict, the_text, the_part, the_trees, Request, tell, get, edit, dump, compare, own, OwnRequest, build, generate, verify, Asks, IsUsage, typed_by, path_of, script_of, limit_of}
+pub use Rattle.om_outcome.specs.CommandLine.{Saying, plain, the_verdict, the_text, the_part, the_trees, Request, tell, get, edit, dump, compare, own, OwnRequest, build, generate, verify, Asks, IsUsage, typed_by, path_of, script_of, limit_of}
 use Rattle.om_outcome.specs.RefusalText.{refusal_text, truncated_text}
 use Rattle.om_format.specs.Iso.{Iso}
 use Rattle.om_format.specs.Tree.{Tree, root, objects_of}
@@ -306,9 +306,9 @@ abbrev pub FindsWork : {D T E : Type 0} → Language D T E → Fetches → Reque
     → Result (Work T E) Stop → Type 0
 FindsWork language files (tell saying name type_text limit) result =
     TellsAt language files.file (name, type_text) saying result
-FindsWork language files (get name type_text path_text limit) result =
+FindsWork language files (get name type_text path_text style limit) result =
     Then (ReadsPathOf language path_text)
-    (λ path. TellsAt language files.file (name, type_text) (the_part path)) result
+    (λ path. TellsAt language files.file (name, type_text) (the_part path style)) result
 FindsWork language files (edit name type_text script_name compat limit) result =
     EditsBy language files (name, type_text) script_name compat result
 FindsWork language files (dump limit) result = result ≡ Ok dumps

@@ -3,3 +3,4 @@
 #![tactic(auto)]
 
 pub mod status;
+pub mod style;

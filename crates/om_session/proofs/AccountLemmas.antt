@@ -2,7 +2,8 @@
 use Rattle.std.proofs.Common.{◌≡◌, ◌⊎◌, ℕ, zero, suc, Bool, List, Ok, Err, inl, inr, refl, sym, ap, subst, arith}
 use Rattle.om_outcome.specs.declared.status.Status.{Status}
 use Rattle.std.specs.Borrow.{Bor}
-use Rattle.om_outcome.specs.Outcome.{Found, unfetched, Stop, bad_path, out_of_memory, Request, get, edit, dump, compare, Asks, ReadsTypeOf, dumps, compares}
+use Rattle.om_outcome.specs.Outcome.{Found, unfetched, Stop, bad_path, out_of_memory, Request, get, edit, dump, compare, Asks, ReadsTypeOf, dumps, compares, nothing}
+use Rattle.om_outcome.specs.declared.style.Style.{Style}
 use Rattle.om_edge.specs.State.{ByteState, FilesState, Change, change}
 use Rattle.om_stops.specs.declared.stop.Stop as codes
 use Rattle.om_path.specs.Answer.{IsAnswer, UnlessMemory}
@@ -54,17 +55,17 @@ none_fetched : (words : List (List ℕ)) (files : FilesState) → FetchesFor (co
 none_fetched words = nothing_fetched (commands declared_types) words 2 values_in_turns
 
 -- PATH is no path, or memory ran out for it
-pub path_account : (words : List (List ℕ)) (name type text : List ℕ) (limit : ℕ) → Asks words (get name type text limit)
+pub path_account : (words : List (List ℕ)) (name type text : List ℕ) (style : Style) (limit : ℕ) → Asks words (get name type text style limit)
     → (fault : PathFault) → UnlessMemory (λ f. IsAnswer text (Err f)) fault → (stop : codes.Stop) → IsPathStop fault stop
     → (input out : ByteState) (files : FilesState) (err : Change ByteState) (status : Status)
     → Reports (stop_of stop) err status → Account (commands declared_types) words (call (change input input) (change files files) (change out out) err status)
-path_account words name type text limit asks fault refused stop is input out files err status r =
+path_account words name type text style limit asks fault refused stop is input out files err status r =
     stop_account (commands declared_types) words nothing_found input out (change files files) (none_fetched words files) err status (stop_of stop) (why is) r where
       why : IsPathStop fault stop → Prepares (commands declared_types) words nothing_found (Err (stop_of stop)) ⊎ (stop_of stop ≡ out_of_memory)
       why (inl (memory, is)) = inr is
       why (inr (some, is)) =
           inl (subst (λ s. Prepares (commands declared_types) words nothing_found (Err s)) (sym is)
-          (Ok (get name type text limit), asks, (Err bad_path, (Err bad_path, (path_refused text fault some refused, refl), refl), refl)))
+          (Ok (get name type text style limit), asks, (Err bad_path, (Err bad_path, (path_refused text fault some refused, refl), refl), refl)))
 
 module _ (words : List (List ℕ)) (name type : List ℕ) (saying : Saying) (limit : ℕ) (asks : AsksToTell words name type (saying_of saying) limit) (files : Change FilesState) (found : Found) (fetched : Fetched files name found) where
   is_wanted : WantsFile declared_types asks.request name

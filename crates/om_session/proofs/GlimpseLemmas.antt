@@ -56,8 +56,8 @@ seen_says (jobs.Say (speeches.Tell r sayings.Verdict) limit) in_hand n seen = re
   spelled = seen.spelled;
   says = λ earlier. seen.says;
 }
-seen_says (jobs.Say (speeches.Tell r sayings.Text) limit) in_hand n seen = absurd seen
-seen_says (jobs.Say (speeches.Tell r (sayings.Part path)) limit) in_hand n seen = absurd seen
+seen_says (jobs.Say (speeches.Tell r (sayings.Text style)) limit) in_hand n seen = absurd seen
+seen_says (jobs.Say (speeches.Tell r (sayings.Part path style)) limit) in_hand n seen = absurd seen
 seen_says (jobs.Say (speeches.Tell r sayings.Trees) limit) in_hand n seen = absurd seen
 seen_says (jobs.Say speeches.Dump limit) in_hand n seen = absurd seen
 seen_says (jobs.Edit e limit) in_hand n seen = absurd seen
@@ -113,8 +113,8 @@ seen_read (jobs.Say (speeches.Tell r sayings.Verdict) limit) taken said values h
       well = h.well ∙ (sym (and_true (all_well said)) ∙ sym (all_well-snoc said yes));
       kept = tt;
     }
-seen_read (jobs.Say (speeches.Tell r sayings.Text) limit) taken said values h in_hand n between seen = absurd seen
-seen_read (jobs.Say (speeches.Tell r (sayings.Part path)) limit) taken said values h in_hand n between seen = absurd seen
+seen_read (jobs.Say (speeches.Tell r (sayings.Text style)) limit) taken said values h in_hand n between seen = absurd seen
+seen_read (jobs.Say (speeches.Tell r (sayings.Part path style)) limit) taken said values h in_hand n between seen = absurd seen
 seen_read (jobs.Say (speeches.Tell r sayings.Trees) limit) taken said values h in_hand n between seen = absurd seen
 seen_read (jobs.Say speeches.Dump limit) taken said values h in_hand n between seen = absurd seen
 seen_read (jobs.Edit e limit) taken said values h in_hand n between seen = absurd seen

@@ -60,7 +60,7 @@ of_values_others : (request : Request) → IsOfValues request
     → (built_by request ≡ None) × (verified_by request ≡ None) × (certified_by request ≡ None)
     × (searched_by request ≡ None) × (generated_by request ≡ None)
 of_values_others (tell saying file type limit) of = (refl, refl, refl, refl, refl)
-of_values_others (get file type path limit) of = (refl, refl, refl, refl, refl)
+of_values_others (get file type path style limit) of = (refl, refl, refl, refl, refl)
 of_values_others (edit file type script compat limit) of = (refl, refl, refl, refl, refl)
 of_values_others (dump limit) of = (refl, refl, refl, refl, refl)
 of_values_others (compare limit) of = (refl, refl, refl, refl, refl)

@@ -14,12 +14,13 @@ use Rattle.om_type_table.specs.Made.{types_of, table_of}
 use Rattle.om_type_table.specs.Laws.{MadeAreLawful}
 use Rattle.om_declared.specs.declared.types.Requested.{Requested}
 use Rattle.om_outcome.specs.Outcome as outcome
+use Rattle.om_outcome.specs.declared.style.Style.{Style}
 use Rattle.om_show.specs.Laws.{RootsShowAlike, SameClass}
 use Rattle.om_show.specs.Shown.{shown_text, shown_at}
 use Rattle.om_show.specs.Tables.{shape_in, names_in}
 use Rattle.om_session.specs.declared.verdict.Saying.{Saying}
 use Rattle.om_session.specs.declared.verdict.Saying.TheVariants as sayings
-use Rattle.om_declared.specs.Language.{IsToldOf, part_or_none}
+use Rattle.om_declared.specs.Language.{IsToldOf, part_or_none, styled}
 use Rattle.om_tree_check.specs.Laws.{TablesHaveTheVerdict}
 use Rattle.om_tree_check.specs.TreeTable.{IsTableVerdict}
 use Rattle.om_tree_check.specs.VerdictText.{is_sound, verdict_text}
@@ -54,40 +55,43 @@ module _ (r : Requested) (ready : IsReady r) where
           tells outcome.the_trees (verdict_text verdict) (is_sound verdict) (verdict, (same r.decls r.ty r.table ready.made graph root verdict).0 is, refl) old new put
 
       module _ (alike : RootsShowAlike) where
-        pub puts_text : (saying : Saying) → saying ≡ sayings.Text → (old new : List ℕ) → new ≡ old ++ shown_text (shape_in r.table) (names_in r.table) graph root 0
+        pub puts_text : (style : Style) (saying : Saying) → saying ≡ sayings.Text style → (old new : List ℕ) → new ≡ old ++ styled style (shown_text (shape_in r.table) (names_in r.table) graph root 0)
             → PutsLine (saying_of saying) (type_over r) graph root old new true
-        puts_text saying is old new put =
+        puts_text style saying is old new put =
             subst (λ s. PutsLine (saying_of s) (type_over r) graph root old new true) (sym is)
-            (tells outcome.the_text (shown_text (shape_in r.table) (names_in r.table) graph root 0) true
-            (ap (λ text. let s : outcome.Said = record { text = text; well = true } in s) ((alike r.decls r.ty r.table ready.made).whole graph root)) old new put)
+            (tells (outcome.the_text style) (styled style (shown_text (shape_in r.table) (names_in r.table) graph root 0)) true
+            (ap (λ text. let s : outcome.Said = record { text = styled style text; well = true } in s) ((alike r.decls r.ty r.table ready.made).whole graph root)) old new put)
 
-        module _ (path : List ℕ) where
+        module _ (path : List ℕ) (style : Style) where
           abbrev by_number : Option (List ℕ)
           by_number = shown_at (shape_in r.table) (names_in r.table) graph (SameClass r.table) root 0 path
 
+          abbrev styled_part : Option (List ℕ) → outcome.Said
+          styled_part part = part_or_none (option_map (styled style) part)
+
           abbrev told_part : outcome.Said
-          told_part = part_or_none (shown_at (shape r.decls) (names_of r.decls) graph (Equal r.decls) root r.ty path)
+          told_part = styled_part (shown_at (shape r.decls) (names_of r.decls) graph (Equal r.decls) root r.ty path)
 
-          part_is : told_part ≡ part_or_none by_number
-          part_is = ap part_or_none (sym ((alike r.decls r.ty r.table ready.made).part graph root path))
+          part_is : told_part ≡ styled_part by_number
+          part_is = ap styled_part (sym ((alike r.decls r.ty r.table ready.made).part graph root path))
 
-          puts_part : (part : Option (List ℕ)) → by_number ≡ part → (old new : List ℕ) → new ≡ old ++ (part_or_none part).text
-              → PutsLine (outcome.the_part path) (type_over r) graph root old new (part_or_none part).well
+          puts_part : (part : Option (List ℕ)) → by_number ≡ part → (old new : List ℕ) → new ≡ old ++ (styled_part part).text
+              → PutsLine (outcome.the_part path style) (type_over r) graph root old new (styled_part part).well
           puts_part None is old new put =
-              tells (outcome.the_part path) (codes "none") false (sym (part_is ∙ ap part_or_none is)) old new put
+              tells (outcome.the_part path style) (codes "none") false (sym (part_is ∙ ap styled_part is)) old new put
           puts_part (Some text) is old new put =
-              tells (outcome.the_part path) text true (sym (part_is ∙ ap part_or_none is)) old new put
+              tells (outcome.the_part path style) (styled style text) true (sym (part_is ∙ ap styled_part is)) old new put
 
           -- the path leads somewhere
           pub puts_found : (w : Val) (i : ℕ) → Some (w, i) ≡ value_at (table_shapes (table_of r.table)) graph root 0 path → (old new : List ℕ)
-              → new ≡ old ++ shown_text (shape_in r.table) (names_in r.table) graph w i → PutsLine (outcome.the_part path) (type_over r) graph root old new true
+              → new ≡ old ++ styled style (shown_text (shape_in r.table) (names_in r.table) graph w i) → PutsLine (outcome.the_part path style) (type_over r) graph root old new true
           puts_found w i leads old new put =
               puts_part (Some (shown_text (shape_in r.table) (names_in r.table) graph w i))
               (ap (λ (place : Option (Val × ℕ)). option_map (λ (p : Val × ℕ). shown_text (shape_in r.table) (names_in r.table) graph p.0 p.1) place) (sym leads)) old new put
 
           -- or nowhere
           pub puts_none : None ≡ value_at (table_shapes (table_of r.table)) graph root 0 path → (old new : List ℕ) → new ≡ old ++ codes "none"
-              → PutsLine (outcome.the_part path) (type_over r) graph root old new false
+              → PutsLine (outcome.the_part path style) (type_over r) graph root old new false
           puts_none leads old new put =
               puts_part None
               (ap (λ (place : Option (Val × ℕ)). option_map (λ (p : Val × ℕ). shown_text (shape_in r.table) (names_in r.table) graph p.0 p.1) place) (sym leads)) old new put

@@ -14,8 +14,8 @@ use Rattle.om_declared.specs.Types.{type_over, IsReady}
 
 abbrev pub saying_of : Saying → outcome.Saying
 saying_of sayings.Verdict = outcome.the_verdict
-saying_of sayings.Text = outcome.the_text
-saying_of (sayings.Part path) = outcome.the_part path.now
+saying_of (sayings.Text style) = outcome.the_text style
+saying_of (sayings.Part path style) = outcome.the_part path.now style
 saying_of sayings.Trees = outcome.the_trees
 
 -- the work that says so of each value

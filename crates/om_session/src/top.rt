@@ -47,6 +47,7 @@ use om_declared::{Requested, find_script, find_type, path_stop};
 use om_edge::{Opener, Sink, Source};
 use om_generator::run_generation;
 use om_outcome::status::Status;
+use om_outcome::style::Style;
 use om_path::{Script, lines_in_time, read_path};
 use om_searcher::search_input;
 use om_stops::stop::{Stop, report_stop};
@@ -132,6 +133,7 @@ fn get<S: Source, O: Opener, K: Sink, E: Sink>(
     file: &str,
     type_text: &str,
     path_text: &str,
+    style: Style,
     limit: u64,
     input: &mut S,
     files: &mut O,
@@ -139,7 +141,7 @@ fn get<S: Source, O: Opener, K: Sink, E: Sink>(
     err: &mut E,
 ) -> Status
     ensures { (words : List (List ℕ))
-        → Asks words (get_of file.now type_text.now path_text.now limit)
+        → Asks words (get_of file.now type_text.now path_text.now style limit)
         → Account (commands declared_types) words
         (call (change (S.state input.old) (S.state input.new))
         (change (O.state files.old) (O.state files.new))
@@ -148,7 +150,7 @@ fn get<S: Source, O: Opener, K: Sink, E: Sink>(
 {
     match read_path(alloc, path_text.as_bytes()) {
         Ok(path) => {
-            let saying = Saying::Part(&path);
+            let saying = Saying::Part(&path, style);
             tell(
                 alloc, file, type_text, saying, limit, input, files, out, err,
             )
@@ -303,12 +305,13 @@ fn run_request<S: Source, O: Opener, K: Sink, E: Sink>(
         Request::Show {
             file,
             type_text,
+            style,
             limit,
         } => tell(
             alloc,
             file,
             type_text,
-            Saying::Text,
+            Saying::Text(style),
             limit,
             input,
             files,
@@ -319,9 +322,10 @@ fn run_request<S: Source, O: Opener, K: Sink, E: Sink>(
             file,
             type_text,
             path_text,
+            style,
             limit,
         } => get(
-            alloc, file, type_text, path_text, limit, input, files, out, err,
+            alloc, file, type_text, path_text, style, limit, input, files, out, err,
         ),
         Request::Edit {
             file,

@@ -1,10 +1,13 @@
 //! What is said of a value.
 
-ghost use Rattle.std.specs.Prelude.{◌≡◌, length, IfOk};
+ghost use Rattle.std.specs.Prelude.{◌≡◌, ◌<◌, ◌++◌, length, IfOk, OnOk};
 ghost use Rattle.om_model.specs.Graph.{IsValue};
 ghost use Rattle.om_types.specs.Typing.{HasType};
 ghost use Rattle.om_types.specs.Table.{table_shapes};
-ghost use Rattle.om_type_table.specs.Made.{table_of};
+ghost use Rattle.om_type_table.specs.Made.{table_of, IsLawful};
+ghost use Rattle.om_show.specs.Shown.{shown_text};
+ghost use Rattle.om_show.specs.Tables.{shape_in, names_in};
+ghost use Rattle.om_declared.specs.Language.{styled};
 ghost use Rattle.om_declared.specs.Types.{type_over, IsReady};
 ghost use Rattle.om_session.specs.Verdict.{IsReadySpeech, IsSaidOf, PutsLine, saying_of};
 ghost use Rattle.om_session.specs.declared.verdict.Speech.TheVariants as speeches;
@@ -21,12 +24,15 @@ use om_model::Memory;
 use om_model::list::List;
 use om_model::path::Path;
 use om_model::value::Val;
+use om_outcome::style::Style;
+use om_pretty::put_pretty;
 use om_print::{put_dump, put_shown_at};
 use om_show::laws::roots_show_alike;
 use om_stops::put::put;
 use om_table::tables_decide;
 use om_tree_check::{put_verdict, tables_have_the_verdict, tables_judge_trees, trees};
 use om_trees::TreeVerdict;
+use om_type_table::TypeTable;
 use om_type_table::laws::tables_are_lawful;
 use std::alloc::Global;
 
@@ -35,8 +41,8 @@ use std::alloc::Global;
 #[derive(Clone, Copy)]
 pub enum Saying<'a> {
     Verdict,
-    Text,
-    Part(&'a Path),
+    Text(Style),
+    Part(&'a Path, Style),
     Trees,
 }
 
@@ -174,13 +180,41 @@ fn put_told(
             put(text, b"yes")?;
             Ok(true)
         }
-        Saying::Text => {
-            put_shown_at(text, alloc, heap, root, &requested.table, 0)?;
+        Saying::Text(style) => {
+            put_styled_at(text, alloc, heap, root, &requested.table, 0, style)?;
             Ok(true)
         }
-        Saying::Part(path) => put_part(text, alloc, heap, root, requested, path),
+        Saying::Part(path, style) => put_part(text, alloc, heap, root, requested, path, style),
         Saying::Trees => put_trees(text, alloc, heap, root, requested),
     }
+}
+
+/// Puts the text of a value at a type of the table at the end, in this style.
+fn put_styled_at(
+    text: &mut Vec<u8>,
+    alloc: Global,
+    heap: &Heap,
+    v: Val,
+    table: &TypeTable,
+    at: usize,
+    style: Style,
+) -> Result<(), Memory>
+    requires value { IsValue (length heap.now) v }
+    requires lawful { IsLawful (table_of table.now) }
+    requires named { length table.now.names ≡ length table.now.nodes }
+    requires number { at < length table.now.nodes }
+    requires typed { HasType (table_shapes (table_of table.now)) heap.now v at }
+    ensures { OnOk result
+        (text.new.items
+        ≡ text.old.items
+        ++ styled style (shown_text (shape_in table.now) (names_in table.now) heap.now v at)) }
+{
+    if !style.pretty {
+        return put_shown_at(text, alloc, heap, v, table, at);
+    }
+    let mut plain = Vec::new(alloc);
+    put_shown_at(&mut plain, alloc, heap, v, table, at)?;
+    put_pretty(text, alloc, plain.as_slice())
 }
 
 /// Puts the text of the part at a path at the end, or `none` where it leads nowhere; and answers
@@ -192,20 +226,21 @@ fn put_part(
     root: Val,
     requested: &Requested,
     path: &Path,
+    style: Style,
 ) -> Result<bool, Memory>
     requires value { IsValue (length heap.now) root }
     requires ready { IsReady requested.now }
     requires typed { HasType (table_shapes (table_of requested.now.table)) heap.now root 0 }
     ensures { IfOk result
-        (PutsLine (the_part path.now) (type_over requested.now) heap.now root text.old.items
-        text.new.items) }
+        (PutsLine (the_part path.now style) (type_over requested.now) heap.now root
+        text.old.items text.new.items) }
 {
     tables_decide();
     tables_are_lawful();
     roots_show_alike();
     match walk(heap, root, &requested.table, path) {
         Some((value, at)) => {
-            put_shown_at(text, alloc, heap, value, &requested.table, at)?;
+            put_styled_at(text, alloc, heap, value, &requested.table, at, style)?;
             Ok(true)
         }
         None => {

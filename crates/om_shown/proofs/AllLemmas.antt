@@ -1,5 +1,5 @@
 -- What is shown is built, by all commands as by those on values and the one on texts.
-use Rattle.om_outcome.specs.Outcome.{tell, the_text, own, build}
+use Rattle.om_outcome.specs.Outcome.{tell, the_text, plain, own, build}
 use Rattle.om_shown.specs.Shown.{ShownTextsAreBuilt}
 use Rattle.om_session.specs.All.{on_values, on_texts, all_commands, IsOfValues, IsOfTexts, IsPart}
 use Rattle.om_session.proofs.PartLemmas.{only_this}
@@ -8,7 +8,7 @@ pub all_build_shown_texts : IsPart on_values IsOfValues → IsPart on_texts IsOf
     → ShownTextsAreBuilt on_values on_texts → ShownTextsAreBuilt all_commands all_commands
 all_build_shown_texts values texts law words call tells promises later_words later later_tells
     later_promises file type limit contents input shown shows hides builds =
-    let show = only_this IsOfValues words (tell the_text file type limit) shows.asks tt in
+    let show = only_this IsOfValues words (tell (the_text plain) file type limit) shows.asks tt in
     let built = only_this IsOfTexts later_words (own (build file type)) builds.asks tt in
     law words call tells (values.promises words call show promises)
     later_words later later_tells (texts.promises later_words later built later_promises)

@@ -8,7 +8,7 @@ use Rattle.om_format.specs.Spelled.{SpelledUnder}
 use Rattle.om_format.specs.Stream.{SpellAll}
 use Rattle.om_format.specs.Tree.{Tree}
 use Rattle.om_outcome.specs.declared.status.Status.TheVariants as statuses
-use Rattle.om_outcome.specs.Outcome.{whole, found_of, own, build, Asks, tell, the_text, ending_of}
+use Rattle.om_outcome.specs.Outcome.{whole, found_of, own, build, Asks, tell, the_text, ending_of, at_end, Taken, opened, plain, nothing_said, says, Replies, replies, all_well}
 use Rattle.om_edge.specs.Files.{File, contents_of}
 use Rattle.om_edge.specs.Sink.{Puts}
 use Rattle.om_promises.specs.Account.{IsWanted}
@@ -103,7 +103,7 @@ module _ (told : Follow (commands declared_types) (AreAsTold (commands declared_
     same_contents : contents ≡ v.read.contents
     same_contents =
         let wanted : IsWanted (commands declared_types) words e.given.files 0 file = record {
-          request = tell the_text file type limit;
+          request = tell (the_text plain) file type limit;
           asks = shows.asks;
           wants = inl (refl, record { has_path = tt; type = type; typed = refl });
         } in

@@ -8,7 +8,7 @@ use Rattle.om_format.specs.Tree.{Tree, root, objects_of}
 use Rattle.om_types.specs.declared.decl.Decl.{Decl}
 use Rattle.om_outcome.specs.declared.status.Status.TheVariants.{Well, No}
 use Rattle.om_outcome.specs.RefusalText.{truncated_text}
-use Rattle.om_outcome.specs.Outcome.{InputEnd, at_end, at_fault, at_length, unasked, whole, opened, tell, the_text, Asks, Stop, value, read_fault, too_long, ending_of, line, Said, nothing_said, says, Replies, replies, all_well, texts_of, tells, Task, task, ReadsTypeOf}
+use Rattle.om_outcome.specs.Outcome.{InputEnd, at_end, at_fault, at_length, unasked, whole, opened, tell, the_text, plain, Asks, Stop, value, read_fault, too_long, ending_of, line, Said, nothing_said, says, Replies, replies, all_well, texts_of, tells, Task, task, ReadsTypeOf}
 use Rattle.om_command_line.proofs.RequestLemmas.{one_request}
 use Rattle.om_path.specs.declared.edits.ScriptLine.{ScriptLine}
 use Rattle.om_promises.specs.Commands.{Item, Given, Fetches, Prepares, IsLast, Closes, SaysAll, Answers}
@@ -61,7 +61,7 @@ lines_of t (tree ∷ trees) = line (text_of t tree) ++ lines_of t trees
 module _ (t : TypeOver) where
   -- nothing is wrong with the value: it has the type, and its text is said
   said_well : (tree : Tree) (said : Said) (text : List ℕ)
-      → IsTypeLine the_text t (objects_of tree 0) (root tree 0) text said.well
+      → IsTypeLine (the_text plain) t (objects_of tree 0) (root tree 0) text said.well
       → said.text ≡ line text → said.well ≡ true
       → HasIt t tree × (said.text ≡ line (text_of t tree))
   said_well tree said text (inl h) is well = (h.has, is ∙ ap (λ (s : Said). line s.text) h.told)
@@ -69,7 +69,7 @@ module _ (t : TypeOver) where
       let no : false ≡ true = sym h.is_well ∙ well in absurd (cc no)
 
   all_said_well : (earlier trees : List Tree) (said : List Said)
-      → AreSaid declared_types (tells the_text t) earlier trees said
+      → AreSaid declared_types (tells (the_text plain) t) earlier trees said
       → all_well (said ++ nothing_said ∷ []) ≡ true
       → AllByRecursion (HasIt t) trees
       × (texts_of (said ++ nothing_said ∷ []) ≡ lines_of t trees)
@@ -88,7 +88,7 @@ module _ (t : TypeOver) where
 -- ---- the call
 
 module _ (words : List (List ℕ)) (file type : List ℕ) (limit : ℕ)
-    (asks : Asks words (tell the_text file type limit)) (given : Given) (all : Replies)
+    (asks : Asks words (tell (the_text plain) file type limit)) (given : Given) (all : Replies)
     (well : (ending_of all).status ≡ Well) where
   -- all of the input is values of the type, and their texts are put
   pub record AreShown : Type 0 where
@@ -102,7 +102,7 @@ module _ (words : List (List ℕ)) (file type : List ℕ) (limit : ℕ)
 
   module _ (t : TypeOver) (read : AreRead given.files file type t) where
     abbrev its_task : Task TypeOver ScriptLine
-    its_task = task (tells the_text t) limit
+    its_task = task (tells (the_text plain) t) limit
 
     -- the input ended, and the reply after all values says nothing
     at_its_end : (u : InputEnd) (items : List Item) (rest : List ℕ)
@@ -114,7 +114,7 @@ module _ (words : List (List ℕ)) (file type : List ℕ) (limit : ℕ)
     at_its_end unasked items rest h = absurd h
 
     at_clean_end : (trees : List Tree) (rest : List ℕ) (end : End) → IsTail limit rest end
-        → EndsBy declared_types (tells the_text t) trees end all.last
+        → EndsBy declared_types (tells (the_text plain) t) trees end all.last
         → (rest ≡ []) × (all.last ≡ says nothing_said)
     at_clean_end trees rest clean tail ends = (tail, ends)
     at_clean_end trees rest (refused refusal) tail ends = absurd ends
@@ -150,15 +150,15 @@ module _ (words : List (List ℕ)) (file type : List ℕ) (limit : ℕ)
     of_answers (inr alone) = absurd (alone.unread tt)
 
   of_request : (found : Result (Task TypeOver ScriptLine) Stop)
-      → (commands declared_types).Finds (tell the_text file type limit) given.files found
+      → (commands declared_types).Finds (tell (the_text plain) file type limit) given.files found
       → Goes (commands declared_types) given all found → AreShown
   of_request found (Err stop, finds, e) goes =
       absurd (not_stopped all well stop (subst (Goes (commands declared_types) given all) e goes))
   of_request found (Ok work, (Err stop, reads, made), e) goes =
       absurd (cc made)
   of_request found (Ok work, (Ok t, reads, made), e) goes =
-      let same : work ≡ tells the_text t = cc made in
-      let is : found ≡ Ok (task (tells the_text t) limit) =
+      let same : work ≡ tells (the_text plain) t = cc made in
+      let is : found ≡ Ok (task (tells (the_text plain) t) limit) =
       subst (λ w. found ≡ Ok (task w limit)) same e in
       of_answers t (are_read given.files file type t reads)
       (subst (Goes (commands declared_types) given all) is goes)
@@ -167,9 +167,9 @@ module _ (words : List (List ℕ)) (file type : List ℕ) (limit : ℕ)
       → Prepares (commands declared_types) words given.files found
       → Goes (commands declared_types) given all found → AreShown
   of_words found (Err stop, (usage, is), e) goes =
-      absurd (usage (tell the_text file type limit) asks)
+      absurd (usage (tell (the_text plain) file type limit) asks)
   of_words found (Ok request, asked, finds) goes =
-      let same = one_request words request (tell the_text file type limit) asked asks in
+      let same = one_request words request (tell (the_text plain) file type limit) asked asks in
       let found_so = subst (λ r. (commands declared_types).Finds r given.files found) same finds in
       of_request found found_so goes
 

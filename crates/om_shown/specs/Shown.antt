@@ -10,7 +10,7 @@ use Rattle.om_types.specs.Ty.{Ty}
 use Rattle.om_types.specs.Reached.{IsReached, NoneIsHidden}
 use Rattle.om_decl.specs.Read.{IsDeclared, IsTypeOf}
 use Rattle.om_outcome.specs.declared.status.Status.TheVariants.{Well, Memory}
-use Rattle.om_outcome.specs.Outcome.{tell, the_text, own, build, Asks}
+use Rattle.om_outcome.specs.Outcome.{tell, the_text, plain, own, build, Asks}
 use Rattle.om_edge.specs.Files.{File, contents_of}
 use Rattle.om_edge.specs.Sink.{Puts}
 use Rattle.om_promises.specs.Call.{Call, HasPut}
@@ -22,7 +22,7 @@ use Rattle.om_promises.specs.Outside.{IsHonest}
 -- call ended well; its input, what FILE holds, and what it put on out are told.
 pub record Shows (words : List (List ℕ)) (call : Call) (file type : List ℕ) (limit : ℕ)
     (contents input shown : List ℕ) : Type 0 where
-  pub asks : Asks words (tell the_text file type limit)
+  pub asks : Asks words (tell (the_text plain) file type limit)
   pub well : call.status ≡ Well
   pub files : List File
   pub map : call.files.before.map ≡ Some files

@@ -34,7 +34,7 @@ module _ {D T E : Type 0} (language : Language D T E) (TextOf : T → List ℕ �
 
   pub apart : AreApart (commands language) (building language TextOf)
   apart (tell saying f t most) = inr (texts_idle (tell saying f t most) refl)
-  apart (get f t path most) = inr (texts_idle (get f t path most) refl)
+  apart (get f t path style most) = inr (texts_idle (get f t path style most) refl)
   apart (edit f t script compat most) = inr (texts_idle (edit f t script compat most) refl)
   apart (dump most) = inr (texts_idle (dump most) refl)
   apart (compare most) = inr (texts_idle (compare most) refl)

@@ -16,14 +16,14 @@ returns-in-Check g c = λ words asks.
 
 pub returns-in-Show : goal.returns-in-Show
 returns-in-Show g c = λ words asks.
-    let request : Request = tell the_text c.in-Show.file.now c.in-Show.type_text.now c.in-Show.limit in
+    let request : Request = tell (the_text c.in-Show.style) c.in-Show.file.now c.in-Show.type_text.now c.in-Show.limit in
     let asked : Asks words request = rw c.in-Show.is at asks in
     all_account on_values IsOfValues c.all_commands_have_parts.ensures.values words _ request asked tt
     (c.tell-in-Show.ensures words (record { request = request; asks = asked; typed = refl; limited = refl; has_path = tt; finds = λ file result h. h }))
 
 pub returns-in-Get : goal.returns-in-Get
 returns-in-Get g c = λ words asks.
-    let request : Request = get c.in-Get.file.now c.in-Get.type_text.now c.in-Get.path_text.now c.in-Get.limit in
+    let request : Request = get c.in-Get.file.now c.in-Get.type_text.now c.in-Get.path_text.now c.in-Get.style c.in-Get.limit in
     let asked : Asks words request = rw c.in-Get.is at asks in
     all_account on_values IsOfValues c.all_commands_have_parts.ensures.values words _ request asked tt (c.get.ensures words asked)
 

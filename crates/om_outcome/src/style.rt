@@ -1,0 +1,7 @@
+//! How the text of a value is put.
+
+/// How the text of a value is put: over lines, if that is asked for, or else on one line.
+#[derive(Clone, Copy)]
+pub struct Style {
+    pub pretty: bool,
+}
