@@ -70,7 +70,10 @@ nth() {
 # places FILE: where values stand in it.
 places() {
     whole=$1
-    "$program" scan < "$1" > "$work/places" 2> "$work/told" || echo "FAILED: scan of $1: $(cat "$work/told")"
+    "$program" scan < "$1" > "$work/places" 2> "$work/told" || {
+        echo "FAILED: scan of $1: $(cat "$work/told")"
+        failures=$((failures + 1))
+    }
 }
 
 # The value in $work/one stands at one of the places.

@@ -81,6 +81,7 @@ refuse() {
 refuse check check types t
 refuse 'check (no)' check types 'string list'
 refuse show show types t
+refuse 'show --pretty' show --pretty types t
 refuse get get types t .1
 refuse edit edit types t script
 refuse 'edit (graft)' edit types t grafts

@@ -5,7 +5,7 @@ ghost use Rattle.std.specs.Bool.{OnTrue};
 ghost use Rattle.om_model.specs.Graph.{IsGraph};
 ghost use Rattle.om_model.specs.declared.value.Val.TheVariants as vals;
 ghost use Rattle.om_types.specs.Fitting as fitting;
-ghost use Rattle.om_types.specs.Table.{table_shapes, typed_fields};
+ghost use Rattle.om_types.specs.Table.{typed_fields};
 ghost use Rattle.om_heap.specs.Heap.{word_of};
 ghost use Rattle.om_type_table.specs.Made.{table_of, IsLawful};
 ghost use Rattle.om_fits.specs.Needs.{needs_in};

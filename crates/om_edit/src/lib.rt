@@ -11,8 +11,8 @@ mod text;
 pub use edit::apply;
 pub use grafting::graft;
 pub use laws::{
-    edits_have_one_answer, grafts_are_the_same, grafts_have_one_answer, tables_answer_lines_alike,
-    tables_edit_alike, tables_graft_alike, worked_edits_are_made,
+    edits_have_one_answer, edits_leave_what_is_hidden, grafts_are_the_same, grafts_have_one_answer,
+    tables_answer_lines_alike, tables_edit_alike, tables_graft_alike, worked_edits_are_made,
 };
 pub use refusal::{EditRefusal, Side};
 pub use spots::{Place, Spot};

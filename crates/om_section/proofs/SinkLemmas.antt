@@ -61,26 +61,6 @@ starts_at : (x : Option (List ℕ)) → IfSome x (λ b. x ≡ Some (b ++ []))
 starts_at None = tt
 starts_at (Some b) = ap Some (sym (append-nil b))
 
--- no call was made
-pub leaves_all : (s : ByteState) (text : List ℕ) → Leaves (change s s) text text
-leaves_all s text = record {
-  front = [];
-  whole = refl;
-  put = record {
-    appended = starts_at s.bytes;
-    told = refl;
-    cause = record { never_falls = omega arith; rose = tt; kept = refl; at_last = λ e. e };
-  };
-}
-
--- all was put
-pub leaves_none : (a b : ByteState) (text rest : List ℕ) → rest ≡ [] → Puts (change a b) text → Leaves (change a b) text rest
-leaves_none a b text rest none put = record {
-  front = text;
-  whole = sym (append-nil text) ∙ ap (λ (r : List ℕ). text ++ r) (sym none);
-  put = put;
-}
-
 module _ (a b c : ByteState) (text rest : List ℕ) (left : Leaves (change a b) text rest) where
   pub leaves_then : (last : List ℕ) → Leaves (change b c) rest last → Leaves (change a c) text last
   leaves_then last then = record {

@@ -15,7 +15,6 @@ mod sink;
 
 pub use laws::{put_sections_are_certificates, texts_are_one};
 pub use number::number_of;
-pub use put::put_section;
 pub use read::{Cert, CertFault, read_cert};
 pub use section::{Pairs, Section};
 pub use sink::put_cert;

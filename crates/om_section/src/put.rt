@@ -1,8 +1,8 @@
-//! The text of a section.
+//! The first line of a section.
 
-ghost use Rattle.std.specs.Prelude.{◌≡◌, ◌++◌, ◌∷◌, [], map, OnOk, decimal};
+ghost use Rattle.std.specs.Prelude.{◌≡◌, ◌++◌, ◌∷◌, [], OnOk, decimal};
 ghost use Rattle.om_model.specs.PathText.{path_text};
-ghost use Rattle.om_section.specs.Format.{verdict_text, head_line, pair_line, pair_lines, section_text, text_of};
+ghost use Rattle.om_section.specs.Format.{verdict_text, head_line};
 
 use crate::section::Section;
 use itoa::Buffer;
@@ -30,29 +30,6 @@ fn put_path(text: &mut Vec<u8>, alloc: Global, path: &Path) -> Result<(), Memory
 {
     let steps = path.text(alloc)?;
     put(text, steps.as_slice())
-}
-
-/// Puts the line of a pair.
-fn put_pair(text: &mut Vec<u8>, object: u64, ty: u64) -> Result<(), Memory>
-    ensures { OnOk result (text.new.items ≡ text.old.items ++ (pair_line (object, ty) ++ 10 ∷ [])) }
-{
-    put(text, b"pair ")?;
-    put_number(text, object)?;
-    put(text, b" ")?;
-    put_number(text, ty)?;
-    put(text, b"\n")?;
-    Ok(())
-}
-
-/// Puts the lines of pairs.
-fn put_pairs(text: &mut Vec<u8>, pairs: &[(u64, u64)]) -> Result<(), Memory>
-    ensures { OnOk result (text.new.items ≡ text.old.items ++ text_of (map pair_line pairs.now)) }
-{
-    for i in 0..pairs.len() {
-        let (object, ty) = pairs[i];
-        put_pair(text, object, ty)?;
-    }
-    Ok(())
 }
 
 /// Puts what a section states behind its number.
@@ -89,30 +66,4 @@ pub fn put_head(
     put(text, b" ")?;
     put_verdict(text, alloc, section)?;
     put(text, b"\n")
-}
-
-/// Puts the lines of a section's pairs, if it has such.
-fn put_body(text: &mut Vec<u8>, section: &Section) -> Result<(), Memory>
-    ensures { OnOk result (text.new.items ≡ text.old.items ++ text_of (pair_lines section.now)) }
-{
-    match section {
-        Section::Pairs(pairs) => put_pairs(text, pairs.as_slice()),
-        Section::Misfit(_) => Ok(()),
-        Section::Clash(_, _) => Ok(()),
-    }
-}
-
-/// Puts the section of a value of this number.
-pub fn put_section(
-    text: &mut Vec<u8>,
-    alloc: Global,
-    number: u64,
-    section: &Section,
-) -> Result<(), Memory>
-    ensures { OnOk result (text.new.items ≡ text.old.items ++ section_text number section.now) }
-{
-    put_head(text, alloc, number, section)?;
-    put_body(text, section)?;
-    put(text, b"end\n")?;
-    Ok(())
 }

@@ -13,8 +13,16 @@ use om_edge::{Failed, Sink, WriteError, put_all};
 use om_model::Memory;
 use std::alloc::Global;
 
-/// So many bytes are put at once.
-const BUFFER: usize = 65536;
+/// The room for lines at once: for all of the section's pairs, where they are few.
+fn room_of(section: &Section) -> usize
+    ensures { result ≤ 65536 }
+{
+    match section {
+        Section::Pairs(pairs) => (64 * pairs.as_slice().len().min(1023)) + 64,
+        Section::Misfit(_) => 64,
+        Section::Clash(_, _) => 64,
+    }
+}
 
 /// Puts the section of a value of this number to a sink. All memory is taken first, and it is
 /// little, however many pairs there are: after a fault a proper prefix was put, out of memory
@@ -39,7 +47,7 @@ fn begun(alloc: Global, number: u64, section: &Section) -> Result<Vec<u8>, Memor
     ensures text { IfOk result (λ text. text.items ≡ head_line number section.now ++ 10 ∷ []) }
     ensures room { IfOk result (λ text. 64 ≤ vec_capacity text) }
 {
-    let mut text = Vec::with_capacity(alloc, BUFFER)?;
+    let mut text = Vec::with_capacity(alloc, room_of(section))?;
     put_head(&mut text, alloc, number, section)?;
     text.reserve(64)?;
     Ok(text)

@@ -2,7 +2,7 @@
 use Rattle.std.proofs.Common.{◌≡◌, ◌⊎◌, ℕ, zero, suc, Bool, List, Ok, Err, inl, inr, refl, sym, ap, subst, arith}
 use Rattle.om_outcome.specs.declared.status.Status.{Status}
 use Rattle.std.specs.Borrow.{Bor}
-use Rattle.om_outcome.specs.Outcome.{Found, unfetched, Stop, bad_path, out_of_memory, Request, get, edit, dump, compare, Asks, ReadsTypeOf, dumps, compares, nothing}
+use Rattle.om_outcome.specs.Outcome.{Found, unfetched, Stop, bad_path, out_of_memory, Request, get, edit, dump, compare, Asks, ReadsTypeOf, dumps, compares}
 use Rattle.om_outcome.specs.declared.style.Style.{Style}
 use Rattle.om_edge.specs.State.{ByteState, FilesState, Change, change}
 use Rattle.om_stops.specs.declared.stop.Stop as codes

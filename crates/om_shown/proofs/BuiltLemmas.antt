@@ -8,7 +8,7 @@ use Rattle.om_format.specs.Spelled.{SpelledUnder}
 use Rattle.om_format.specs.Stream.{SpellAll}
 use Rattle.om_format.specs.Tree.{Tree}
 use Rattle.om_outcome.specs.declared.status.Status.TheVariants as statuses
-use Rattle.om_outcome.specs.Outcome.{whole, found_of, own, build, Asks, tell, the_text, ending_of, at_end, Taken, opened, plain, nothing_said, says, Replies, replies, all_well}
+use Rattle.om_outcome.specs.Outcome.{whole, found_of, own, build, Asks, tell, the_text, ending_of, plain}
 use Rattle.om_edge.specs.Files.{File, contents_of}
 use Rattle.om_edge.specs.Sink.{Puts}
 use Rattle.om_promises.specs.Account.{IsWanted}

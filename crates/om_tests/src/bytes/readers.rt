@@ -68,3 +68,30 @@ fn deep_values_are_read_and_a_refusal_is_kept(rt: HostRuntime) -> Result<(), Fai
     assert!(rt; uncounted_twice(rt.alloc(), bytes)? == (Some(22), Some(22)));
     Ok(())
 }
+
+// How many objects a value has that a reader lends, and the same of the reader that began again.
+fn lent_twice(alloc: Global, bytes: &[u8]) -> Result<Option<(u64, u64)>, Memory> {
+    let mut reader = Reader::new(alloc, 1000);
+    let Ok(first) = reader.feed(bytes) else {
+        return Err(Memory);
+    };
+    if !first.done {
+        return Ok(None);
+    }
+    let objects = reader.lend().heap.count();
+    reader.restart(1000);
+    let Ok(again) = reader.feed(bytes) else {
+        return Err(Memory);
+    };
+    if !again.done {
+        return Ok(None);
+    }
+    Ok(Some((objects, reader.lend().heap.count())))
+}
+
+#[test]
+fn a_reader_lends_its_value_and_begins_again(rt: HostRuntime) -> Result<(), Fail> {
+    let bytes = b"\x84\x95\xa6\xbe\0\0\0\x05\0\0\0\x02\0\0\0\x06\0\0\0\x06\xa0\x41\xa0\x42\x40";
+    assert!(rt; lent_twice(rt.alloc(), bytes)? == Some((2, 2)));
+    Ok(())
+}

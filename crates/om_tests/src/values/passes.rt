@@ -1,6 +1,7 @@
 //! One look at bytes: whether they begin with a value of a type.
 
 use crate::values::given::{LIST, MAPS, table_in};
+use om_glance::{Answer, Glance};
 use om_model::Memory;
 use om_pass::pass;
 use std::alloc::Global;
@@ -125,6 +126,65 @@ fn one_look_types_a_value(rt: HostRuntime) -> Result<(), Fail> {
     }
     for (file, text, bytes, want) in &LOOKS_OVER {
         assert!(rt; looked(rt.alloc(), file, text, bytes)? == *want);
+    }
+    Ok(())
+}
+
+// How many bytes are kept of the first of two pieces, and how many of the second end the value,
+// where it has the type and neither piece has all of it.
+fn looked_in_two(
+    alloc: Global,
+    text: &[u8],
+    first: &[u8],
+    second: &[u8],
+) -> Result<Option<(usize, usize)>, Memory> {
+    let Some(table) = table_in(alloc, b"", text)? else {
+        return Ok(None);
+    };
+    let mut glance = Glance::new(alloc);
+    let Answer::More = glance.feed(&table, 1000, first)? else {
+        return Ok(None);
+    };
+    let kept = glance.kept().len();
+    match glance.feed(&table, 1000, second)? {
+        Answer::Typed(n) => Ok(Some((kept, n))),
+        Answer::More | Answer::Untold => Ok(None),
+    }
+}
+
+// TYPE, two pieces, and what came of them: a string that is cut in its bytes and in its header, a
+// list that is cut between two tokens, and a string at another type.
+static LOOKS_IN_TWO: [(&[u8], &[u8], &[u8], Option<(usize, usize)>); 4] = [
+    (
+        b"string",
+        b"\x84\x95\xa6\xbe\0\0\0\x03\0\0\0\x01\0\0\0\x02\0\0\0\x02\x22a",
+        b"b",
+        Some((22, 1)),
+    ),
+    (
+        b"string",
+        b"\x84\x95\xa6\xbe\0\0\0",
+        b"\x03\0\0\0\x01\0\0\0\x02\0\0\0\x02\x22ab",
+        Some((7, 16)),
+    ),
+    (
+        b"int list",
+        b"\x84\x95\xa6\xbe\0\0\0\x05\0\0\0\x02\0\0\0\x06\0\0\0\x06\xa0\x41",
+        b"\xa0\x42\x40",
+        Some((22, 3)),
+    ),
+    (
+        b"int",
+        b"\x84\x95\xa6\xbe\0\0\0\x03\0\0\0\x01\0\0\0\x02\0\0\0\x02\x22a",
+        b"b",
+        None,
+    ),
+];
+
+#[test]
+fn a_look_goes_on_in_the_next_piece(rt: HostRuntime) -> Result<(), Fail> {
+    for (text, first, second, want) in &LOOKS_IN_TWO {
+        assert!(rt; looked_in_two(rt.alloc(), text, first, second)? == *want);
     }
     Ok(())
 }
