@@ -1,6 +1,7 @@
 pub mod VerdictLemmas
 pub mod ReadLemmas
 pub mod GlimpseLemmas
+pub mod ProgressLemmas
 pub mod TypedLemmas
 pub mod EarlierLemmas
 pub mod EditLemmas

@@ -68,7 +68,7 @@ front_or_value limit rest more tree are_bytes front (first, after, same, spelled
     value_or_tail one_judgement_lem limit first after rest tree (cut (length rest)) are_bytes spelled same (omega (arith, some, size), refl, front)
 
 -- where one more value may come, a front of one stops nothing
-front_goes_on : (w : Job) (limit : ℕ) (trees : List Tree) (rest : List ℕ) (stop : outcome.Stop) → MayTake w (length trees) → AreBytes rest → IsFront limit rest
+pub front_goes_on : (w : Job) (limit : ℕ) (trees : List Tree) (rest : List ℕ) (stop : outcome.Stop) → MayTake w (length trees) → AreBytes rest → IsFront limit rest
     → StopsAt declared_types (work_of w) limit trees rest stop → ⊥
 front_goes_on (jobs.Say (speeches.Tell r saying) most) limit trees rest stop may are_bytes front at = at
 front_goes_on (jobs.Say speeches.Dump most) limit trees rest stop may are_bytes front at = at

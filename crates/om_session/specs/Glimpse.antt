@@ -1,9 +1,17 @@
--- What one look at the bytes in hand shows of the next value.
-use Rattle.std.specs.Prelude.{ℕ, ◌≤◌, true, List, length, take, codes, Ok}
+-- What a look at the bytes in hand shows of the next value.
+use Rattle.std.specs.Prelude.{ℕ, ◌+◌, ◌<◌, ◌≤◌, ◌≡◌, true, List, [], ◌++◌, length, take, codes, Ok}
+use Rattle.std.specs.Borrow.{Bor}
 use Rattle.om_format.specs.Tree.{Tree, root, objects_of}
 use Rattle.om_format.specs.Spelled.{SpelledUnder}
 use Rattle.om_read.specs.Reader.{Leads, EndsInput}
 use Rattle.om_outcome.specs.Outcome.{Said, the_verdict, line}
+use Rattle.om_work.specs.Works.{Has}
+use Rattle.om_types.specs.Table.{Table}
+use Rattle.om_type_table.specs.Made.{table_of}
+use Rattle.om_glance.specs.declared.glance.Glance.{Glance}
+use Rattle.om_glance.specs.declared.glance.Answer.{Answer}
+use Rattle.om_glance.specs.declared.glance.Answer.TheVariants as answers
+use Rattle.om_glance.specs.Glance.{IsGlance}
 use Rattle.om_declared.specs.Language.{SaysLine}
 use Rattle.om_declared.specs.Types.{type_over}
 use Rattle.om_declared.specs.declared.types.Requested.{Requested}
@@ -24,11 +32,31 @@ pub record IsYes (r : Requested) (limit n : ℕ) (bytes : List ℕ) : Type 0 whe
   pub spelled : SpelledUnder limit (take n bytes) tree
   pub says : SaysLine the_verdict (type_over r) (objects_of tree 0) (root tree 0) yes.text yes.well
 
--- the verdict is what is told of each value, and the first n bytes in hand are one that has the
--- type
-abbrev pub IsSeen : Job → List ℕ → ℕ → Type 0
-IsSeen (jobs.Say (speeches.Tell r sayings.Verdict) limit) in_hand n = IsYes r.now limit n in_hand
-IsSeen job in_hand n = ⊥
+-- the bytes that were kept, and the first n of the piece, are such a value; nothing is kept of the
+-- next one
+pub record IsYesNext (r : Requested) (limit : ℕ) (old : Glance) (piece : List ℕ) (new : Glance)
+    (n : ℕ) : Type 0 where
+  pub some : 0 < n
+  pub within : n ≤ length piece
+  pub yes : IsYes r limit (length old.kept.items + n) (old.kept.items ++ piece)
+  pub none : new.kept.items ≡ []
+  pub glance : (table : Table) (limit' : ℕ) → IsGlance table limit' new
+
+-- what a look at a piece shows: such a value, or more has to come, or nothing
+abbrev pub IsGlimpse : Requested → ℕ → Glance → List ℕ → Glance → Answer → Type 0
+IsGlimpse r limit old piece new (answers.Typed n) = IsYesNext r limit old piece new n
+IsGlimpse r limit old piece new answers.More =
+    (new.kept.items ≡ old.kept.items ++ piece) × IsGlance (table_of r.table) limit new
+IsGlimpse r limit old piece new answers.Untold =
+    (new.kept.items ≡ old.kept.items) × IsGlance (table_of r.table) limit new
+
+-- after the bytes of which this is so these were kept
+abbrev pub Later : List ℕ → Has → Has
+Later kept has taken said = (before : List ℕ) × (taken ≡ before ++ kept) × has before said
+
+-- the work that tells the verdict of each value
+abbrev pub verdict_job : Bor Requested → ℕ → Job
+verdict_job r limit = jobs.Say (speeches.Tell r sayings.Verdict) limit
 
 -- the reader waits for a value, and has taken nothing of it
 abbrev pub IsBetween : Values → Type 0

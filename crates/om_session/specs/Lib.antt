@@ -5,6 +5,7 @@ pub mod Edits
 pub mod Glimpse
 pub mod Telling
 pub mod Values
+pub mod Progress
 pub mod Asked
 pub mod SaidOfValue
 pub mod All

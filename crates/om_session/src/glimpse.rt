@@ -1,16 +1,16 @@
-//! A value that has its type, as one look at its bytes shows, without a heap.
+//! A value that has its type, as one look at its bytes shows while they come, without a heap.
 
-ghost use Rattle.std.specs.Prelude.{IfSome};
-ghost use Rattle.om_pass_law.specs.OnePass.{IsTypedFront};
+ghost use Rattle.std.specs.Prelude.{IfOk};
+ghost use Rattle.om_glance.specs.Glance.{IsGlance};
 ghost use Rattle.om_type_table.specs.Made.{table_of};
 ghost use Rattle.om_declared.specs.Types.{IsReady};
-ghost use Rattle.om_session.specs.Glimpse.{IsYes};
+ghost use Rattle.om_session.specs.Glimpse.{IsGlimpse};
 
 use om_declared::Requested;
-use om_pass::pass;
+use om_glance::{Answer, Glance};
+use om_model::Memory;
 use om_table::tables_decide;
 use om_type_table::laws::tables_are_lawful;
-use std::alloc::Global;
 
 /// After so many looks in a row that showed nothing most values are not looked at.
 const MISSES: u8 = 8;
@@ -18,69 +18,60 @@ const MISSES: u8 = 8;
 /// So many are not before the next one is.
 const SKIPPED: u8 = 64;
 
-/// How many values in a row were of no use to look at, or were not looked at.
+/// How many values in a row were of no use to look at, and how many are not looked at now.
 #[derive(Clone, Copy)]
 pub struct Looks {
     missed: u8,
+    skipped: u8,
 }
 
 impl Looks {
     /// The first values are looked at.
     pub fn new() -> Looks {
-        Looks { missed: 0 }
+        Looks {
+            missed: 0,
+            skipped: 0,
+        }
     }
 
-    /// Whether the next value is looked at.
-    fn is_due(self) -> bool {
-        self.missed < MISSES || self.missed == MISSES + SKIPPED
+    /// Whether the value that begins is looked at.
+    pub fn is_due(&mut self) -> bool {
+        if self.skipped == 0 {
+            return true;
+        }
+        self.skipped -= 1;
+        false
     }
 
-    /// A value came, and a look showed that it has its type, or not.
-    fn count(&mut self, seen: bool) {
-        if seen {
-            self.missed = 0;
-        } else if self.missed < MISSES + SKIPPED {
+    /// A look showed that a value has its type.
+    pub fn hit(&mut self) {
+        self.missed = 0;
+    }
+
+    /// A look showed nothing.
+    pub fn miss(&mut self) {
+        if self.missed < MISSES {
             self.missed += 1;
-        } else {
-            self.missed = MISSES;
+        }
+        if self.missed == MISSES {
+            self.skipped = SKIPPED;
         }
     }
 }
 
-/// How many of the bytes are a value of the type, if a look at them shows it.
-fn look(alloc: Global, requested: &Requested, limit: u64, bytes: &[u8]) -> Option<usize>
-    requires { IsReady requested.now }
-    ensures { IfSome result
-        (λ n. IsTypedFront (table_of requested.now.table) limit n bytes.now) }
+/// A look at the value in hand, of which bytes were kept, with a piece more: whether `yes` is told
+/// of it, or more of it has to come.
+pub fn glimpse<'a>(
+    requested: &'a Requested,
+    limit: u64,
+    glance: &mut Glance<'a>,
+    piece: &[u8],
+) -> Result<Answer, Memory>
+    requires ready { IsReady requested.now }
+    requires glance { IsGlance (table_of requested.now.table) limit glance.old }
+    ensures { IfOk result (IsGlimpse requested.now limit glance.old piece.now glance.new) }
 {
     tables_are_lawful();
-    match pass(alloc, &requested.table, bytes, limit) {
-        Ok(seen) => seen,
-        Err(_) => None,
-    }
-}
-
-/// How many of the bytes are a value of which `yes` is told at the type, if they are looked at and
-/// a look shows it. Where memory runs out it shows nothing.
-pub fn glimpse(
-    alloc: Global,
-    requested: &Requested,
-    limit: u64,
-    looks: &mut Looks,
-    bytes: &[u8],
-) -> Option<usize>
-    requires { IsReady requested.now }
-    ensures { IfSome result (λ n. IsYes requested.now limit n bytes.now) }
-{
     tables_decide();
-    if !looks.is_due() {
-        looks.count(false);
-        return None;
-    }
-    let Some(n) = look(alloc, requested, limit, bytes) else {
-        looks.count(false);
-        return None;
-    };
-    looks.count(true);
-    Some(n)
+    glance.feed(&requested.table, limit, piece)
 }

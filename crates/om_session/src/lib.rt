@@ -6,6 +6,7 @@ mod commands;
 mod earlier;
 mod edit;
 mod glimpse;
+mod progress;
 mod top;
 mod values;
 mod verdict;

@@ -39,7 +39,8 @@ use crate::commands::{
     statuses_of_texts_have_causes, statuses_of_values_have_causes, values_have_one_outcome,
 };
 use crate::edit::Edits;
-use crate::values::{Job, Progress};
+use crate::progress::Progress;
+use crate::values::Job;
 use crate::verdict::{Saying, Speech};
 use om_certifier::certify;
 use om_command_line::{Request, Unread, read_words};

@@ -1,24 +1,27 @@
 //! The values of the input, one by one, as their bytes come.
 
-ghost use Rattle.std.specs.Prelude.{◌≡◌, ◌<◌, ◌+◌, ◌^◌, ◌++◌, ◌∷◌, ℕ, List, [], length, OnOk, IfSome, MatchBool};
+ghost use Rattle.std.specs.Bool.{OnTrue};
+ghost use Rattle.std.specs.Prelude.{◌≡◌, ◌<◌, ◌≤◌, ◌+◌, ◌^◌, ◌++◌, ◌∷◌, ℕ, List, [], length, OnOk, IfSome, MatchBool};
 ghost use Rattle.om_model.specs.Graph.{IsValue};
+ghost use Rattle.om_model.specs.Bytes.{AreBytes};
+ghost use Rattle.om_format.specs.Front.{IsFront};
 ghost use Rattle.om_format.specs.Tree.{Tree};
-ghost use Rattle.om_outcome.specs.Outcome.{Said, Task, comparison};
-ghost use Rattle.om_path.specs.declared.edits.ScriptLine.{ScriptLine};
+ghost use Rattle.om_outcome.specs.Outcome.{Said, comparison};
 ghost use Rattle.om_edge.specs.State.{change};
 ghost use Rattle.om_commands.specs.Tasks.{commands};
 ghost use Rattle.om_work.specs.Works.{Feeds, EndsAt};
+ghost use Rattle.om_session.specs.declared.values.Job.{Job};
 ghost use Rattle.om_session.specs.declared.values.Job.TheVariants as jobs;
-ghost use Rattle.om_declared.specs.Language.{TypeOver, declared_types};
+ghost use Rattle.om_declared.specs.Language.{declared_types};
 ghost use Rattle.om_session.specs.Verdict.{IsReadySpeech};
 ghost use Rattle.om_session.specs.SaidOfValue.{PutsSaid};
-ghost use Rattle.om_session.specs.Glimpse.{IsSeen, IsBetween};
+ghost use Rattle.om_session.specs.Glimpse.{IsYes, IsBetween, Later, verdict_job};
 ghost use Rattle.om_session.specs.Values.{IsReadyJob, IsStopOf, AreValues, IsFull, MayTake, HasRead, IsValueRead, KeepsNext, PutsNext, Compares, EndsScript, task_of, word_limit};
 
 use crate::earlier::{Earlier, make_room, next_reader};
 use crate::edit::{Edits, edit_value, line_past};
-use crate::glimpse::{Looks, glimpse};
 use crate::verdict::{Saying, Speech, line_of};
+use om_declared::Requested;
 use om_edge::{Sink, put_all};
 use om_heap::Heap;
 use om_iso::same;
@@ -27,7 +30,6 @@ use om_model::refusal::ReadRefusal;
 use om_model::value::Val;
 use om_read::{Reader, Truncated, Value};
 use om_stops::stop::{Halt, Stop};
-use om_work::Work;
 use std::alloc::Global;
 use std::mem;
 
@@ -40,7 +42,7 @@ pub enum Job<'a> {
     Compare(u64),
 }
 
-impl Job<'_> {
+impl<'a> Job<'a> {
     fn limit(self) -> u64
         ensures { result ≡ word_limit self.entry }
     {
@@ -51,16 +53,12 @@ impl Job<'_> {
         }
     }
 
-    /// How many bytes in hand are the next value, if only the verdict is told of each, and a look
-    /// at them shows that it has the type.
-    fn glimpse(self, alloc: Global, looks: &mut Looks, in_hand: &[u8]) -> Option<usize>
-        requires { IsReadyJob self }
-        ensures { IfSome result (IsSeen self.entry in_hand.now) }
+    /// The type and the limit, where only the verdict is told of each value.
+    pub fn verdict(self) -> Option<(&'a Requested, u64)>
+        ensures { IfSome result (λ at. self.entry ≡ verdict_job at.0 at.1) }
     {
         match self {
-            Job::Say(Speech::Tell(requested, Saying::Verdict), limit) => {
-                glimpse(alloc, requested, limit, looks, in_hand)
-            }
+            Job::Say(Speech::Tell(requested, Saying::Verdict), limit) => Some((requested, limit)),
             _ => None,
         }
     }
@@ -126,17 +124,17 @@ fn compare<K: Sink>(alloc: Global, kept: &[Value], out: &mut K) -> Result<bool, 
 /// The values so far: how many there are, whether nothing is wrong with any, those that are kept to
 /// be compared, those that later lines copy parts of, and the reader of the next one.
 #[derive(Drop)]
-struct Values {
+pub struct Values {
     reader: Reader,
     well: bool,
-    count: u64,
+    pub count: u64,
     kept: Vec<Value>,
     earlier: Vec<Earlier>,
 }
 
 impl Values {
     /// No byte was taken.
-    fn new(alloc: Global, job: Job<'_>) -> Values
+    pub fn new(alloc: Global, job: Job<'_>) -> Values
         requires { IsReadyJob job }
         ensures { HasRead job.entry result [] [] }
     {
@@ -257,39 +255,38 @@ impl Values {
         }
     }
 
-    /// How many bytes in hand are the next value, if nothing of it was taken, and a look shows that
-    /// it has the type and nothing else is told of it.
-    fn glimpse(
-        &self,
-        alloc: Global,
-        job: Job<'_>,
-        looks: &mut Looks,
-        in_hand: &[u8],
-    ) -> Option<usize>
-        requires { (taken : List ℕ) × (said : List Said) × HasRead job self.now taken said }
-        ensures { IfSome result (λ n. IsBetween self.now × IsSeen job.entry in_hand.now n) }
+    /// Whether nothing was taken of the next value.
+    pub fn is_between(&self) -> bool
+        requires { (job : Job) × (taken : List ℕ) × (said : List Said)
+            × HasRead job self.now taken said }
+        ensures { OnTrue result (IsBetween self.now) }
     {
         match self.reader.at_end() {
-            Ok(()) => job.glimpse(alloc, looks, in_hand),
-            Err(_) => None,
+            Ok(()) => true,
+            Err(_) => false,
         }
     }
 
-    /// Takes the first bytes in hand, the next value, of which a look showed that it has the type,
-    /// and puts its line.
-    fn take_seen<K: Sink>(
+    /// Takes a value, of which bytes were kept and the first n in hand are the others: looks at them
+    /// showed that it has the type. Its line is put.
+    pub fn take_seen<K: Sink>(
         &mut self,
-        job: Job<'_>,
+        requested: &Requested,
+        limit: u64,
         in_hand: &[u8],
         n: usize,
         out: &mut K,
     ) -> Result<usize, Halt>
-        requires reads { (taken : List ℕ) × (said : List Said) × HasRead job self.old taken said
-            × (length taken + length in_hand.now < 2 ^ 63) }
+        requires some { 0 < n }
+        requires within { n ≤ length in_hand.now }
+        requires short { (taken : List ℕ) × (said : List Said)
+            × HasRead (verdict_job requested limit) self.old taken said × (length taken < 2 ^ 63) }
         requires between { IsBetween self.old }
-        requires seen { IsSeen job in_hand.now n }
-        ensures { Feeds (commands declared_types) (task_of job.entry) (HasRead job.entry self.old)
-            (HasRead job.entry self.new) in_hand.now
+        ensures { (kept : List ℕ) → AreBytes kept → IsFront limit kept
+            → IsYes requested.now limit (length kept + n) (kept ++ in_hand.now)
+            → Feeds (commands declared_types) (task_of (verdict_job requested.entry limit))
+            (Later kept (HasRead (verdict_job requested.entry limit) self.old))
+            (HasRead (verdict_job requested.entry limit) self.new) in_hand.now
             (change (K.state out.old) (K.state out.new)) result }
     {
         put_all(out, b"yes\n")?;
@@ -297,8 +294,26 @@ impl Values {
         Ok(n)
     }
 
+    /// Takes a front of the next value, or memory runs out.
+    pub fn take_front(&mut self, front: &[u8]) -> Result<(), Memory>
+        requires { (job : Job) × (taken : List ℕ) × (said : List Said)
+            × HasRead job self.old taken said }
+        ensures { OnOk result ((job : Job) (taken : List ℕ) (said : List Said)
+            → HasRead job self.old taken said → MayTake job self.old.count
+            → HasRead job self.new (taken ++ front.now) said) }
+    {
+        match self.reader.feed(front) {
+            Ok(fed) => {
+                // A front completes no value.
+                if fed.done { Err(Memory) } else { Ok(()) }
+            }
+            // It is refused for want of memory alone.
+            Err(_) => Err(Memory),
+        }
+    }
+
     /// Takes bytes up to the end of a value, of which is said what is to be, or all of them.
-    fn read_some<K: Sink>(
+    pub fn read_some<K: Sink>(
         &mut self,
         alloc: Global,
         job: Job<'_>,
@@ -339,7 +354,7 @@ impl Values {
 
     /// The input ends here: whether nothing is wrong with any value, or a value is cut. Two values
     /// are compared.
-    fn finish<K: Sink>(&self, alloc: Global, job: Job<'_>, out: &mut K) -> Result<bool, Halt>
+    pub fn finish<K: Sink>(&self, alloc: Global, job: Job<'_>, out: &mut K) -> Result<bool, Halt>
         requires { (taken : List ℕ) × (said : List Said) × HasRead job self.now taken said }
         ensures { EndsAt (commands declared_types) (task_of job.entry) (HasRead job.entry self.now)
             (change (K.state out.old) (K.state out.new)) result }
@@ -353,57 +368,4 @@ impl Values {
             Err(Truncated { taken }) => Err(Halt::Stop(Stop::Cut(self.count, taken))),
         }
     }
-}
-
-/// A job, the values so far, and whether the next one is looked at.
-#[derive(Drop)]
-pub struct Progress<'a> {
-    job: Job<'a>,
-    values: Values,
-    looks: Looks,
-}
-
-impl<'a> Progress<'a> {
-    /// No byte was taken.
-    pub fn new(alloc: Global, job: Job<'a>) -> Progress<'a>
-        requires { IsReadyJob job }
-        ensures job { result.job ≡ job.entry }
-        ensures has { HasRead result.job result.values [] [] }
-    {
-        Progress {
-            job,
-            values: Values::new(alloc, job),
-            looks: Looks::new(),
-        }
-    }
-}
-
-impl Work for Progress<'_> {
-    ghost Act = { Task TypeOver ScriptLine };
-
-    ghost commands = { commands declared_types };
-
-    ghost act = { λ p. task_of p.job };
-
-    ghost has = { λ p bytes said. HasRead p.job p.values bytes said };
-
-    fn reads(&self) -> bool {
-        true
-    }
-
-    fn feed<K: Sink>(&mut self, alloc: Global, in_hand: &[u8], out: &mut K) -> Result<usize, Halt> {
-        match self
-            .values
-            .glimpse(alloc, self.job, &mut self.looks, in_hand)
-        {
-            Some(n) => self.values.take_seen(self.job, in_hand, n, out),
-            None => self.values.read_some(alloc, self.job, in_hand, out),
-        }
-    }
-
-    fn end<K: Sink>(&mut self, alloc: Global, out: &mut K) -> Result<bool, Halt> {
-        self.values.finish(alloc, self.job, out)
-    }
-
-    fn laws(&self) {}
 }

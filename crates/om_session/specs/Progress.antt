@@ -1,0 +1,30 @@
+-- What was taken of the input, where a pass looks at values before they are read.
+use Rattle.std.specs.Prelude.{ℕ, ◌≡◌, ◌⊎◌, List, [], ◌++◌}
+use Rattle.om_type_table.specs.Made.{table_of}
+use Rattle.om_outcome.specs.Outcome.{Said}
+use Rattle.om_glance.specs.declared.glance.Glance.{Glance}
+use Rattle.om_glance.specs.Glance.{IsGlance}
+use Rattle.om_session.specs.declared.values.Values.{Values}
+use Rattle.om_session.specs.declared.values.Job.{Job}
+use Rattle.om_session.specs.declared.values.Job.TheVariants as jobs
+use Rattle.om_session.specs.declared.verdict.Saying.TheVariants as sayings
+use Rattle.om_session.specs.declared.verdict.Speech.TheVariants as speeches
+use Rattle.om_session.specs.Glimpse.{IsBetween}
+use Rattle.om_session.specs.Values.{HasRead}
+
+-- bytes are kept only where the verdict is told, and only of a value of which none were read: they
+-- are a front of it
+abbrev pub IsGlanced : Job → Values → Glance → Type 0
+IsGlanced (jobs.Say (speeches.Tell r sayings.Verdict) limit) values glance =
+    IsGlance (table_of r.now.table) limit glance
+    × ((glance.kept.items ≡ []) ⊎ IsBetween values)
+IsGlanced job values glance = glance.kept.items ≡ []
+
+-- all but the bytes that are kept were read, and this was said of their values
+pub record HasTaken
+    (job : Job) (values : Values) (glance : Glance) (taken : List ℕ) (said : List Said)
+    : Type 0 where
+  pub before : List ℕ
+  pub whole : taken ≡ before ++ glance.kept.items
+  pub read : HasRead job values before said
+  pub glanced : IsGlanced job values glance

@@ -1,0 +1,158 @@
+//! A job over the values of the input: where only the verdict is told of each, a pass looks at their
+//! bytes first.
+
+ghost use Rattle.std.specs.Prelude.{◌≡◌, ◌≢◌, ◌<◌, ◌+◌, ◌^◌, ℕ, List, [], length, OnOk, MatchBool};
+ghost use Rattle.std.specs.Bool.{OnTrue};
+ghost use Rattle.om_outcome.specs.Outcome.{Said, Task};
+ghost use Rattle.om_path.specs.declared.edits.ScriptLine.{ScriptLine};
+ghost use Rattle.om_edge.specs.State.{change};
+ghost use Rattle.om_commands.specs.Tasks.{commands};
+ghost use Rattle.om_work.specs.Works.{Feeds};
+ghost use Rattle.om_declared.specs.Language.{TypeOver, declared_types};
+ghost use Rattle.om_session.specs.declared.values.Job.{Job};
+ghost use Rattle.om_session.specs.Glimpse.{IsBetween};
+ghost use Rattle.om_session.specs.Progress.{HasTaken, IsGlanced};
+ghost use Rattle.om_session.specs.Values.{IsReadyJob, HasRead, task_of};
+
+use crate::glimpse::{Looks, glimpse};
+use crate::values::{Job, Values};
+use om_edge::Sink;
+use om_glance::{Answer, Glance};
+use om_model::Memory;
+use om_stops::stop::{Halt, Stop};
+use om_work::Work;
+use std::alloc::Global;
+use std::mem;
+
+/// Whether no byte is kept.
+fn keeps_none(glance: &Glance<'_>) -> bool
+    ensures { MatchBool result (glance.now.kept.items ≡ []) (glance.now.kept.items ≢ []) }
+{
+    glance.kept().is_empty()
+}
+
+/// Whether a look is taken at the bytes in hand: they go on with a value that was looked at, or
+/// begin one, and the next one is to be looked at.
+fn is_due(looks: &mut Looks, values: &Values, glance: &Glance<'_>) -> bool
+    requires { (job : Job) × (taken : List ℕ) × (said : List Said)
+        × HasRead job values.now taken said }
+    ensures { OnTrue result (glance.now.kept.items ≡ [] → IsBetween values.now) }
+{
+    if keeps_none(glance) {
+        if values.is_between() {
+            looks.is_due()
+        } else {
+            false
+        }
+    } else {
+        true
+    }
+}
+
+/// The values take what was kept of the next one, and it is looked at no more.
+fn give_up(alloc: Global, values: &mut Values, glance: &mut Glance<'_>) -> Result<(), Memory>
+    requires { (job : Job) × (taken : List ℕ) × (said : List Said)
+        × HasTaken job values.old glance.old taken said }
+    ensures { OnOk result ((job : Job) (taken : List ℕ) (said : List Said)
+        → HasTaken job values.old glance.old taken said
+        → HasRead job values.new taken said
+        × IsGlanced job values.new glance.new × (glance.new.kept.items ≡ [])) }
+{
+    if keeps_none(glance) {
+        return Ok(());
+    }
+    let kept = mem::replace(glance, Glance::new(alloc));
+    values.take_front(kept.kept())
+}
+
+/// A job, the values so far, what was taken of the next one while it was looked at, and whether
+/// those to come are.
+#[derive(Drop)]
+pub struct Progress<'a> {
+    job: Job<'a>,
+    values: Values,
+    glance: Glance<'a>,
+    looks: Looks,
+}
+
+impl<'a> Progress<'a> {
+    /// No byte was taken.
+    pub fn new(alloc: Global, job: Job<'a>) -> Progress<'a>
+        requires { IsReadyJob job }
+        ensures job { result.job ≡ job.entry }
+        ensures has { HasTaken result.job result.values result.glance [] [] }
+    {
+        Progress {
+            job,
+            values: Values::new(alloc, job),
+            glance: Glance::new(alloc),
+            looks: Looks::new(),
+        }
+    }
+
+    /// Takes what was kept and bytes in hand without a look.
+    fn read_on<K: Sink>(
+        &mut self,
+        alloc: Global,
+        in_hand: &[u8],
+        out: &mut K,
+    ) -> Result<usize, Halt>
+        requires some { 0 < length in_hand.now }
+        requires has { (taken : List ℕ) × (said : List Said)
+            × HasTaken self.old.job self.old.values self.old.glance taken said
+            × (length taken + length in_hand.now < 2 ^ 63) }
+        ensures kept { self.new.job ≡ self.old.job }
+        ensures feeds { Feeds (commands declared_types) (task_of self.old.job)
+            (HasTaken self.old.job self.old.values self.old.glance)
+            (HasTaken self.old.job self.new.values self.new.glance) in_hand.now
+            (change (K.state out.old) (K.state out.new)) result }
+    {
+        give_up(alloc, &mut self.values, &mut self.glance)?;
+        self.values.read_some(alloc, self.job, in_hand, out)
+    }
+}
+
+impl Work for Progress<'_> {
+    ghost Act = { Task TypeOver ScriptLine };
+
+    ghost commands = { commands declared_types };
+
+    ghost act = { λ p. task_of p.job };
+
+    ghost has = { λ p bytes said. HasTaken p.job p.values p.glance bytes said };
+
+    fn reads(&self) -> bool {
+        true
+    }
+
+    fn feed<K: Sink>(&mut self, alloc: Global, in_hand: &[u8], out: &mut K) -> Result<usize, Halt> {
+        let Some((requested, limit)) = self.job.verdict() else {
+            return self.read_on(alloc, in_hand, out);
+        };
+        if !is_due(&mut self.looks, &self.values, &self.glance) {
+            return self.read_on(alloc, in_hand, out);
+        }
+        let answer = glimpse(requested, limit, &mut self.glance, in_hand)?;
+        match answer {
+            Answer::Typed(n) => {
+                self.looks.hit();
+                self.values.take_seen(requested, limit, in_hand, n, out)
+            }
+            Answer::More => Ok(in_hand.len()),
+            Answer::Untold => {
+                self.looks.miss();
+                self.read_on(alloc, in_hand, out)
+            }
+        }
+    }
+
+    fn end<K: Sink>(&mut self, alloc: Global, out: &mut K) -> Result<bool, Halt> {
+        if keeps_none(&self.glance) {
+            return self.values.finish(alloc, self.job, out);
+        }
+        let kept = self.glance.kept().len() as u64;
+        Err(Halt::Stop(Stop::Cut(self.values.count, kept)))
+    }
+
+    fn laws(&self) {}
+}
