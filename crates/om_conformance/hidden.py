@@ -103,7 +103,9 @@ EACH = [5, atom(0), atom(9), text("abc"), double(1.0), doubles(1.0, 2.0), int32(
 RECORD = "type item = { name : string; mutable owner : _ }"
 ROUGH = "no .0 and .1: _ ref and int ref share a mutable object"
 
-# words, a value or a text, FILE, lines on out, the line on err, status
+PAIRS = (Block(0, 1, 2), Block(0, 3, 4))
+
+# words, a value or values or a text, FILE, lines on out, the line on err, status
 CASES = (
     [(["check", "_"], v, "", ["yes"], "", 0) for v in EACH]
     + [(["show", "_"], v, "", ["_"], "", 0) for v in EACH]
@@ -182,6 +184,15 @@ CASES = (
         # no certificate names what is hidden, but the root
         (["check", "--cert", "int ref * _"], SHARED, "", ["value 0 yes", "pair 0 0", "pair 1 1", "end"], "", 0),
         (["check", "--cert", "_"], SHARED, "", ["value 0 yes", "pair 0 0", "end"], "", 0),
+        (["verify", "int ref * _", "value 0 yes\npair 0 0\npair 1 1\nend\n"], SHARED, "", ["yes"], "", 0),
+        (["verify", "int ref * _", "value 0 yes\npair 0 0\nend\n"], SHARED, "", None, "value 0: certificate Need(0, 0)", 12),
+        (["verify", "_", "value 0 yes\npair 0 0\nend\n"], SHARED, "", ["yes"], "", 0),
+        # no copy is made of a hidden part, nor in the place of one, but for the root
+        (["edit", "int * _", "1 graft .1 = 0 ."], PAIRS, "", PAIRS[:1], "script line 1: NoField(left, 0)", 5),
+        (["edit", "int * _", "1 graft .0 = 0 .1"], PAIRS, "", PAIRS[:1], "script line 1: NoField(right, 0)", 5),
+        (["edit", "_", "1 graft . = 0 ."], PAIRS, "", (PAIRS[0], PAIRS[0]), "", 0),
+        # what does not depend on types
+        (["edit", "--compat32", "_", ""], Leaf(b"\2\x40\0\0\0"), "", None, "value 0: Compat(int, 1073741824)", 11),
         # what is refused, and what the words ask for
         (["check", "int _"], 5, "", None, "type: Arity at 4", 3),
         (["check", "_"], 5, "type _ = int", None, "types: Twice at 5", 3),
@@ -218,23 +229,28 @@ def changed(what):
     return Block(0, part, part)
 
 
+def all_spelled(values):
+    """The bytes of one value, or of some."""
+    return b"".join(map(spelled, values)) if isinstance(values, tuple) else spelled(values)
+
+
 def run(words, given, file, out, err, status):
     """The question, and the lines of its answer."""
-    edits = words[0] == "edit"
-    settings = ["script=" + words[2].encode().hex()] if edits else []
-    data = given if isinstance(given, bytes) else spelled(given)
-    flags = [w for w in words[1:] if w == "--cert"]
-    rest = [w for w in words[1:] if w != "--cert"]
+    flags = [w for w in words[1:] if w is not None and w.startswith("--")]
+    rest = [w for w in words[1:] if w is not None and w not in flags]
+    with_script = words[0] in ("edit", "verify")
+    settings = ["script=" + rest[1].encode().hex()] if with_script else []
+    data = given if isinstance(given, bytes) else all_spelled(given)
     if file is None:
         fields = [words[0]]
     else:
-        fields = [words[0], *flags, "f.ml", rest[0], *(["script"] if edits else rest[1:])]
+        fields = [words[0], *flags, "f.ml", rest[0], *(["script"] if with_script else rest[1:])]
     question = "\t".join(["run " + " ".join(settings), data.hex(), "none" if file is None else "=" + file] + fields)
     answer = []
     if isinstance(out, list):
         answer += out
     elif out is not None:
-        answer.append("values: " + spelled(changed(out) if isinstance(out, str) else out).hex())
+        answer.append("values: " + all_spelled(changed(out) if isinstance(out, str) else out).hex())
     if err:
         answer.append("err: omarshal: " + err)
     return question, answer + [f"status {status}"]
