@@ -29,8 +29,8 @@ fn faults_are_told(rt: HostRuntime) -> Result<(), Fail> {
     assert!(rt; written(rt.alloc(), 200_000, 0)? == (false, 0, 1));
     let (is_well, bytes, faults) = written(rt.alloc(), 200_000, 1)?;
     assert!(rt; !is_well && bytes < 100_025 && faults == 1);
-    assert!(rt; written(rt.alloc(), 100_024, 9)? == (false, 100_024, 1));
-    assert!(rt; written(rt.alloc(), 100_025, 9)? == (true, 100_025, 0));
+    assert!(rt; written(rt.alloc(), 100_024, 200)? == (false, 100_024, 1));
+    assert!(rt; written(rt.alloc(), 100_025, 200)? == (true, 100_025, 0));
     Ok(())
 }
 
