@@ -1,4 +1,5 @@
--- An edit changes a field of an object to which a path leads, and no other object that was there.
+-- An edit or a graft changes a field of an object to which a path leads, and no other object that
+-- was there.
 use Rattle.std.proofs.Common.{ℕ, zero, suc, ◌≡◌, ◌≢◌, ◌∙◌, List, [], ◌∷◌, ◌++◌, length, set, Option, Some, None, Result, Ok, Err, refl, ap, sym, subst}
 use Rattle.std.specs.Prelude.{slice_get, option_map, option_and_then, ⊤}
 use Rattle.std.proofs.lemmas.Option.{none-some}
@@ -6,22 +7,33 @@ use Rattle.om_model.specs.declared.value.Val.{Val}
 use Rattle.om_model.specs.declared.value.Val.TheVariants as vals
 use Rattle.om_model.specs.declared.value.Obj.{Obj}
 use Rattle.om_lex.specs.declared.lexeme.Lexeme.{Lexeme}
+use Rattle.om_types.specs.declared.decl.Decl.{Decl}
 use Rattle.om_types.specs.declared.names.Names.{Names}
 use Rattle.om_types.specs.declared.shape.ShapeOf.{ShapeOf}
 use Rattle.om_types.specs.Shapes.{Shapes}
 use Rattle.om_types.specs.Fault.{step, value_at}
 use Rattle.om_types.specs.Fitting.{shaped}
+use Rattle.om_types.specs.Equal.{Equal}
+use Rattle.om_types.specs.Names.{names_of}
+use Rattle.om_types.specs.Shape.{shape}
+use Rattle.om_types.specs.Ty.{Ty}
 use Rattle.om_heap.specs.Heap.{object_at, with_field}
 use Rattle.om_path.specs.declared.edits.Edit.{Edit}
 use Rattle.om_path.specs.declared.edits.Edit.TheVariants as edits
+use Rattle.om_path.specs.declared.edits.Action.{Action}
+use Rattle.om_path.specs.declared.edits.Action.TheVariants as actions
+use Rattle.om_path.specs.declared.edits.ScriptLine.{ScriptLine}
 use Rattle.om_edit.specs.declared.spots.Spot.{Spot}
 use Rattle.om_edit.specs.declared.spots.Spot.TheVariants as spots
 use Rattle.om_edit.specs.declared.spots.Place.{Place}
 use Rattle.om_edit.specs.declared.refusal.Side.TheVariants.{Left}
 use Rattle.om_edit.specs.Reasons.{no_field}
 use Rattle.om_edit.specs.Places.{spot_after, or_step, place_from, place_at}
-use Rattle.om_edit.specs.EditedValues.{Answer, put_at, linked, object_of, copied, unshared, place_in, IsSet, IsMade}
-use Rattle.om_edit.specs.HiddenLaws.{IsUnreached}
+use Rattle.om_edit.specs.EditedLines.{IsLineAnswer}
+use Rattle.om_edit.specs.EditedValues.{Answer, Edited, put_at, linked, object_of, copied, unshared, place_in, IsSet, IsMade}
+use Rattle.om_edit.specs.Grafts.{Other, IsGraft}
+use Rattle.om_edit.specs.Laws.{AreDeclaredEdits}
+use Rattle.om_edit.specs.HiddenLaws.{IsUnreached, IsNeverReached}
 
 -- ---- lists
 
@@ -137,3 +149,33 @@ module _ {T : Type 0} (shape : T → ShapeOf T) (names : T → Names) (Equal : T
   edit_keeps (edits.Link path source) is =
       link_keeps (place_in shape names Equal t graph root path) (place_in shape names Equal t graph root source) (elsewhere path) is
   edit_keeps (edits.Unshare path) is = unshare_keeps (place_in shape names Equal t graph root path) (elsewhere path) is
+
+  graft_keeps : (p : Result (Place T) ℕ) → ((q : Place T) → p ≡ Ok q → IsElsewhere (shaped shape Equal) graph o q.spot)
+      → (from : List Obj) (part : Result (Place T) ℕ) → IsGraft graph root p from part (Ok edited) → Kept edited
+  graft_keeps (Err step) there from part is = absurd cc
+  graft_keeps (Ok q) there from (Err step) is = absurd cc
+  graft_keeps (Ok q) there from (Ok part) (objects, value, copy, is) =
+      kept_by q.spot value (graph ++ objects) (there q refl) (kept_before graph objects o object at) is
+
+  pub line_keeps : (others : List Other) (action : Action) → IsLineAnswer shape names Equal t others action graph root (Ok edited) → Kept edited
+  line_keeps others (actions.Edit edit) is = edit_keeps edit is.made
+  line_keeps others (actions.Graft path number source) (other, at, grafted) =
+      graft_keeps (place_at (shaped shape Equal) graph root t path) (λ q. place_elsewhere (shaped shape Equal) graph o root t path q unreached)
+      other.0 (place_at (shaped shape Equal) other.0 other.1 t source) grafted.0
+
+-- ---- lines
+
+module _ (decls : List Decl) (t : Ty) (others : List Other) (o : ℕ) (object : Obj) where
+  pub lines_keep : (lines : List ScriptLine) (graph : List Obj) (root : Val) (edited : List Obj × Val)
+      → AreDeclaredEdits decls t others lines graph root (Ok edited) → slice_get graph o ≡ Some object
+      → IsNeverReached decls t others o lines graph root → slice_get edited.0 o ≡ Some object
+  lines_keep [] graph root edited is at unreached =
+      subst (λ (made : List Obj × Val). slice_get made.0 o ≡ Some object) (sym (made_inside {T = Ty} edited (graph, root) (whole edited graph root is))) at where
+        whole : (edited : List Obj × Val) (graph : List Obj) (root : Val) → ◌≡◌ {A = Edited Ty} (Ok edited) (Ok (graph, root))
+            → ◌≡◌ {A = Answer Ty} (Ok edited) (Ok (graph, root))
+        whole edited graph root is = cc
+  lines_keep (line ∷ lines) graph root edited (Err reason, first, is) at unreached = absurd cc
+  lines_keep (line ∷ lines) graph root edited (Ok made, first, rest) at unreached =
+      lines_keep lines made.0 made.1 edited rest
+      (line_keeps (shape decls) (names_of decls) (Equal decls) t graph root o object at unreached.0 made others line.action first)
+      (unreached.1 made first)

@@ -1,25 +1,56 @@
--- An edit leaves what is hidden as it was: each object to which no path leads.
-use Rattle.std.specs.Prelude.{ℕ, ◌≡◌, Some, Ok, List, slice_get}
+-- The lines of a script leave what is hidden as it was: each object to which no path leads.
+use Rattle.std.specs.Prelude.{ℕ, ◌≡◌, Some, Ok, List, [], ◌∷◌, slice_get, ⊤}
 use Rattle.om_model.specs.declared.value.Val.{Val}
 use Rattle.om_model.specs.declared.value.Val.TheVariants as vals
 use Rattle.om_model.specs.declared.value.Obj.{Obj}
 use Rattle.om_types.specs.declared.decl.Decl.{Decl}
-use Rattle.om_types.specs.Equal.{declared_shapes}
+use Rattle.om_types.specs.Equal.{Equal, declared_shapes}
 use Rattle.om_types.specs.Fault.{value_at}
+use Rattle.om_types.specs.Names.{names_of}
+use Rattle.om_types.specs.Shape.{shape}
 use Rattle.om_types.specs.Shapes.{Shapes}
 use Rattle.om_types.specs.Ty.{Ty}
-use Rattle.om_path.specs.declared.edits.Edit.{Edit}
-use Rattle.om_edit.specs.Laws.{IsDeclaredAnswer}
+use Rattle.om_path.specs.declared.edits.Action.{Action}
+use Rattle.om_path.specs.declared.edits.ScriptLine.{ScriptLine}
+use Rattle.om_edit.specs.EditedLines.{IsLineAnswer}
+use Rattle.om_edit.specs.EditedValues.{Answer}
+use Rattle.om_edit.specs.Grafts.{Other}
+use Rattle.om_edit.specs.Laws.{AreDeclaredEdits}
 
 -- no path leads to the object
 abbrev pub IsUnreached : {T : Type 0} → Shapes T → List Obj → ℕ → Val → T → Type 0
 IsUnreached {T} shapes graph o v t =
     (path : List ℕ) (u : T) → ¬ (value_at shapes graph v t path ≡ Some (vals.Ref o, u))
 
-abbrev pub EditsLeaveWhatIsHidden : Type 0
-EditsLeaveWhatIsHidden =
-    (decls : List Decl) (t : Ty) (edit : Edit) (graph : List Obj) (root : Val)
-    (edited : List Obj × Val) → IsDeclaredAnswer decls t edit graph root (Ok edited)
-    → (o : ℕ) (object : Obj) → slice_get graph o ≡ Some object
-    → IsUnreached (declared_shapes decls) graph o root t
-    → slice_get edited.0 o ≡ Some object
+-- what is answered to what a line asks for, of a value of a declared type, after these values
+abbrev pub IsDeclaredLine : List Decl → Ty → List Other → Action → List Obj → Val → Answer Ty
+    → Type 0
+IsDeclaredLine decls t others action graph root answer =
+    IsLineAnswer (shape decls) (names_of decls) (Equal decls) t others action graph root answer
+
+-- no path leads to the object in any of the values that the lines begin with; one line may show
+-- another one what was hidden, where it puts a part at a type that asks for more of it
+abbrev pub IsNeverReached : List Decl → Ty → List Other → ℕ → List ScriptLine → List Obj → Val
+    → Type 0
+IsNeverReached decls t others o [] graph root = ⊤
+IsNeverReached decls t others o (line ∷ lines) graph root =
+    IsUnreached (declared_shapes decls) graph o root t
+    × ((edited : List Obj × Val)
+    → IsDeclaredLine decls t others line.action graph root (Ok edited)
+    → IsNeverReached decls t others o lines edited.0 edited.1)
+
+-- an edit or a graft leaves each object to which no path leads as it was, and so do lines where
+-- that is so before each of them
+pub record EditsLeaveWhatIsHidden : Type 0 where
+  pub by_line : (decls : List Decl) (t : Ty) (others : List Other) (action : Action)
+      (graph : List Obj) (root : Val) (edited : List Obj × Val)
+      → IsDeclaredLine decls t others action graph root (Ok edited)
+      → (o : ℕ) (object : Obj) → slice_get graph o ≡ Some object
+      → IsUnreached (declared_shapes decls) graph o root t
+      → slice_get edited.0 o ≡ Some object
+  pub by_lines : (decls : List Decl) (t : Ty) (others : List Other) (lines : List ScriptLine)
+      (graph : List Obj) (root : Val) (edited : List Obj × Val)
+      → AreDeclaredEdits decls t others lines graph root (Ok edited)
+      → (o : ℕ) (object : Obj) → slice_get graph o ≡ Some object
+      → IsNeverReached decls t others o lines graph root
+      → slice_get edited.0 o ≡ Some object

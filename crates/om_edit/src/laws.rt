@@ -43,7 +43,8 @@ pub fn tables_answer_lines_alike()
     ensures { TablesAnswerLinesAlike }
 {}
 
-/// An edit leaves each object to which no path leads as it was, so also what is hidden alone.
+/// Lines, grafts among them, leave each object to which no path leads as it was, so also what is
+/// hidden alone.
 pub fn edits_leave_what_is_hidden()
     ensures { EditsLeaveWhatIsHidden }
 {}
