@@ -111,14 +111,10 @@ module _ (table : Table) (pairs : List (ℕ × ℕ)) where
   -- ---- at a place
 
   pub stands_at :
-      (graph : List Obj) (place word o s t : ℕ) → slice_get pairs place ≡ Some (o, s) → o < length graph → word_of graph (vals.Ref o) ≡ word
-      → IsSame table s t → StandsAt table graph pairs word t
-  stands_at graph place word o s t at_place inside named same = record {
-    object = o;
-    inside = inside;
-    named = sym named;
-    among = (s, slice_get-Contains pairs place (o, s) at_place, same);
-  }
+      (graph : List Obj) (word o s t : ℕ) → Contains pairs (o, s) → o < length graph → word ≡ word_of graph (vals.Ref o) → IsSame table s t
+      → StandsAt table graph pairs word t
+  stands_at graph word o s t among inside named same =
+      record { object = o; inside = inside; named = named; among = (s, among, same) }
 
   -- ---- among
 

@@ -1,5 +1,5 @@
 -- What verifying answers, from what it found of each pair.
-use Rattle.std.proofs.Common.{ℕ, ◌≡◌, ◌<◌, ◌≤◌, ◌+◌, ◌⊎◌, ⊎_elim, inl, inr, List, [], ◌∷◌, length, refl, sym, ap, subst, arith}
+use Rattle.std.proofs.Common.{ℕ, ◌≡◌, ◌<◌, ◌≤◌, ◌+◌, ⊎_elim, inl, inr, List, [], ◌∷◌, length, refl, sym, ap, subst, arith}
 use Rattle.std.specs.Prelude.{Contains, slice_get, IsSomeAnd}
 use Rattle.std.proofs.lemmas.Option.{slice_get_within}
 use Rattle.om_model.proofs.Options.{IsSomeAnd-some}
@@ -16,7 +16,8 @@ use Rattle.om_model.proofs.Lists.{Contains-place as place_in}
 use Rattle.om_section.specs.declared.section.Section.TheVariants as sections
 use Rattle.om_cert.specs.declared.verified.Why.{Why}
 use Rattle.om_cert.specs.declared.verified.Why.TheVariants.{Range, Unfit, Need, TwoTypes, Root, NotFault}
-use Rattle.om_cert.specs.declared.verified.Verified.TheVariants.{Yes, Rejected}
+use Rattle.om_cert.specs.declared.verified.Verified.TheVariants.{Rejected}
+use Rattle.om_cert.specs.Accepted.{AreAccepted}
 use Rattle.om_cert.specs.Verified.{IsThere, LacksNeed, IsAtTwoTypes, IsWrong, IsVerified, fault_section, place_of}
 use Rattle.om_cert.specs.Testing.{AreAllThere, IsFirstOut, IsRight, IsRightAt, AreRight, IsWrongWith, IsFirstAt}
 
@@ -159,8 +160,8 @@ module _ (table : Table) (graph : List Obj) (root : Val) (pairs : List (ℕ × �
 
     pub accepted :
         (n : ℕ) → length pairs ≤ n → AreRight table graph pairs n → IsHeld (table_shapes table) graph pairs root 0
-        → IsVerified table graph root (sections.Pairs pairs) Yes
-    accepted n many right held = inl (record { typing = record { fits = own_fits; held = own_held; one_type = own_type }; held = held }, refl) where
+        → AreAccepted (table_shapes table) graph root 0 pairs
+    accepted n many right held = record { typing = record { fits = own_fits; held = own_held; one_type = own_type }; held = held } where
       of_pair : (o t : ℕ) → Contains pairs (o, t) → IsRight table graph pairs (o, t)
       of_pair o t among =
           let k = place_in pairs (o, t) among in

@@ -5,3 +5,4 @@ pub mod TestLemmas
 pub mod JudgeLemmas
 pub mod ReachedLemmas
 pub mod HeldLemmas
+pub mod RightLemmas

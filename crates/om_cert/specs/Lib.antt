@@ -2,4 +2,5 @@ pub mod Accepted
 pub mod Normal
 pub mod Verified
 pub mod Testing
+pub mod Right
 pub mod Laws

@@ -10,7 +10,7 @@ ghost use Rattle.om_type_table.specs.Made.{table_of, IsLawful};
 ghost use Rattle.om_heap.specs.Heap.{word_of, IsFieldWord};
 ghost use Rattle.om_scan.specs.FittingRows.{AreRows};
 ghost use Rattle.om_section.specs.Increasing.{AreIncreasing};
-ghost use Rattle.om_cert.specs.Testing.{AreAllThere, IsStart, IsPassing, IsSame, IsCrowd, IsAmongAt, IsSettled, IsElsewhere, StandsAt};
+ghost use Rattle.om_cert.specs.Testing.{AreAllThere, IsStart, IsPassing, IsSame, IsCrowd, IsAmongAt, IsSettled, IsElsewhere};
 
 use om_fits::Row;
 use om_heap::Heap;
@@ -87,8 +87,28 @@ fn few_end(len: usize, start: usize) -> usize
     if len - start > 16 { start + 16 } else { len }
 }
 
-/// Whether some pair has the object at an equal type: one of its first 16, or one of the crowd.
+/// Whether one of the first 16 pairs of the object is at an equal type. Of the others nothing is
+/// told.
 #[inline(never)]
+pub fn is_among_few(table: &TypeTable, pairs: &[(u64, u64)], object: u64, ty: usize) -> bool
+    requires increasing { AreIncreasing pairs.now }
+    requires there { (k o t : ℕ) → slice_get pairs.now k ≡ Some (o, t)
+        → t < length table.now.classes }
+    requires ty { ty < length table.now.classes }
+    ensures { OnTrue result (IsAmongAt (table_of table.now) pairs.now object ty) }
+{
+    let class = table.class(ty);
+    let start = start_of(pairs, object);
+    for at in start..few_end(pairs.len(), start) {
+        let (own, number) = pairs[at];
+        if own == object && table.class(number as usize) == class {
+            return true;
+        }
+    }
+    false
+}
+
+/// Whether some pair has the object at an equal type: one of its first 16, or one of the crowd.
 pub fn is_among(
     table: &TypeTable,
     pairs: &[(u64, u64)],
@@ -144,7 +164,7 @@ pub fn is_elsewhere(
 }
 
 /// The same where all pairs of the object before a place are at equal types.
-fn is_elsewhere_behind(
+pub fn is_elsewhere_behind(
     table: &TypeTable,
     pairs: &[(u64, u64)],
     start: usize,
@@ -169,61 +189,14 @@ fn is_elsewhere_behind(
     false
 }
 
-/// Whether two types are equal: mostly they are one.
-#[inline(always)]
-fn is_same(table: &TypeTable, t: usize, u: usize) -> bool
-    requires t { t < length table.now.classes }
-    requires u { u < length table.now.classes }
-    ensures { OnTrue result (IsSame (table_of table.now) t u) }
-{
-    if t == u {
-        return true;
-    }
-    if table.class(t) != table.class(u) {
-        return false;
-    }
-    true
-}
-
-/// Whether the pair at a place, if there is one, has the object of a word at an equal type. The
-/// object's number is not looked for.
-#[inline(always)]
-fn is_at(
-    heap: &Heap,
-    table: &TypeTable,
-    pairs: &[(u64, u64)],
-    place: usize,
-    word: u64,
-    ty: usize,
-) -> bool
-    requires there { AreAllThere (table_of table.now) heap.now pairs.now }
-    requires lawful { IsLawful (table_of table.now) }
-    requires ty { ty < length table.now.nodes }
-    ensures { OnTrue result (StandsAt (table_of table.now) heap.now pairs.now word ty) }
-{
-    if place >= pairs.len() {
-        return false;
-    }
-    let (object, number) = pairs[place];
-    if heap.word(Val::Ref(object)) != word {
-        return false;
-    }
-    if !is_same(table, number as usize, ty) {
-        return false;
-    }
-    true
-}
-
 /// Whether the value of a word is held at a type: it fits, and where it is a reference some pair has
-/// its object at an equal type. The pair at the place `near` is tried first.
-#[inline(always)]
+/// its object at an equal type.
 pub fn is_held(
     heap: &Heap,
     table: &TypeTable,
     rows: &[Row],
     pairs: &[(u64, u64)],
     crowd: &BTreeSet<(u64, usize)>,
-    near: usize,
     word: u64,
     ty: usize,
 ) -> bool
@@ -241,7 +214,7 @@ pub fn is_held(
     if !fits_type(heap, table, rows, ty, word) {
         return false;
     }
-    if word % 8 != 0 || is_at(heap, table, pairs, near, word, ty) {
+    if word % 8 != 0 {
         return true;
     }
     is_among(table, pairs, crowd, heap.number(word), ty)

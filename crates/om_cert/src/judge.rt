@@ -1,17 +1,20 @@
 //! Whether what a section states holds of a value.
 
 ghost use Rattle.std.specs.Prelude.{◌≡◌, ◌<◌, ◌↔◌, length, IfOk, IsTrue, MatchOption};
-ghost use Rattle.om_model.specs.Graph.{IsValue};
+ghost use Rattle.om_model.specs.Graph.{IsValue, IsGraph};
 ghost use Rattle.om_type_table.specs.Made.{table_of, IsLawful};
 ghost use Rattle.om_section.specs.Increasing.{AreIncreasing};
+ghost use Rattle.om_scan.specs.FittingRows.{AreRows};
 ghost use Rattle.om_cert.specs.Testing.{AreAllThere, IsFirstOut, IsThereNow};
 ghost use Rattle.om_cert.specs.Verified.{Shows, IsOneAnswer, IsVerified, fault_section};
 ghost use Rattle.om_section.specs.declared.section.Section.TheVariants as sections;
 
 use crate::held::{crowd_of, is_held};
+use crate::right::are_accepted;
 use crate::test::test_pair;
 use crate::verified::{Verified, Why};
 use om_fault::is_fault;
+use om_fits::Row;
 use om_heap::Heap;
 use om_model::Memory;
 use om_model::path::Path;
@@ -132,6 +135,31 @@ fn verify_pairs(
     let _objects = heap.count();
     let rows = rows_of(alloc, heap, table)?;
     let rows = rows.as_slice();
+    if are_accepted(heap, root, table, rows, pairs) {
+        return Ok(Verified::Yes);
+    }
+    verify_each(alloc, heap, root, table, rows, pairs)
+}
+
+/// The same pair by pair, where the objects and types of all are there: so what is first wrong is
+/// told.
+fn verify_each(
+    alloc: Global,
+    heap: &Heap,
+    root: Val,
+    table: &TypeTable,
+    rows: &[Row],
+    pairs: &[(u64, u64)],
+) -> Result<Verified, Memory>
+    requires graph { IsGraph heap.now }
+    requires value { IsValue (length heap.now) root }
+    requires rows { AreRows table.now.nodes rows.now }
+    requires lawful { IsLawful (table_of table.now) }
+    requires increasing { AreIncreasing pairs.now }
+    requires there { AreAllThere (table_of table.now) heap.now pairs.now }
+    ensures { IfOk result
+        (IsVerified (table_of table.now) heap.now root (sections.Pairs pairs.now)) }
+{
     let crowd = crowd_of(alloc, table, pairs)?;
     for i in 0..pairs.len() {
         if let Some(why) = test_pair(heap, table, rows, pairs, &crowd, i) {
@@ -144,7 +172,6 @@ fn verify_pairs(
         rows,
         pairs,
         &crowd,
-        0,
         heap.word(root),
         table.root(),
     ) {

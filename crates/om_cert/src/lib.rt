@@ -5,6 +5,7 @@
 mod held;
 mod judge;
 mod laws;
+mod right;
 mod test;
 mod verified;
 

@@ -1,10 +1,8 @@
 //! What is wrong with a pair.
 
-ghost use Rattle.std.specs.Prelude.{ℕ, ◌≡◌, ◌<◌, false, length, slice_get, Some, MatchOption};
-ghost use Rattle.std.specs.Bool.{OnTrue};
+ghost use Rattle.std.specs.Prelude.{◌≡◌, ◌<◌, length, MatchOption};
 ghost use Rattle.om_model.specs.Graph.{IsGraph};
 ghost use Rattle.om_model.specs.declared.value.Val.TheVariants as vals;
-ghost use Rattle.om_types.specs.Fitting as fitting;
 ghost use Rattle.om_types.specs.Table.{typed_fields};
 ghost use Rattle.om_heap.specs.Heap.{word_of};
 ghost use Rattle.om_type_table.specs.Made.{table_of, IsLawful};
@@ -20,19 +18,15 @@ use om_heap::Heap;
 use om_model::value::Val;
 use om_scan::fits_type;
 use om_type_table::TypeTable;
-use om_types::shape::{Constr, ShapeOf};
 use std::collections::BTreeSet;
 
 /// The first field of an object, which has this word, by its number, that is needed and not held.
-/// It is the object of pair i: the next pair is mostly that of its last field.
-#[inline(always)]
 fn first_lack(
     heap: &Heap,
     table: &TypeTable,
     rows: &[Row],
     pairs: &[(u64, u64)],
     crowd: &BTreeSet<(u64, usize)>,
-    i: usize,
     _object: u64,
     word: u64,
     _ty: usize,
@@ -40,7 +34,6 @@ fn first_lack(
 ) -> Option<u64>
     requires graph { IsGraph heap.now }
     requires rows { AreRows table.now.nodes rows.now }
-    requires in_range { i < length pairs.now }
     requires object { _object < length heap.now }
     requires word { word ≡ word_of heap.now (vals.Ref _object) }
     requires ty { _ty < length table.now.nodes }
@@ -63,32 +56,11 @@ fn first_lack(
             continue;
         }
         let value = words[field as usize];
-        if !is_held(heap, table, rows, pairs, crowd, i + 1, value, ty) {
+        if !is_held(heap, table, rows, pairs, crowd, value, ty) {
             return Some(field);
         }
     }
     None
-}
-
-/// Whether the object, which fits the shape, may be changed: often one constructor tells it.
-#[inline(always)]
-fn is_changing(heap: &Heap, object: u64, shape: &ShapeOf<usize>) -> bool
-    requires { object < length heap.now }
-    ensures { result ≡ fitting.is_mutable shape.now (slice_get heap.now object) }
-{
-    match shape {
-        ShapeOf::Sum(_, blocks) if is_one_constant(blocks.as_slice()) => false,
-        _ => is_mutable(heap, object, shape),
-    }
-}
-
-/// Whether there is one constructor with arguments, whose blocks cannot be changed.
-#[inline(always)]
-fn is_one_constant(blocks: &[Constr<usize>]) -> bool
-    ensures { OnTrue result
-        ((tag : ℕ) → fitting.is_mutable_block (slice_get blocks.now tag) ≡ false) }
-{
-    blocks.len() == 1 && !blocks[0].mutable
 }
 
 /// What is first wrong with pair i, where the objects and types of all pairs are there, and those
@@ -121,10 +93,10 @@ pub fn test_pair(
     let Some(needs) = known_needs(heap, object, table.shape(ty)) else {
         return Some(Why::Unfit(i as u64));
     };
-    if let Some(field) = first_lack(heap, table, rows, pairs, crowd, i, object, word, ty, needs) {
+    if let Some(field) = first_lack(heap, table, rows, pairs, crowd, object, word, ty, needs) {
         return Some(Why::Need(i as u64, field));
     }
-    if is_changing(heap, object, table.shape(ty)) && is_elsewhere(table, pairs, i, object, ty) {
+    if is_mutable(heap, object, table.shape(ty)) && is_elsewhere(table, pairs, i, object, ty) {
         return Some(Why::TwoTypes(i as u64));
     }
     None

@@ -1,38 +1,6 @@
-use Rattle.std.proofs.Common.{ℕ, ◌≡◌, ◌<◌, ◌∙◌, length, Some, sym, subst, arith}
-use Rattle.std.specs.Prelude.{slice_get}
-use Rattle.std.proofs.lemmas.Bool.{false≢true}
-use Rattle.om_types.specs.Table.{table_shapes}
-use Rattle.om_types.specs.Typing.{IsHeld}
-use Rattle.om_type_table.specs.Made.{table_of}
-use Rattle.om_cert.proofs.JudgeLemmas.{pair_rejected, right_more, root_rejected, accepted}
+use Rattle.std.proofs.Common.{inl, refl}
+use Rattle.std.proofs.lemmas.Bool.{OnTrue_at}
 use Rattle.om_cert.proofs.judge.verify_pairs.Goals as goal
 
-pub returns-in-Some-test_pair : goal.returns-in-Some-test_pair
-returns-in-Some-test_pair c =
-    pair_rejected (table_of c.args.table.now) c.args.heap.now c.args.root c.args.pairs.now c.in_default.ensures c.loop-i.i c.in-Some-test_pair.why c.loop-i.invariant c.in-Some-test_pair.ensures
-
-pub loop-i-preserved : goal.loop-i-preserved
-loop-i-preserved c =
-    right_more (table_of c.args.table.now) c.args.heap.now c.args.root c.args.pairs.now c.loop-i.i c.loop-i.invariant c.in_default-test_pair.ensures
-
-pub is_held-requires-clause-word : goal.is_held-requires-clause-word
-is_held-requires-clause-word c = (c.args.root, c.requires.value, c.word.ensures)
-
-pub returns-then-is_held : goal.returns-then-is_held
-returns-then-is_held c =
-    let tells = c.is_held.ensures c.args.root c.requires.value c.word.ensures in
-    accepted (table_of c.args.table.now) c.args.heap.now c.args.root c.args.pairs.now c.in_default.ensures c.loop-i.i c.loop-i-test.false c.loop-i.invariant
-    (subst (λ t. IsHeld (table_shapes (table_of c.args.table.now)) c.args.heap.now c.args.pairs.now c.args.root t) c.root.ensures (tells.0 c.if-is_held.true))
-
-pub returns : goal.returns
-returns c =
-    let tells = c.is_held.ensures c.args.root c.requires.value c.word.ensures in
-    root_rejected (table_of c.args.table.now) c.args.heap.now c.args.root c.args.pairs.now c.in_default.ensures c.loop-i.i c.loop-i-test.false c.loop-i.invariant
-    (λ held. false≢true (sym c.if-is_held.false ∙ tells.1
-    (subst (λ t. IsHeld (table_shapes (table_of c.args.table.now)) c.args.heap.now c.args.pairs.now c.args.root t) (sym c.root.ensures) held)))
-
-pub crowd_of-requires : goal.crowd_of-requires
-crowd_of-requires c =
-    let known : (k o t : ℕ) → slice_get c.args.pairs.now k ≡ Some (o, t) → t < length c.args.table.now.classes =
-    λ k o t at. let there = (c.in_default.ensures k (o, t) at).1 in omega (arith, there, c.requires.lawful.classed) in
-    record { there = known }
+pub returns-then-are_accepted : goal.returns-then-are_accepted
+returns-then-are_accepted c = inl (OnTrue_at c.if-are_accepted.true c.are_accepted.ensures, refl)

@@ -9,7 +9,7 @@ use Rattle.om_types.specs.Table.{table_shapes, node_or_none}
 use Rattle.om_scan.proofs.NeedLemmas.{never_unfit}
 use Rattle.om_cert.proofs.TestLemmas.{settled, does_fit, not_elsewhere, mutable_is, right_is, unfit_is_first, lack_is_first, two_is_first}
 use Rattle.om_cert.proofs.test.test_pair.Goals as goal
-use Rattle.om_cert.proofs.test.test_pair.Goals.{else-is_changing-via-then-is_changing+else-is_elsewhere, else-is_changing-via-else-is_changing}
+use Rattle.om_cert.proofs.test.test_pair.Goals.{else-is_mutable-via-then-is_mutable+else-is_elsewhere, else-is_mutable-via-else-is_mutable}
 
 pub shape-requires : goal.shape-requires
 shape-requires c = (c.requires.there c.args.i _ (slice_get-get_or c.args.pairs.now c.args.i (0, 0) c.requires.in_range)).1
@@ -63,8 +63,8 @@ returns-in-Some-first_lack c =
 pub shape-requires-2 : goal.shape-requires-2
 shape-requires-2 c = (c.requires.there c.args.i _ (slice_get-get_or c.args.pairs.now c.args.i (0, 0) c.requires.in_range)).1
 
-pub is_changing-requires : goal.is_changing-requires
-is_changing-requires c = (c.requires.there c.args.i _ (slice_get-get_or c.args.pairs.now c.args.i (0, 0) c.requires.in_range)).0
+pub is_mutable-requires : goal.is_mutable-requires
+is_mutable-requires c = (c.requires.there c.args.i _ (slice_get-get_or c.args.pairs.now c.args.i (0, 0) c.requires.in_range)).0
 
 pub is_elsewhere-requires-clause-there : goal.is_elsewhere-requires-clause-there
 is_elsewhere-requires-clause-there c = λ k o t at. let there = (c.requires.there k (o, t) at).1 in omega (arith, there, c.requires.lawful.classed)
@@ -78,7 +78,7 @@ is_elsewhere-requires-clause-settled c =
     let pair = slice_index_or c.args.pairs.now c.args.i (0, 0) in
     settled t c.args.heap.now c.args.pairs.now c.requires.lawful.lawful c.args.i pair.0 pair.1 c.requires.before (
       does_fit t c.args.heap.now c.args.pairs.now pair.0 pair.1 c.shape.result.now c.known_needs.result c.in-Some.needs c.shape.ensures c.known_needs.ensures c.in-Some.is,
-      sym (mutable_is t c.args.heap.now c.args.pairs.now pair.0 pair.1 c.shape-2.result.now c.is_changing.result c.shape-2.ensures c.is_changing.ensures) ∙ c.if-is_changing.true,
+      sym (mutable_is t c.args.heap.now c.args.pairs.now pair.0 pair.1 c.shape-2.result.now c.is_mutable.result c.shape-2.ensures c.is_mutable.ensures) ∙ c.if-is_mutable.true,
     )
     (slice_get-get_or c.args.pairs.now c.args.i (0, 0) c.requires.in_range)
 
@@ -88,7 +88,7 @@ returns-then-is_elsewhere c =
     two_is_first (table_of c.args.table.now) c.args.heap.now c.args.pairs.now c.args.i pair (slice_get-get_or c.args.pairs.now c.args.i (0, 0) c.requires.in_range)
     (does_fit (table_of c.args.table.now) c.args.heap.now c.args.pairs.now pair.0 pair.1 c.shape.result.now c.known_needs.result c.in-Some.needs c.shape.ensures c.known_needs.ensures c.in-Some.is)
     c.in_default-first_lack.ensures
-    (sym (mutable_is (table_of c.args.table.now) c.args.heap.now c.args.pairs.now pair.0 pair.1 c.shape-2.result.now c.is_changing.result c.shape-2.ensures c.is_changing.ensures) ∙ c.if-is_changing.true)
+    (sym (mutable_is (table_of c.args.table.now) c.args.heap.now c.args.pairs.now pair.0 pair.1 c.shape-2.result.now c.is_mutable.result c.shape-2.ensures c.is_mutable.ensures) ∙ c.if-is_mutable.true)
     (c.is_elsewhere.ensures.0 c.if-is_elsewhere.true)
 
 pub returns : goal.returns
@@ -96,13 +96,13 @@ returns c =
     let pair = slice_index_or c.args.pairs.now c.args.i (0, 0) in
     let t = table_of c.args.table.now in
     let one_type : (u : ℕ) → Contains c.args.pairs.now (pair.0, u) → (table_shapes t).mutable c.args.heap.now pair.0 pair.1 → (table_shapes t).equal pair.1 u =
-    elim c.else-is_changing.branch [
-      | else-is_changing-via-then-is_changing+else-is_elsewhere w ↦
+    elim c.else-is_mutable.branch [
+      | else-is_mutable-via-then-is_mutable+else-is_elsewhere w ↦
           λ u among mutable. not_elsewhere t c.args.heap.now c.args.pairs.now pair.0 pair.1
           (λ elsewhere. false≢true (sym w.if-is_elsewhere.false ∙ w.is_elsewhere.ensures.1 elsewhere)) u among
-      | else-is_changing-via-else-is_changing w ↦
-          λ u among mutable. absurd (false≢true (sym w.if-is_changing.false
-          ∙ (mutable_is t c.args.heap.now c.args.pairs.now pair.0 pair.1 c.shape-2.result.now c.is_changing.result c.shape-2.ensures c.is_changing.ensures ∙ mutable.1)))
+      | else-is_mutable-via-else-is_mutable w ↦
+          λ u among mutable. absurd (false≢true (sym w.if-is_mutable.false
+          ∙ (mutable_is t c.args.heap.now c.args.pairs.now pair.0 pair.1 c.shape-2.result.now c.is_mutable.result c.shape-2.ensures c.is_mutable.ensures ∙ mutable.1)))
     ] in
     right_is t c.args.heap.now c.args.pairs.now c.args.i pair (slice_get-get_or c.args.pairs.now c.args.i (0, 0) c.requires.in_range)
     (does_fit t c.args.heap.now c.args.pairs.now pair.0 pair.1 c.shape.result.now c.known_needs.result c.in-Some.needs c.shape.ensures c.known_needs.ensures c.in-Some.is)

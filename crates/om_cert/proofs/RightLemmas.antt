@@ -1,0 +1,98 @@
+-- What tells that all pairs are right.
+use Rattle.std.proofs.Common.{ℕ, ◌<◌, ◌≤◌, ◌+◌, ◌%◌, ◌≡◌, ◌∙◌, ⊎_elim, inl, Bool, true, false, List, length, Some, refl, sym, subst, arith}
+use Rattle.std.specs.Prelude.{Contains, slice_get, IsTrue, ◌↔◌}
+use Rattle.std.specs.Bool.{OnTrue}
+use Rattle.std.proofs.lemmas.Option.{same_Some, slice_get_within}
+use Rattle.om_model.proofs.Lists.{Contains-place as place_in}
+use Rattle.om_model.proofs.Numbers.{less_same_more}
+use Rattle.om_model.specs.Graph.{IsValue, IsGraph}
+use Rattle.om_model.specs.declared.value.Val.{Val}
+use Rattle.om_model.specs.declared.value.Val.TheVariants as vals
+use Rattle.om_model.specs.declared.value.Obj.{Obj}
+use Rattle.om_heap.specs.Heap.{word_of}
+use Rattle.om_heap.proofs.ReadLemmas.{word_of-inj}
+use Rattle.om_types.specs.Lawful.{AreLawful, Everything}
+use Rattle.om_types.specs.Table.{Table, table_shapes, is_asked_in}
+use Rattle.om_cert.specs.declared.right.Worded.{Worded}
+use Rattle.om_cert.specs.Verified.{IsThere}
+use Rattle.om_cert.specs.Testing.{StandsAt, HoldsAll, AreAllThere, AreRight, IsRight, IsRightAt}
+use Rattle.om_cert.specs.Right.{AllFit, IsBacked, IsWorded, IsRightWithAll, AreRightWithAll}
+use Rattle.om_cert.proofs.HeldLemmas.{no_object_held, stands_held, stands_at}
+use Rattle.om_cert.proofs.TestLemmas.{right_is}
+
+module _ (table : Table) (graph : List Obj) (pairs : List (ℕ × ℕ)) where
+  -- ---- one value
+
+  module _ (lawful : AreLawful (table_shapes table) Everything) (graph' : IsGraph graph) (word t : ℕ) where
+    -- an object that stands at an equal type fits, where all pairs do
+    stands_fits : (v : Val) → IsValue (length graph) v → word ≡ word_of graph v → StandsAt table graph pairs word t → AllFit table graph pairs → (table_shapes table).fits graph v t
+    stands_fits v valid is at all =
+        let same : v ≡ vals.Ref at.object = word_of-inj graph v (vals.Ref at.object) graph' valid at.inside (sym is ∙ at.named) in
+        subst (λ w. (table_shapes table).fits graph w t) (sym same)
+        (lawful.fits graph (vals.Ref at.object) at.among.0 t (inl tt) at.among.2 (all at.object at.among.0 at.among.1))
+
+    pub stands_backed : (IsTrue (is_asked_in table t) → StandsAt table graph pairs word t) → IsBacked table graph pairs word t
+    stands_backed at v valid is asked all =
+        stands_held table graph pairs t v word graph' valid is (stands_fits v valid is (at asked) all) (at asked)
+
+  pub fits_backed :
+      (word t : ℕ) (fits : Bool) → (word % 8 ≡ 0 → ⊥)
+      → ((v : Val) → IsValue (length graph) v → word ≡ word_of graph v → IsTrue fits ↔ (table_shapes table).fits graph v t)
+      → OnTrue fits (IsBacked table graph pairs word t)
+  fits_backed word t true odd tells = λ v valid is asked all. no_object_held table graph pairs t v word is odd ((tells v valid is).0 refl)
+  fits_backed word t false odd tells = tt
+
+  -- ---- one pair
+
+  pub worded_there : (i : ℕ) (pair : Worded) → AreAllThere table graph pairs → IsWorded graph pairs i pair → IsThere table graph (pair.object, pair.ty)
+  worded_there i pair there is =
+      let k = place_in pairs (pair.object, pair.ty) is.among in there k.0 (pair.object, pair.ty) k.1
+
+  pub worded_stands : (i : ℕ) (pair : Worded) → AreAllThere table graph pairs → IsWorded graph pairs i pair → StandsAt table graph pairs pair.word pair.ty
+  worded_stands i pair there is =
+      let k = place_in pairs (pair.object, pair.ty) is.among in
+      stands_at table pairs graph pair.word pair.object pair.ty pair.ty is.among (there k.0 (pair.object, pair.ty) k.1).0 is.named refl
+
+  -- where a pair fits, and the rest is known if all pairs do
+  pub right_with_all :
+      (i o t : ℕ) → slice_get pairs i ≡ Some (o, t) → (table_shapes table).fits graph (vals.Ref o) t → (AllFit table graph pairs → HoldsAll table graph pairs o t)
+      → ((u : ℕ) → Contains pairs (o, u) → (table_shapes table).mutable graph o t → (table_shapes table).equal t u) → IsRightWithAll table graph pairs i
+  right_with_all i o t at_i fits holds one_type = record {
+    fits = λ p at. let same : ◌≡◌ {A = ℕ × ℕ} (o, t) p = same_Some (o, t) p (sym at_i ∙ at) in
+        subst (λ (q : ℕ × ℕ). (table_shapes table).fits graph (vals.Ref q.0) q.1) same fits;
+    right = λ all. right_is table graph pairs i (o, t) at_i fits (holds all) one_type;
+  }
+
+  -- ---- all pairs
+
+  pub none_so_far : AreRightWithAll table graph pairs 0
+  none_so_far = record { fit = λ k less. absurd (omega (arith, less)); right = λ all k less. absurd (omega (arith, less)) }
+
+  pub right_so_far_more : (i : ℕ) → AreRightWithAll table graph pairs i → IsRightWithAll table graph pairs i → AreRightWithAll table graph pairs (i + 1)
+  right_so_far_more i before own = record {
+    fit = λ k less. by_place k less (λ n. (p : ℕ × ℕ) → slice_get pairs n ≡ Some p → (table_shapes table).fits graph (vals.Ref p.0) p.1) before.fit own.fits;
+    right = λ all k less. by_place k less (IsRightAt table graph pairs) (before.right all) (own.right all);
+  } where
+    by_place : (k : ℕ) → k < i + 1 → (P : ℕ → Type 0) → ((j : ℕ) → j < i → P j) → P i → P k
+    by_place k less P earlier last = ⊎_elim
+        (λ smaller. earlier k smaller)
+        (λ others. ⊎_elim
+        (λ same. subst P (sym same) last)
+        (λ more. absurd (omega (arith, less, more)))
+        others)
+        (less_same_more k i)
+
+  of_pair : AreRight table graph pairs (length pairs) → (o t : ℕ) → Contains pairs (o, t) → IsRight table graph pairs (o, t)
+  of_pair right o t among =
+      let k = place_in pairs (o, t) among in right k.0 (slice_get_within pairs k.0 (o, t) k.1) (o, t) k.1
+
+  pub right_fit : AreRight table graph pairs (length pairs) → AllFit table graph pairs
+  right_fit right o t among = (of_pair right o t among).fits
+
+  pub all_right : (n : ℕ) → length pairs ≤ n → AreRightWithAll table graph pairs n → AreRight table graph pairs (length pairs)
+  all_right n many are = λ k less. are.right all_fit k (omega (arith, less, many)) where
+    all_fit : AllFit table graph pairs
+    all_fit o t among =
+        let k = place_in pairs (o, t) among in
+        let inside = slice_get_within pairs k.0 (o, t) k.1 in
+        are.fit k.0 (omega (arith, inside, many)) (o, t) k.1

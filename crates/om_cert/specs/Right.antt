@@ -1,0 +1,47 @@
+-- What is known of pairs before it is known that all of them fit.
+use Rattle.std.specs.Prelude.{ℕ, ◌≡◌, ◌<◌, List, length, IsTrue, Some, Contains, slice_get}
+use Rattle.om_model.specs.Graph.{IsValue}
+use Rattle.om_model.specs.declared.value.Val.{Val}
+use Rattle.om_model.specs.declared.value.Val.TheVariants as vals
+use Rattle.om_model.specs.declared.value.Obj.{Obj}
+use Rattle.om_heap.specs.Heap.{word_of}
+use Rattle.om_types.specs.Table.{Table, table_shapes, is_asked_in}
+use Rattle.om_types.specs.Typing.{IsHeld}
+use Rattle.om_cert.specs.declared.right.Worded.{Worded}
+use Rattle.om_cert.specs.Testing.{IsRightAt, AreRight}
+
+-- each pair's object fits its type
+abbrev pub AllFit : Table → List Obj → List (ℕ × ℕ) → Type 0
+AllFit table graph pairs =
+    (o t : ℕ) → Contains pairs (o, t) → (table_shapes table).fits graph (vals.Ref o) t
+
+-- the value of the word is then held at the type, if something is asked of it
+abbrev pub IsBacked : Table → List Obj → List (ℕ × ℕ) → ℕ → ℕ → Type 0
+IsBacked table graph pairs word t =
+    (v : Val) → IsValue (length graph) v → word ≡ word_of graph v → IsTrue (is_asked_in table t)
+    → AllFit table graph pairs → IsHeld (table_shapes table) graph pairs v t
+
+-- It is some pair, with its object's word; and pair i, if there are so many.
+pub record IsWorded (graph : List Obj) (pairs : List (ℕ × ℕ)) (i : ℕ) (pair : Worded)
+    : Type 0 where
+  pub at : i < length pairs → slice_get pairs i ≡ Some (pair.object, pair.ty)
+  pub among : Contains pairs (pair.object, pair.ty)
+  pub named : pair.word ≡ word_of graph (vals.Ref pair.object)
+
+-- pair i fits
+abbrev pub FitsAt : Table → List Obj → List (ℕ × ℕ) → ℕ → Type 0
+FitsAt table graph pairs i =
+    (pair : ℕ × ℕ) → slice_get pairs i ≡ Some pair
+    → (table_shapes table).fits graph (vals.Ref pair.0) pair.1
+
+-- Pair i fits, and is right if all pairs fit.
+pub record IsRightWithAll (table : Table) (graph : List Obj) (pairs : List (ℕ × ℕ))
+    (i : ℕ) : Type 0 where
+  pub fits : FitsAt table graph pairs i
+  pub right : AllFit table graph pairs → IsRightAt table graph pairs i
+
+-- The first n pairs fit, and are right if all pairs fit.
+pub record AreRightWithAll (table : Table) (graph : List Obj) (pairs : List (ℕ × ℕ))
+    (n : ℕ) : Type 0 where
+  pub fit : (k : ℕ) → k < n → FitsAt table graph pairs k
+  pub right : AllFit table graph pairs → AreRight table graph pairs n
