@@ -128,30 +128,118 @@ fn is_right(
     requires near { StandsAt (table_of table.now) heap.now pairs.now near.word near.ty }
     ensures { OnTrue result (IsRightWithAll (table_of table.now) heap.now pairs.now i) }
 {
-    let Worded { object, ty, word } = own;
-    if !fits_type(heap, table, rows, ty, word) {
+    if !fits_type(heap, table, rows, own.ty, own.word) {
         return false;
     }
-    let shape = table.shape(ty);
-    let Some(needs) = known_needs(heap, object, shape) else {
-        return false;
-    };
-    if is_changing(heap, object, shape) && !is_at_one_type(table, pairs, i, object, ty) {
-        return false;
+    let shape = table.shape(own.ty);
+    match shape {
+        ShapeOf::Sum(_, blocks) if is_one_constant(blocks.as_slice()) => {
+            is_fixed_right(heap, table, rows, pairs, i, own, near, shape)
+        }
+        ShapeOf::Product(false, _) => {
+            is_fixed_right(heap, table, rows, pairs, i, own, near, shape)
+        }
+        ShapeOf::Bytes(false) => is_fixed_right(heap, table, rows, pairs, i, own, near, shape),
+        ShapeOf::Double => is_fixed_right(heap, table, rows, pairs, i, own, near, shape),
+        _ => is_any_right(heap, table, rows, pairs, i, own, near, shape),
     }
-    are_backed(heap, table, rows, pairs, object, ty, word, near, needs)
 }
 
-/// Whether the object, which fits the shape, may be changed: often one constructor tells it.
+/// The same of a pair that fits, and whose object cannot be changed. It is compiled anew for each
+/// kind of shape.
 #[inline(always)]
-fn is_changing(heap: &Heap, object: u64, shape: &ShapeOf<usize>) -> bool
-    requires { object < length heap.now }
-    ensures { result ≡ fitting.is_mutable shape.now (slice_get heap.now object) }
+fn is_fixed_right(
+    heap: &Heap,
+    table: &TypeTable,
+    rows: &[Row],
+    pairs: &[(u64, u64)],
+    i: usize,
+    own: Worded,
+    near: Worded,
+    shape: &ShapeOf<usize>,
+) -> bool
+    requires graph { IsGraph heap.now }
+    requires rows { AreRows table.now.nodes rows.now }
+    requires in_range { i < length pairs.now }
+    requires lawful { IsLawful (table_of table.now) }
+    requires increasing { AreIncreasing pairs.now }
+    requires there { AreAllThere (table_of table.now) heap.now pairs.now }
+    requires own { IsWorded heap.now pairs.now i own }
+    requires near { StandsAt (table_of table.now) heap.now pairs.now near.word near.ty }
+    requires shape { slice_get table.now.nodes own.ty ≡ Some shape.now }
+    requires fits { (table_shapes (table_of table.now)).fits heap.now (vals.Ref own.object)
+        own.ty }
+    requires fixed { fitting.is_mutable shape.now (slice_get heap.now own.object) ≡ false }
+    ensures { OnTrue result (IsRightWithAll (table_of table.now) heap.now pairs.now i) }
 {
-    match shape {
-        ShapeOf::Sum(_, blocks) if is_one_constant(blocks.as_slice()) => false,
-        _ => is_mutable(heap, object, shape),
+    holds_needs(heap, table, rows, pairs, i, own, near, shape)
+}
+
+/// The same of any pair that fits.
+#[inline(never)]
+fn is_any_right(
+    heap: &Heap,
+    table: &TypeTable,
+    rows: &[Row],
+    pairs: &[(u64, u64)],
+    i: usize,
+    own: Worded,
+    near: Worded,
+    shape: &ShapeOf<usize>,
+) -> bool
+    requires graph { IsGraph heap.now }
+    requires rows { AreRows table.now.nodes rows.now }
+    requires in_range { i < length pairs.now }
+    requires lawful { IsLawful (table_of table.now) }
+    requires increasing { AreIncreasing pairs.now }
+    requires there { AreAllThere (table_of table.now) heap.now pairs.now }
+    requires own { IsWorded heap.now pairs.now i own }
+    requires near { StandsAt (table_of table.now) heap.now pairs.now near.word near.ty }
+    requires shape { slice_get table.now.nodes own.ty ≡ Some shape.now }
+    requires fits { (table_shapes (table_of table.now)).fits heap.now (vals.Ref own.object)
+        own.ty }
+    ensures { OnTrue result (IsRightWithAll (table_of table.now) heap.now pairs.now i) }
+{
+    if is_mutable(heap, own.object, shape) && !is_at_one_type(table, pairs, i, own.object, own.ty) {
+        return false;
     }
+    holds_needs(heap, table, rows, pairs, i, own, near, shape)
+}
+
+/// The same of a pair that fits, and is at one type where it is mutable.
+#[inline(always)]
+fn holds_needs(
+    heap: &Heap,
+    table: &TypeTable,
+    rows: &[Row],
+    pairs: &[(u64, u64)],
+    _i: usize,
+    own: Worded,
+    near: Worded,
+    shape: &ShapeOf<usize>,
+) -> bool
+    requires graph { IsGraph heap.now }
+    requires rows { AreRows table.now.nodes rows.now }
+    requires in_range { _i < length pairs.now }
+    requires lawful { IsLawful (table_of table.now) }
+    requires increasing { AreIncreasing pairs.now }
+    requires there { AreAllThere (table_of table.now) heap.now pairs.now }
+    requires own { IsWorded heap.now pairs.now _i own }
+    requires near { StandsAt (table_of table.now) heap.now pairs.now near.word near.ty }
+    requires shape { slice_get table.now.nodes own.ty ≡ Some shape.now }
+    requires fits { (table_shapes (table_of table.now)).fits heap.now (vals.Ref own.object)
+        own.ty }
+    requires one_type { (u : ℕ) → Contains pairs.now (own.object, u)
+        → (table_shapes (table_of table.now)).mutable heap.now own.object own.ty
+        → (table_shapes (table_of table.now)).equal own.ty u }
+    ensures { OnTrue result (IsRightWithAll (table_of table.now) heap.now pairs.now _i) }
+{
+    let Some(needs) = known_needs(heap, own.object, shape) else {
+        return false;
+    };
+    are_backed(
+        heap, table, rows, pairs, own.object, own.ty, own.word, near, needs,
+    )
 }
 
 /// Whether there is one constructor with arguments, whose blocks cannot be changed.
