@@ -63,9 +63,9 @@ words32_within head all few sum big =
     omega (arith, sum, is)
 
 pub leads_front :
-    (table : Table) (limit : ℕ) (bytes : List ℕ) (head : Head) (start n : ℕ) (marks : List ℕ) (state : State) (long : ℕ) → Leads table limit bytes head start n marks state
+    (table : Table) (limit : ℕ) (bytes : List ℕ) (head : Head) (start n : ℕ) (marks : List ℕ) (notes : List (ℕ × ℕ)) (state : State) (long : ℕ) → Leads table limit bytes head start n marks notes state
     → 0 < length (needs_in state) → IsCut long state.words.w32 state.words.w64 (drop n bytes) → n + long + values_in (needs_in state) ≤ start + head.length + 1 → IsFront limit bytes
-leads_front table limit bytes head start n marks state long l some cut room =
+leads_front table limit bytes head start n marks notes state long l some cut room =
     passing_is_front l.noted table limit bytes head start n l.tokens _ (needs_in state) long state.words.w32 state.words.w64 l.passing cut
     (record {
       open_before = values_some (needs_in state) some;

@@ -46,7 +46,7 @@ start_is bytes = start_by (magic bytes == big_magic) bytes
 
 pub leads_start :
     (table : Table) (limit : ℕ) (bytes : List ℕ) (head : Head) (start : ℕ) (state : State) → BeginsAs limit bytes head → start ≡ header_length bytes → types_in state ≡ [] → needs_in state ≡ of_type 0 ∷ []
-    → state.words.w32 ≡ stated32 head → state.words.w64 ≡ head.w64 → Leads table limit bytes head start start [] state
+    → state.words.w32 ≡ stated32 head → state.words.w64 ≡ head.w64 → Leads table limit bytes head start start [] [] state
 leads_start table limit bytes head start state b start' none root w32 w64 =
     let from = header_length-from bytes in
     let within' : start ≤ length bytes = let whole = b.whole in omega (arith, start', whole) in
@@ -63,14 +63,15 @@ leads_start table limit bytes head start state b start' none root w32 w64 =
       w64 = omega (arith, w64);
       are_noted = λ o t among. absurd (Contains-none {X = ℕ × ℕ} (o, t) among);
       are_marks = no_marks (take start bytes) [];
+      are_known = λ o t among. absurd (Contains-none {X = ℕ × ℕ} (o, t) among);
     }
 
 -- ---- a mark
 
 pub leads_marked :
-    (table : Table) (limit : ℕ) (bytes : List ℕ) (head : Head) (start n : ℕ) (marks after : List ℕ) (state : State) → IsMarked marks n (length (types_in state)) after → Leads table limit bytes head start n marks state
-    → Leads table limit bytes head start n after state
-leads_marked table limit bytes head start n marks after state is l =
+    (table : Table) (limit : ℕ) (bytes : List ℕ) (head : Head) (start n : ℕ) (marks after : List ℕ) (notes : List (ℕ × ℕ)) (state : State) → IsMarked marks n (length (types_in state)) after → Leads table limit bytes head start n marks notes state
+    → Leads table limit bytes head start n after notes state
+leads_marked table limit bytes head start n marks after notes state is l =
     let p = l.passing in
     record {
       tokens = l.tokens;
@@ -83,6 +84,7 @@ leads_marked table limit bytes head start n marks after state is l =
           (λ same. subst (λ ms. AreMarks (take n bytes) ms l.tokens) (sym same) l.are_marks)
           (λ more. subst (λ ms. AreMarks (take n bytes) ms l.tokens) (sym more.1) (marks_push (take n bytes) marks l.tokens n (sym (length-take-le n bytes p.within)) (p.made ∙ more.0) l.are_marks))
           is;
+      are_known = l.are_known;
     }
 
 -- ---- one token more
@@ -94,10 +96,10 @@ noted_further table types later noted tokens more are o t among =
     (let here = one.0 in omega (arith, here, long), noted_more table noted noted (λ o t kept. kept) types later tokens more o t one.0 one.1)
 
 pub leads_further :
-    (table : Table) (limit : ℕ) (bytes : List ℕ) (head : Head) (start n m : ℕ) (marks : List ℕ) (first middle last : State) (need : Need) → Leads table limit bytes head start n marks first
+    (table : Table) (limit : ℕ) (bytes : List ℕ) (head : Head) (start n m : ℕ) (marks : List ℕ) (notes : List (ℕ × ℕ)) (first middle last : State) (need : Need) → Leads table limit bytes head start n marks notes first
     → types_in middle ≡ types_in first → needs_in first ≡ need ∷ needs_in middle → middle.words ≡ first.words → TookFront table head.objects middle last need (drop n bytes) m
-    → Leads table limit bytes head start (n + m) marks last
-leads_further table limit bytes head start n m marks first middle last need l types needs words front =
+    → Leads table limit bytes head start (n + m) marks notes last
+leads_further table limit bytes head start n m marks notes first middle last need l types needs words front =
     let t = front.took in
     let token = front.token in
     let p : IsPassing l.noted table limit bytes head start n l.tokens (types_in middle) (need ∷ needs_in middle) = subst₂ (IsPassing l.noted table limit bytes head start n l.tokens) (sym types) needs l.passing in
@@ -113,18 +115,20 @@ leads_further table limit bytes head start n m marks first middle last need l ty
       are_noted = subst (λ ts. AreNoted table ts l.noted (l.tokens ++ token ∷ [])) (sym t.types)
           (noted_further table (types_in middle) (type_in need token) l.noted l.tokens (token ∷ []) (subst (λ ts. AreNoted table ts l.noted l.tokens) (sym types) l.are_noted));
       are_marks = subst (λ front'. AreMarks front' marks (l.tokens ++ token ∷ [])) (sym (take-add n m bytes)) (marks_more (take n bytes) (take m (drop n bytes)) marks l.tokens token front.spells l.are_marks);
+      are_known = l.are_known;
     }
 
 -- ---- a reference more
 
 -- with what is noted of the object that it leads to
 leads_noted :
-    (table : Table) (limit : ℕ) (bytes : List ℕ) (head : Head) (start n m : ℕ) (marks : List ℕ) (first middle : State) (t offset : ℕ) → (l : Leads table limit bytes head start n marks first)
+    (table : Table) (limit : ℕ) (bytes : List ℕ) (head : Head) (start n m : ℕ) (marks : List ℕ) (notes after : List (ℕ × ℕ)) (first middle : State) (t offset : ℕ) → (l : Leads table limit bytes head start n marks notes first)
     → types_in middle ≡ types_in first → needs_in first ≡ of_type t ∷ needs_in middle → middle.words ≡ first.words → 0 < head.objects → IsReference (drop n bytes) offset m
     → (1 ≤ offset) × (offset ≤ length (types_in middle))
     → (more : List (ℕ × ℕ)) → ((o u : ℕ) → Contains l.noted (o, u) → Contains more (o, u)) → IsBackAt more table (types_in middle) t offset → AreNoted table (types_in middle) more (l.tokens ++ shared offset ∷ [])
-    → Leads table limit bytes head start (n + m) marks middle
-leads_noted table limit bytes head start n m marks first middle t offset l types needs words some r back more kept is_back are =
+    → ((o u : ℕ) → Contains after (o, u) → Contains more (o, u))
+    → Leads table limit bytes head start (n + m) marks after middle
+leads_noted table limit bytes head start n m marks notes after first middle t offset l types needs words some r back more kept is_back are known =
     let token = shared offset in
     let p : IsPassing l.noted table limit bytes head start n l.tokens (types_in middle) (of_type t ∷ needs_in middle) = subst₂ (IsPassing l.noted table limit bytes head start n l.tokens) (sym types) needs l.passing in
     let p' = passing_more table l.noted more kept limit bytes head start n l.tokens (types_in middle) (of_type t ∷ needs_in middle) p in
@@ -138,6 +142,7 @@ leads_noted table limit bytes head start n m marks first middle t offset l types
       w64 = let before = l.w64 in let same = ap (λ (w : Words). w.w64) words in let both = words64_push l.tokens token in omega (arith, before, same, both);
       are_noted = are;
       are_marks = subst (λ front'. AreMarks front' marks (l.tokens ++ token ∷ [])) (sym (take-add n m bytes)) (marks_more (take n bytes) (take m (drop n bytes)) marks l.tokens token r.spells l.are_marks);
+      are_known = known;
     }
 
 -- what is noted by and by
@@ -155,40 +160,63 @@ noted_also table types noted o t tokens more within are flat p u among =
     (within, subst (λ ts. IsFlatNoted table ts (noted ++ (o, t) ∷ []) (tokens ++ more) o t) all (noted_more table [] (noted ++ (o, t) ∷ []) (λ q v kept. absurd (Contains-none {X = ℕ × ℕ} (q, v) kept)) types [] tokens more o t within flat)))
     (Contains-append_cases noted ((o, t) ∷ []) (p, u) among)
 
-leads_known :
-    (table : Table) (limit : ℕ) (bytes : List ℕ) (head : Head) (start n m : ℕ) (marks : List ℕ) (first middle : State) (t offset : ℕ) → Leads table limit bytes head start n marks first
+-- a reference that leads to what is noted at least as this
+leads_back :
+    (table : Table) (limit : ℕ) (bytes : List ℕ) (head : Head) (start n m : ℕ) (marks : List ℕ) (notes : List (ℕ × ℕ)) (first middle : State) (t offset : ℕ) → (l : Leads table limit bytes head start n marks notes first)
     → types_in middle ≡ types_in first → needs_in first ≡ of_type t ∷ needs_in middle → middle.words ≡ first.words → 0 < head.objects → IsReference (drop n bytes) offset m
-    → IsKnown table (types_in middle) (take n bytes) marks t offset
-    → Leads table limit bytes head start (n + m) marks middle
-leads_known table limit bytes head start n m marks first middle t offset l types needs words some r (inl back) =
+    → (1 ≤ offset) × (offset ≤ length (types_in middle)) → IsBackAt l.noted table (types_in middle) t offset
+    → Leads table limit bytes head start (n + m) marks notes middle
+leads_back table limit bytes head start n m marks notes first middle t offset l types needs words some r back is_back =
+    let are = noted_further table (types_in middle) [] l.noted l.tokens (shared offset ∷ []) (subst (λ ts. AreNoted table ts l.noted l.tokens) (sym types) l.are_noted) in
+    leads_noted table limit bytes head start n m marks notes notes first middle t offset l types needs words some r back l.noted (λ o u kept. kept) is_back
+    (subst (λ ts. AreNoted table ts l.noted (l.tokens ++ shared offset ∷ [])) (append-nil (types_in middle)) are)
+    l.are_known
+
+leads_known :
+    (table : Table) (limit : ℕ) (bytes : List ℕ) (head : Head) (start n m : ℕ) (marks : List ℕ) (notes after : List (ℕ × ℕ)) (first middle : State) (t offset : ℕ) → Leads table limit bytes head start n marks notes first
+    → types_in middle ≡ types_in first → needs_in first ≡ of_type t ∷ needs_in middle → middle.words ≡ first.words → 0 < head.objects → IsReference (drop n bytes) offset m
+    → IsKnown table (types_in middle) (take n bytes) marks notes after t offset
+    → Leads table limit bytes head start (n + m) marks after middle
+leads_known table limit bytes head start n m marks notes after first middle t offset l types needs words some r (inl back) =
     let none : (o u : ℕ) → Contains [] (o, u) → Contains l.noted (o, u) = λ o u among. absurd (Contains-none {X = ℕ × ℕ} (o, u) among) in
     let asks = asks_weaker table [] l.noted none (types_in middle) (of_type t) (shared offset) [] (back.2, refl) in
-    let are = noted_further table (types_in middle) [] l.noted l.tokens (shared offset ∷ []) (subst (λ ts. AreNoted table ts l.noted l.tokens) (sym types) l.are_noted) in
-    leads_noted table limit bytes head start n m marks first middle t offset l types needs words some r (back.0, back.1) l.noted (λ o u kept. kept) asks.0
-    (subst (λ ts. AreNoted table ts l.noted (l.tokens ++ shared offset ∷ [])) (append-nil (types_in middle)) are)
-leads_known table limit bytes head start n m marks first middle t offset l types needs words some r (inr known) =
+    subst (λ ns. Leads table limit bytes head start (n + m) marks ns middle) (sym back.3)
+    (leads_back table limit bytes head start n m marks notes first middle t offset l types needs words some r (back.0, back.1) asks.0)
+leads_known table limit bytes head start n m marks notes after first middle t offset l types needs words some r (inr (inl back)) =
+    let o : ℕ = length (types_in middle) - offset in
+    subst (λ ns. Leads table limit bytes head start (n + m) marks ns middle) (sym back.3)
+    (leads_back table limit bytes head start n m marks notes first middle t offset l types needs words some r (back.0, back.1)
+    (inr record { some = back.0; few = back.1; type = t; at = inr (l.are_known o t back.2); equal = refl }))
+leads_known table limit bytes head start n m marks notes after first middle t offset l types needs words some r (inr (inr known)) =
     let o : ℕ = length (types_in middle) - offset in
     let least = known.0 in
     let few = known.1 in
     let more = l.noted ++ (o, t) ∷ [] in
-    leads_noted table limit bytes head start n m marks first middle t offset l types needs words some r (least, few) more (λ p u kept. Contains-append_left l.noted ((o, t) ∷ []) (p, u) kept)
-    (inr record { some = least; few = few; type = t; at = inr (Contains-append_right l.noted ((o, t) ∷ []) (o, t) (Contains-first {X = ℕ × ℕ} (o, t) [])); equal = refl })
-    (noted_also table (types_in middle) l.noted o t l.tokens (shared offset ∷ []) (omega (arith, least, few)) (subst (λ ts. AreNoted table ts l.noted l.tokens) (sym types) l.are_noted) (known.2 l.tokens l.are_marks))
+    let last : Contains more (o, t) = Contains-append_right l.noted ((o, t) ∷ []) (o, t) (Contains-first {X = ℕ × ℕ} (o, t) []) in
+    leads_noted table limit bytes head start n m marks notes after first middle t offset l types needs words some r (least, few) more (λ p u kept. Contains-append_left l.noted ((o, t) ∷ []) (p, u) kept)
+    (inr record { some = least; few = few; type = t; at = inr last; equal = refl })
+    (noted_also table (types_in middle) l.noted o t l.tokens (shared offset ∷ []) (omega (arith, least, few)) (subst (λ ts. AreNoted table ts l.noted l.tokens) (sym types) l.are_noted) (known.3 l.tokens l.are_marks))
+    (λ p u among.
+    ⊎_elim
+    (λ before. Contains-append_left l.noted ((o, t) ∷ []) (p, u) (l.are_known p u before))
+    (λ same. subst (λ (q : ℕ × ℕ). Contains more q) same last)
+    (known.2 p u among))
 
 pub leads_turn :
-    (table : Table) (limit : ℕ) (bytes : List ℕ) (head : Head) (start n m : ℕ) (marks : List ℕ) (first middle last : State) (need : Need) → Leads table limit bytes head start n marks first
-    → types_in middle ≡ types_in first → needs_in first ≡ need ∷ needs_in middle → middle.words ≡ first.words → TookTurn table head.objects middle last need bytes marks n m
-    → Leads table limit bytes head start (n + m) marks last
-leads_turn table limit bytes head start n m marks first middle last need l types needs words (inl front) =
-    leads_further table limit bytes head start n m marks first middle last need l types needs words front
-leads_turn table limit bytes head start n m marks first middle last need l types needs words (inr back) =
+    (table : Table) (limit : ℕ) (bytes : List ℕ) (head : Head) (start n m : ℕ) (marks : List ℕ) (notes after : List (ℕ × ℕ)) (first middle last : State) (need : Need) → Leads table limit bytes head start n marks notes first
+    → types_in middle ≡ types_in first → needs_in first ≡ need ∷ needs_in middle → middle.words ≡ first.words → TookTurn table head.objects middle last need bytes marks notes after n m
+    → Leads table limit bytes head start (n + m) marks after last
+leads_turn table limit bytes head start n m marks notes after first middle last need l types needs words (inl front) =
+    subst (λ ns. Leads table limit bytes head start (n + m) marks ns last) (sym front.0)
+    (leads_further table limit bytes head start n m marks notes first middle last need l types needs words front.1)
+leads_turn table limit bytes head start n m marks notes after first middle last need l types needs words (inr back) =
     let b = back.1 in
-    subst (Leads table limit bytes head start (n + m) marks) (sym back.0)
-    (leads_known table limit bytes head start n m marks first middle b.type b.offset l types (subst (λ u. needs_in first ≡ u ∷ needs_in middle) b.is_asked needs) words b.some b.reference b.known)
+    subst (Leads table limit bytes head start (n + m) marks after) (sym back.0)
+    (leads_known table limit bytes head start n m marks notes after first middle b.type b.offset l types (subst (λ u. needs_in first ≡ u ∷ needs_in middle) b.is_asked needs) words b.some b.reference b.known)
 
 -- the header comes first
-pub leads_from : (table : Table) (limit : ℕ) (bytes : List ℕ) (head : Head) (start n : ℕ) (marks : List ℕ) (state : State) → Leads table limit bytes head start n marks state → start ≤ n
-leads_from table limit bytes head start n marks state l =
+pub leads_from : (table : Table) (limit : ℕ) (bytes : List ℕ) (head : Head) (start n : ℕ) (marks : List ℕ) (notes : List (ℕ × ℕ)) (state : State) → Leads table limit bytes head start n marks notes state → start ≤ n
+leads_from table limit bytes head start n marks notes state l =
     let p = l.passing in
     let front = length-take-le n bytes p.within in
     let both = length-append p.header (concat p.pieces) in
@@ -213,9 +241,9 @@ words32_stated head tokens left true is sum none = tt
 words32_stated head tokens left false is sum none = let zero' = none refl in omega (arith, sum, zero')
 
 pub leads_end :
-    (table : Table) (limit : ℕ) (bytes : List ℕ) (head : Head) (start n : ℕ) (marks : List ℕ) (state last : State) → AreLawful (table_shapes table) Everything → Leads table limit bytes head start n marks state
+    (table : Table) (limit : ℕ) (bytes : List ℕ) (head : Head) (start n : ℕ) (marks : List ℕ) (notes : List (ℕ × ℕ)) (state last : State) → AreLawful (table_shapes table) Everything → Leads table limit bytes head start n marks notes state
     → needs_in state ≡ [] → types_in last ≡ types_in state → last.words ≡ state.words → IsSpent head start n last → IsTypedFront table limit n bytes
-leads_end table limit bytes head start n marks state last lawful l none types words spent =
+leads_end table limit bytes head start n marks notes state last lawful l none types words spent =
     noted_passes_type_fronts l.noted table limit bytes head start n l.tokens (types_in state) lawful
     (subst (IsPassing l.noted table limit bytes head start n l.tokens (types_in state)) none l.passing)
     (record {
@@ -230,10 +258,10 @@ leads_end table limit bytes head start n marks state last lawful l none types wo
 
 -- where the place that is open asks again
 pub leads_again :
-    (table : Table) (limit : ℕ) (bytes : List ℕ) (head : Head) (start n : ℕ) (marks : List ℕ) (first middle last : State) (need : Need) → Leads table limit bytes head start n marks first
+    (table : Table) (limit : ℕ) (bytes : List ℕ) (head : Head) (start n : ℕ) (marks : List ℕ) (notes : List (ℕ × ℕ)) (first middle last : State) (need : Need) → Leads table limit bytes head start n marks notes first
     → types_in middle ≡ types_in first → needs_in first ≡ need ∷ needs_in middle → middle.words ≡ first.words
-    → types_in last ≡ types_in middle → needs_in last ≡ need ∷ needs_in middle → last.words ≡ middle.words → Leads table limit bytes head start n marks last
-leads_again table limit bytes head start n marks first middle last need l types needs words types' needs' words' =
+    → types_in last ≡ types_in middle → needs_in last ≡ need ∷ needs_in middle → last.words ≡ middle.words → Leads table limit bytes head start n marks notes last
+leads_again table limit bytes head start n marks notes first middle last need l types needs words types' needs' words' =
     let same_types : types_in first ≡ types_in last = sym types ∙ sym types' in
     let same_words : last.words ≡ first.words = words' ∙ words in
     record {
@@ -244,6 +272,7 @@ leads_again table limit bytes head start n marks first middle last need l types 
       w64 = subst (λ (w : Words). w.w64 + all_words64 (map measure_of l.tokens) ≡ head.w64) (sym same_words) l.w64;
       are_noted = subst (λ ts. AreNoted table ts l.noted l.tokens) same_types l.are_noted;
       are_marks = l.are_marks;
+      are_known = l.are_known;
     }
 
 -- a value is to come
@@ -253,8 +282,8 @@ some_need needs need others same = let size : length needs ≡ length (need ∷ 
 -- ---- more bytes
 
 pub leads_longer :
-    (table : Table) (limit : ℕ) (bytes more : List ℕ) (head : Head) (start n : ℕ) (marks : List ℕ) (state : State) → Leads table limit bytes head start n marks state → Leads table limit (bytes ++ more) head start n marks state
-leads_longer table limit bytes more head start n marks state l =
+    (table : Table) (limit : ℕ) (bytes more : List ℕ) (head : Head) (start n : ℕ) (marks : List ℕ) (notes : List (ℕ × ℕ)) (state : State) → Leads table limit bytes head start n marks notes state → Leads table limit (bytes ++ more) head start n marks notes state
+leads_longer table limit bytes more head start n marks notes state l =
     let p = l.passing in
     let within' = p.within in
     let long = length-append bytes more in
@@ -282,4 +311,5 @@ leads_longer table limit bytes more head start n marks state l =
       w64 = l.w64;
       are_noted = l.are_noted;
       are_marks = subst (λ front. AreMarks front marks l.tokens) same l.are_marks;
+      are_known = l.are_known;
     }

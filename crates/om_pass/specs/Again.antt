@@ -1,6 +1,7 @@
 -- What is read again of the tokens that were passed, and what a reference may lead back to.
 use Rattle.std.specs.Prelude.{ℕ, ◌-◌, ◌*◌, ◌<◌, ◌≤◌, ◌≡◌, ◌⊎◌}
 use Rattle.std.specs.Prelude.{List, [], ◌∷◌, ◌++◌, length, map, drop, take, slice_get, Some}
+use Rattle.std.specs.Prelude.{Contains}
 use Rattle.om_model.specs.declared.value.Obj.{Obj}
 use Rattle.om_types.specs.Table.{Table}
 use Rattle.om_format.specs.Words.{objects}
@@ -84,12 +85,21 @@ pub record AreFields
   pub are_flat : AreFlat flat
   pub at : AreAt table types [] (flat_values object flat) (map of_type fields)
 
--- a reference leads back to an object of an equal type, or to any in a hidden place, or to a flat
--- one that has this type too
-abbrev pub IsKnown : Table → List ℕ → List ℕ → List ℕ → ℕ → ℕ → Type 0
-IsKnown table types front marks type offset =
-    ((1 ≤ offset) × (offset ≤ length types) × IsBackAt [] table types type offset)
-    ⊎ ((1 ≤ offset) × (offset ≤ length types)
+-- of objects at types nothing is noted but what was, and the object at the type
+abbrev pub AreNotes : List (ℕ × ℕ) → ℕ → ℕ → List (ℕ × ℕ) → Type 0
+AreNotes old object type new =
+    (o t : ℕ) → Contains new (o, t)
+    → Contains old (o, t) ⊎ (◌≡◌ {A = ℕ × ℕ} (object, type) (o, t))
+
+-- a reference leads back to an object of an equal type, or to any in a hidden place, or to one that
+-- is noted at this type, or to a flat one that has it too, which is then noted
+abbrev pub IsKnown :
+    Table → List ℕ → List ℕ → List ℕ → List (ℕ × ℕ) → List (ℕ × ℕ) → ℕ → ℕ → Type 0
+IsKnown table types front marks old new type offset =
+    ((1 ≤ offset) × (offset ≤ length types) × IsBackAt [] table types type offset × (new ≡ old))
+    ⊎ ((1 ≤ offset) × (offset ≤ length types) × Contains old (length types - offset, type)
+    × (new ≡ old))
+    ⊎ ((1 ≤ offset) × (offset ≤ length types) × AreNotes old (length types - offset) type new
     × ((tokens : List Token) → AreMarks front marks tokens
     → IsFlatNoted table types [] tokens (length types - offset) type))
 

@@ -105,22 +105,25 @@ IsAnswer table stated old new need rest answers.Unfit = Unit {0}
 
 -- a reference begins the bytes, in a place that asks for a type, and is known at it
 pub record TookBack
-    (table : Table) (stated : ℕ) (types front marks : List ℕ) (need : Need) (rest : List ℕ) (n : ℕ)
+    (table : Table) (stated : ℕ) (types front marks : List ℕ) (old new : List (ℕ × ℕ)) (need : Need)
+    (rest : List ℕ) (n : ℕ)
     : Type 0 where
   pub type : ℕ
   pub is_asked : need ≡ of_type type
   pub offset : ℕ
   pub some : 0 < stated
   pub reference : IsReference rest offset n
-  pub known : IsKnown table types front marks type offset
+  pub known : IsKnown table types front marks old new type offset
 
 -- a token was taken that the n bytes spell from this place on
 abbrev pub TookTurn :
-    Table → ℕ → State → State → Need → List ℕ → List ℕ → ℕ → ℕ → Type 0
-TookTurn table stated old new need bytes marks at n =
-    TookFront table stated old new need (drop at bytes) n
+    Table → ℕ → State → State → Need → List ℕ → List ℕ → List (ℕ × ℕ) → List (ℕ × ℕ) → ℕ → ℕ
+    → Type 0
+TookTurn table stated old new need bytes marks notes notes' at n =
+    ((notes' ≡ notes) × TookFront table stated old new need (drop at bytes) n)
     ⊎ ((new ≡ old)
-    × TookBack table stated (types_in old) (take at bytes) marks need (drop at bytes) n)
+    × TookBack table stated (types_in old) (take at bytes) marks notes notes' need
+    (drop at bytes) n)
 
 -- a header begins the bytes that states this, no more words than may be
 pub record BeginsAs (limit : ℕ) (bytes : List ℕ) (head : Head) : Type 0 where
@@ -136,10 +139,10 @@ AreNoted table types noted tokens =
     (o t : ℕ) → Contains noted (o, t)
     → (o < length types) × IsFlatNoted table types noted tokens o t
 
--- n bytes lead to here, with these marks on the way
+-- n bytes lead to here, with these marks on the way, and these objects known at second types
 pub record Leads
     (table : Table) (limit : ℕ) (bytes : List ℕ) (head : Head) (start n : ℕ) (marks : List ℕ)
-    (state : State)
+    (notes : List (ℕ × ℕ)) (state : State)
     : Type 0 where
   pub tokens : List Token
   pub noted : List (ℕ × ℕ)
@@ -149,6 +152,7 @@ pub record Leads
   pub w64 : state.words.w64 + all_words64 (map measure_of tokens) ≡ head.w64
   pub are_noted : AreNoted table (types_in state) noted tokens
   pub are_marks : AreMarks (take n bytes) marks tokens
+  pub are_known : (o t : ℕ) → Contains notes (o, t) → Contains noted (o, t)
 
 -- the byte was marked where 64 objects more had been made
 abbrev pub IsMarked : List ℕ → ℕ → ℕ → List ℕ → Type 0
@@ -164,17 +168,18 @@ pub record IsSpent (head : Head) (start n : ℕ) (state : State) : Type 0 where
 
 -- where tokens were taken up to: the end of a typed value; or so many bytes lead to here, and a
 -- value is to come
-abbrev pub StopsAt : Table → ℕ → List ℕ → Head → ℕ → List ℕ → State → Stop → Type 0
-StopsAt table limit bytes head start marks state (stops.Typed n) =
+abbrev pub StopsAt :
+    Table → ℕ → List ℕ → Head → ℕ → List ℕ → List (ℕ × ℕ) → State → Stop → Type 0
+StopsAt table limit bytes head start marks notes state (stops.Typed n) =
     IsTypedFront table limit n bytes
-StopsAt table limit bytes head start marks state (stops.Cut at) =
-    Leads table limit bytes head start at marks state × (0 < length (needs_in state))
-StopsAt table limit bytes head start marks state stops.Untold = Unit {0}
+StopsAt table limit bytes head start marks notes state (stops.Cut at) =
+    Leads table limit bytes head start at marks notes state × (0 < length (needs_in state))
+StopsAt table limit bytes head start marks notes state stops.Untold = Unit {0}
 
 -- the bytes lead to what is passed of a value
 abbrev pub IsUnderway : Table → ℕ → List ℕ → Passing → Type 0
 IsUnderway table limit bytes p =
-    Leads table limit bytes p.head p.start p.at p.marks.items p.state
+    Leads table limit bytes p.head p.start p.at p.marks.items p.notes.items p.state
 
 -- the same of what is passed
 abbrev pub Stops : Table → ℕ → List ℕ → Passing → Stop → Type 0

@@ -1,7 +1,8 @@
 //! Tokens that were passed are looked at again.
 
-ghost use Rattle.std.specs.Prelude.{◌≡◌, ◌<◌, ◌+◌, length, slice_get, Some, IfSome, if◌then◌else◌};
-ghost use Rattle.om_format.specs.Code.{IsKind};
+ghost use Rattle.std.specs.Prelude.{◌≡◌, ◌<◌, ◌+◌, length, slice_get, slice_index, Some, Ok, IfSome};
+ghost use Rattle.std.specs.Prelude.{if◌then◌else◌};
+ghost use Rattle.om_format.specs.Code.{IsKind, kind_of};
 ghost use Rattle.om_format.specs.Raw.{fixed_bytes, variable_bytes};
 ghost use Rattle.om_format.specs.Token.{Token, IsToken, SpellsAfter, block_or_atom, word_token};
 ghost use Rattle.om_format.specs.Tree.{made_by};
@@ -25,6 +26,7 @@ pub enum Seen {
 }
 
 /// A block, or an atom where it has no fields.
+#[inline(always)]
 fn seen_block(tag: u8, size: u64) -> Seen
     ensures { IsSeen result (block_or_atom tag size) }
 {
@@ -43,6 +45,7 @@ fn seen_word(word: u64) -> Seen
 }
 
 /// What the token of this kind says, after whose code stands the piece.
+#[inline(always)]
 fn seen_of(kind: CodeKind, piece: &[u8]) -> Seen
     requires known { IsKind kind }
     requires whole { length piece.now ≡ fixed_bytes kind + variable_bytes kind piece.now }
@@ -62,16 +65,14 @@ fn seen_of(kind: CodeKind, piece: &[u8]) -> Seen
     }
 }
 
-/// What the first token of the bytes says, and how many bytes it has.
-pub fn look(bytes: &[u8]) -> Option<(Seen, usize)>
+/// What the token of this kind says that begins the bytes, and how many bytes it has.
+#[inline(always)]
+fn look_kind(kind: CodeKind, bytes: &[u8]) -> Option<(Seen, usize)>
+    requires some { 0 < length bytes.now }
+    requires kind { kind_of (slice_index bytes.now 0) ≡ Ok kind }
+    requires known { IsKind kind }
     ensures { IfSome result (λ look. Looks bytes.now look.0 look.1) }
 {
-    if bytes.is_empty() {
-        return None;
-    }
-    let Ok(kind) = code_kind(bytes[0]) else {
-        return None;
-    };
     let after = &bytes[1..];
     let Some(len) = piece_len(kind, after) else {
         return None;
@@ -79,7 +80,39 @@ pub fn look(bytes: &[u8]) -> Option<(Seen, usize)>
     Some((seen_of(kind, &after[..len]), 1 + len))
 }
 
+/// The same of any kind.
+#[inline(never)]
+fn look_rare(bytes: &[u8]) -> Option<(Seen, usize)>
+    requires { 0 < length bytes.now }
+    ensures { IfSome result (λ look. Looks bytes.now look.0 look.1) }
+{
+    match code_kind(bytes[0]) {
+        Ok(kind) => look_kind(kind, bytes),
+        Err(_) => None,
+    }
+}
+
+/// What the first token of the bytes says, and how many bytes it has.
+#[tactic(auto, unfolding(om_format::specs::Code::kind_of))]
+#[inline(always)]
+pub fn look(bytes: &[u8]) -> Option<(Seen, usize)>
+    ensures { IfSome result (λ look. Looks bytes.now look.0 look.1) }
+{
+    if bytes.is_empty() {
+        return None;
+    }
+    let code = bytes[0];
+    // The common codes get code of their own.
+    match code {
+        0x80.. => look_kind(CodeKind::SmallBlock(code % 16, code / 16 % 8), bytes),
+        0x40.. => look_kind(CodeKind::SmallInt(code % 64), bytes),
+        0x20.. => look_kind(CodeKind::SmallString(code % 32), bytes),
+        _ => look_rare(bytes),
+    }
+}
+
 /// Whether a token makes an object.
+#[inline(always)]
 fn makes_object(seen: Seen) -> bool
     ensures { (token : Token) → IsToken token → IsSeen seen token
         → made_by token ≡ (if result then 1 else 0) }

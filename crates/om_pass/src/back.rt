@@ -32,38 +32,38 @@ fn back(
     state: &State<'_>,
     asked: Asked<'_>,
     marks: &[usize],
+    notes: &mut Vec<(usize, usize)>,
     left: &mut u64,
     bytes: &[u8],
     at: usize,
-) -> usize
+) -> Result<usize, Memory>
     requires { at ≤ length bytes.now }
-    ensures { 0 < result
+    ensures { IfOk result
+        (λ n. 0 < n
         → TookBack (table_of table.now) stated (types_in state.now) (take at bytes.now) marks.now
-        (need_of asked.entry) (drop at bytes.now) result }
+        notes.old.items notes.new.items (need_of asked.entry) (drop at bytes.now) n) }
 {
     let Asked::Type(ty) = asked else {
-        return 0;
+        return Ok(0);
     };
     let Some((offset, n)) = reference_at(&bytes[at..]) else {
-        return 0;
+        return Ok(0);
     };
     if stated == 0 {
-        return 0;
+        return Ok(0);
     }
     let front = &bytes[..at];
-    if is_known(
+    let known = is_known(
         table,
         state.types.as_slice(),
         front,
         marks,
+        notes,
         left,
         ty,
         offset,
-    ) {
-        n
-    } else {
-        0
-    }
+    )?;
+    if known { Ok(n) } else { Ok(0) }
 }
 
 /// The token at this byte comes, if it has what is asked for: how many bytes it has, or 0.
@@ -74,6 +74,7 @@ pub fn turn<'a>(
     state: &mut State<'a>,
     asked: Asked<'a>,
     marks: &[usize],
+    notes: &mut Vec<(usize, usize)>,
     left: &mut u64,
     bytes: &[u8],
     at: usize,
@@ -82,11 +83,11 @@ pub fn turn<'a>(
     ensures { IfOk result
         (λ n. 0 < n
         → TookTurn (table_of table.now) stated state.old state.new (need_of asked.entry)
-        bytes.now marks.now at n) }
+        bytes.now marks.now notes.old.items notes.new.items at n) }
 {
     match step(table, stated, state, asked, &bytes[at..])? {
         Answer::Took(n) => Ok(n),
-        Answer::Back => Ok(back(table, stated, state, asked, marks, left, bytes, at)),
+        Answer::Back => back(table, stated, state, asked, marks, notes, left, bytes, at),
         Answer::Unfit => Ok(0),
     }
 }

@@ -1,21 +1,26 @@
 //! An object that is met at a second type: it is known there where its block is flat, that is, where
 //! its fields are integers, atoms and references back.
 
-ghost use Rattle.std.specs.Prelude.{◌≤◌, ◌<◌, ◌+◌, ◌-◌, List, [], length, drop};
+ghost use Rattle.std.specs.Prelude.{◌≤◌, ◌<◌, ◌+◌, ◌-◌, List, [], length, drop, IfOk, OnOk};
+ghost use Rattle.std.specs.Prelude.{Contains};
 ghost use Rattle.std.specs.Bool.{OnTrue};
 ghost use Rattle.om_model.specs.declared.value.Val.TheVariants as vals;
 ghost use Rattle.om_format.specs.Token.{Token};
 ghost use Rattle.om_format.specs.Tree.{value_of};
 ghost use Rattle.om_type_table.specs.Made.{table_of};
 ghost use Rattle.om_pass_law.specs.Noted.{IsAt, IsFlat, IsFlatNoted};
-ghost use Rattle.om_pass.specs.Again.{IsSeen, SpellAll, AreMarks, AreFields, IsKnown};
+ghost use Rattle.om_pass.specs.Again.{IsSeen, SpellAll, AreMarks, AreFields, IsKnown, AreNotes};
 
 use crate::again::{Seen, block_at, look};
 use crate::fits::{
     block_places, fits_atom, fits_int, is_equal, is_hidden, may_change, shape_of, type_at,
 };
 use crate::places::Open;
+use om_model::Memory;
 use om_type_table::TypeTable;
+
+/// So many notes are kept.
+const MOST_NOTES: usize = 16;
 
 /// Whether a reference in an object, back by so many, leads to an object of an equal type, or is
 /// hidden.
@@ -118,6 +123,24 @@ fn is_flat(
     }
 }
 
+/// Whether an object is noted at a type.
+fn is_noted(notes: &[(usize, usize)], object: usize, ty: usize) -> bool
+    ensures { OnTrue result (Contains notes.now (object, ty)) }
+{
+    notes.iter().any(|note| note.0 == object && note.1 == ty)
+}
+
+/// Notes an object at a type, beside a few of those that were noted last.
+fn note(notes: &mut Vec<(usize, usize)>, object: usize, ty: usize) -> Result<(), Memory>
+    ensures { OnOk result (AreNotes notes.old.items object ty notes.new.items) }
+{
+    if notes.len() >= MOST_NOTES {
+        notes.clear();
+    }
+    notes.push((object, ty))?;
+    Ok(())
+}
+
 /// Whether so many places back an object stands that has the type.
 #[inline(always)]
 pub fn is_known(
@@ -125,19 +148,29 @@ pub fn is_known(
     types: &[u16],
     front: &[u8],
     marks: &[usize],
+    notes: &mut Vec<(usize, usize)>,
     left: &mut u64,
     ty: usize,
     offset: u64,
-) -> bool
-    ensures { OnTrue result
-        (IsKnown (table_of table.now) types.now front.now marks.now ty offset) }
+) -> Result<bool, Memory>
+    ensures { IfOk result
+        (λ known. OnTrue known (IsKnown (table_of table.now) types.now front.now marks.now
+        notes.old.items notes.new.items ty offset)) }
 {
     let made = types.len() as u64;
     if offset == 0 || made < offset {
-        return false;
+        return Ok(false);
     }
     let object = (made - offset) as usize;
-    is_equal(table, type_at(types, object), ty)
+    if is_equal(table, type_at(types, object), ty)
         || is_hidden(table, ty)
-        || is_flat(table, types, front, marks, left, object, ty)
+        || is_noted(notes.as_slice(), object, ty)
+    {
+        return Ok(true);
+    }
+    if !is_flat(table, types, front, marks, left, object, ty) {
+        return Ok(false);
+    }
+    note(notes, object, ty)?;
+    Ok(true)
 }

@@ -345,6 +345,14 @@ fn hot_large<'a>(
             let kind = CodeKind::Shared(1);
             hot_kind(table, stated, ty, others, kind, rest, types, waiting, words)
         }
+        0x05 => {
+            let kind = CodeKind::Shared(2);
+            hot_kind(table, stated, ty, others, kind, rest, types, waiting, words)
+        }
+        0x06 => {
+            let kind = CodeKind::Shared(4);
+            hot_kind(table, stated, ty, others, kind, rest, types, waiting, words)
+        }
         0x09 => {
             let kind = CodeKind::Str(1);
             hot_kind(table, stated, ty, others, kind, rest, types, waiting, words)

@@ -22,6 +22,8 @@ pub struct Passing<'a> {
     pub at: usize,
     pub state: State<'a>,
     pub marks: Vec<usize>,
+    /// Some objects and second types that they are known to have.
+    pub notes: Vec<(usize, usize)>,
     /// How many bytes came.
     pub seen: usize,
     /// So often may a token or an open block be looked at again: as often as bytes came.
@@ -56,6 +58,7 @@ impl<'a> Passing<'a> {
                 words: Words::stated(&head),
             },
             marks: Vec::new(alloc),
+            notes: Vec::new(alloc),
             seen: 0,
             left: 0,
             head,
@@ -80,6 +83,7 @@ impl<'a> Passing<'a> {
         self.state.types.reserve(room_for(&head, bytes.len()))?;
         self.state.words = Words::stated(&head);
         self.marks.clear();
+        self.notes.clear();
         self.seen = 0;
         self.left = 0;
         self.head = head;
@@ -103,6 +107,7 @@ impl<'a> Passing<'a> {
             self.at,
             &mut self.state,
             &mut self.marks,
+            &mut self.notes,
             &mut self.left,
             bytes,
         )? {

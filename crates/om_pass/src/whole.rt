@@ -81,14 +81,16 @@ pub fn run<'a>(
     first: usize,
     state: &mut State<'a>,
     marks: &mut Vec<usize>,
+    notes: &mut Vec<(usize, usize)>,
     left: &mut u64,
     bytes: &[u8],
 ) -> Result<Stop, Memory>
     requires lawful { IsLawful (table_of table.now) }
     requires leads { Leads (table_of table.now) limit bytes.now head.now start first
-        marks.old.items state.old }
+        marks.old.items notes.old.items state.old }
     ensures { IfOk result
-        (StopsAt (table_of table.now) limit bytes.now head.now start marks.new.items state.new) }
+        (StopsAt (table_of table.now) limit bytes.now head.now start marks.new.items
+        notes.new.items state.new) }
 {
     let mut at = first;
     let mut now = state.places.now;
@@ -129,6 +131,7 @@ pub fn run<'a>(
             state,
             asked,
             marks.as_slice(),
+            notes,
             left,
             bytes,
             at,

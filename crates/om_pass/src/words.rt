@@ -123,15 +123,34 @@ pub fn signed_few(bytes: &[u8]) -> i64
     }
 }
 
+/// The number of two bytes, the most significant first.
+#[inline(always)]
+fn two(bytes: &[u8]) -> u64
+    requires { length bytes.now ≡ 2 }
+    ensures { result ≡ number bytes.now }
+{
+    u64::from(bytes[0]) * 256 + u64::from(bytes[1])
+}
+
+/// The number of four bytes, the most significant first. It is one load.
+#[inline(always)]
+fn four(bytes: &[u8]) -> u64
+    requires { length bytes.now ≡ 4 }
+    ensures { result ≡ number bytes.now }
+{
+    u64::from(u32::from_be_bytes([bytes[0], bytes[1], bytes[2], bytes[3]]))
+}
+
 /// The number of at most eight bytes, the most significant first.
 #[inline(always)]
 pub fn offset_of(bytes: &[u8]) -> u64
     requires { length bytes.now ≤ 8 }
     ensures { result ≡ number bytes.now }
 {
-    if bytes.len() == 1 {
-        u64::from(bytes[0])
-    } else {
-        big_endian(bytes)
+    match bytes.len() {
+        1 => u64::from(bytes[0]),
+        2 => two(bytes),
+        4 => four(bytes),
+        _ => big_endian(bytes),
     }
 }

@@ -17,5 +17,5 @@ returns c =
     let most = c.in-Some-checked_add.ensures in
     on_true_weaker c.are_within.result
     (λ (within : values_in (needs_in p.state) ≤ c.in-Some-checked_add.most) table limit underway some.
-    leads_front table limit c.args.bytes.now p.head p.start p.at p.marks.items p.state c.in-Some.n underway some cut (omega (arith, within, taken.0, taken.1, room.0, room.1, others.0, others.1, most.1)))
+    leads_front table limit c.args.bytes.now p.head p.start p.at p.marks.items p.notes.items p.state c.in-Some.n underway some cut (omega (arith, within, taken.0, taken.1, room.0, room.1, others.0, others.1, most.1)))
     c.are_within.ensures

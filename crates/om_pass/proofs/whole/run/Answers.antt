@@ -9,11 +9,11 @@ use Rattle.om_pass.proofs.RunLemmas.{leads_from, leads_marked, leads_further, le
 use Rattle.om_pass.proofs.whole.run.Goals as goal
 
 pub is_spent-requires : goal.is_spent-requires
-is_spent-requires c = leads_from (table_of c.args.table.now) c.args.limit c.args.bytes.now c.args.head.now c.args.start c.tokens.at c.tokens.marks.items (held c.tokens.now c.tokens.state.places.waiting c.tokens.state.types c.tokens.words) c.tokens.invariant
+is_spent-requires c = leads_from (table_of c.args.table.now) c.args.limit c.args.bytes.now c.args.head.now c.args.start c.tokens.at c.tokens.marks.items c.tokens.notes.items (held c.tokens.now c.tokens.state.places.waiting c.tokens.state.types c.tokens.words) c.tokens.invariant
 
 pub returns-then-is_spent : goal.returns-then-is_spent
 returns-then-is_spent c =
-    leads_end (table_of c.args.table.now) c.args.limit c.args.bytes.now c.args.head.now c.args.start c.tokens.at c.tokens.marks.items (held c.tokens.now c.tokens.state.places.waiting c.tokens.state.types c.tokens.words) _ c.requires.lawful.lawful c.tokens.invariant c.in_default.ensures refl refl c.if-is_spent.ensures
+    leads_end (table_of c.args.table.now) c.args.limit c.args.bytes.now c.args.head.now c.args.start c.tokens.at c.tokens.marks.items c.tokens.notes.items (held c.tokens.now c.tokens.state.places.waiting c.tokens.state.types c.tokens.words) _ c.requires.lawful.lawful c.tokens.invariant c.in_default.ensures refl refl c.if-is_spent.ensures
 
 pub tokens-preserved-in-Some-hot : goal.tokens-preserved-in-Some-hot
 tokens-preserved-in-Some-hot c =
@@ -21,7 +21,7 @@ tokens-preserved-in-Some-hot c =
     let middle : State = held c.in-Some.others c.first_place.new.waiting c.tokens.state.types c.tokens.words in
     let last : State = held c.in-Some-hot.next c.hot.new.waiting c.hot.new.types c.hot.new.words in
     let front = subst (λ rest. TookFront (table_of c.args.table.now) c.args.head.now.objects middle last (need_of c.in-Some.asked) rest c.in-Some-hot.n) (rest_from c.tokens.at c.args.bytes.now) c.in-Some-hot.ensures in
-    leads_further (table_of c.args.table.now) c.args.limit c.args.bytes.now c.args.head.now c.args.start c.tokens.at c.in-Some-hot.n c.tokens.marks.items first middle last (need_of c.in-Some.asked) c.tokens.invariant refl c.in-Some.ensures refl front
+    leads_further (table_of c.args.table.now) c.args.limit c.args.bytes.now c.args.head.now c.args.start c.tokens.at c.in-Some-hot.n c.tokens.marks.items c.tokens.notes.items first middle last (need_of c.in-Some.asked) c.tokens.invariant refl c.in-Some.ensures refl front
 
 pub tokens-preserved : goal.tokens-preserved
 tokens-preserved c =
@@ -32,10 +32,10 @@ tokens-preserved c =
     let own : c.len.result ≡ length c.hot.new.types.items = search rules in
     let many : c.len.result ≡ length (types_in c.tokens.state) = own ∙ ap (λ (s : State). length (types_in s)) kept in
     let marked = subst (λ n. IsMarked c.tokens.marks.items c.tokens.at n c.mark.new.marks.items) many c.in_ok-mark.ensures in
-    let took = subst (λ marks. TookTurn (table_of c.args.table.now) c.args.head.now.objects given c.turn.new.state (need_of c.in-Some.asked) c.args.bytes.now marks c.tokens.at c.in_ok-n.n) c.as_slice.ensures.value (c.in_ok-n.ensures (omega (arith, c.if-n-eq0.false))) in
-    leads_turn (table_of c.args.table.now) c.args.limit c.args.bytes.now c.args.head.now c.args.start c.tokens.at c.in_ok-n.n c.mark.new.marks.items first middle c.turn.new.state (need_of c.in-Some.asked)
-    (leads_marked (table_of c.args.table.now) c.args.limit c.args.bytes.now c.args.head.now c.args.start c.tokens.at c.tokens.marks.items c.mark.new.marks.items first marked c.tokens.invariant)
-    refl c.in-Some.ensures refl (subst (λ (s : State). TookTurn (table_of c.args.table.now) c.args.head.now.objects s c.turn.new.state (need_of c.in-Some.asked) c.args.bytes.now c.mark.new.marks.items c.tokens.at c.in_ok-n.n) kept took)
+    let took = subst (λ marks. TookTurn (table_of c.args.table.now) c.args.head.now.objects given c.turn.new.state (need_of c.in-Some.asked) c.args.bytes.now marks c.tokens.notes.items c.turn.new.notes.items c.tokens.at c.in_ok-n.n) c.as_slice.ensures.value (c.in_ok-n.ensures (omega (arith, c.if-n-eq0.false))) in
+    leads_turn (table_of c.args.table.now) c.args.limit c.args.bytes.now c.args.head.now c.args.start c.tokens.at c.in_ok-n.n c.mark.new.marks.items c.tokens.notes.items c.turn.new.notes.items first middle c.turn.new.state (need_of c.in-Some.asked)
+    (leads_marked (table_of c.args.table.now) c.args.limit c.args.bytes.now c.args.head.now c.args.start c.tokens.at c.tokens.marks.items c.mark.new.marks.items c.tokens.notes.items first marked c.tokens.invariant)
+    refl c.in-Some.ensures refl (subst (λ (s : State). TookTurn (table_of c.args.table.now) c.args.head.now.objects s c.turn.new.state (need_of c.in-Some.asked) c.args.bytes.now c.mark.new.marks.items c.tokens.notes.items c.turn.new.notes.items c.tokens.at c.in_ok-n.n) kept took)
 
 pub returns-then-is_cut : goal.returns-then-is_cut
 returns-then-is_cut c =
@@ -46,7 +46,7 @@ returns-then-is_cut c =
     let last : State = record { places = c.open.new.self; types = c.hot.new.types; words = c.hot.new.words } in
     let needs : needs_in last ≡ need_of c.in-Some.asked ∷ needs_in given = c.in_ok-open.ensures ∙ ap (λ ns. ns ++ needs_in given) c.again.ensures in
     let same : needs_in last ≡ need_of c.in-Some.asked ∷ needs_in middle = needs ∙ ap (λ (s : State). need_of c.in-Some.asked ∷ needs_in s) kept in (
-      leads_again (table_of c.args.table.now) c.args.limit c.args.bytes.now c.args.head.now c.args.start c.tokens.at c.tokens.marks.items first middle last (need_of c.in-Some.asked) c.tokens.invariant
+      leads_again (table_of c.args.table.now) c.args.limit c.args.bytes.now c.args.head.now c.args.start c.tokens.at c.tokens.marks.items c.tokens.notes.items first middle last (need_of c.in-Some.asked) c.tokens.invariant
           refl c.in-Some.ensures refl (ap (λ (s : State). types_in s) kept) same (ap (λ (s : State). s.words) kept),
       some_need (needs_in last) (need_of c.in-Some.asked) (needs_in middle) same,
     )

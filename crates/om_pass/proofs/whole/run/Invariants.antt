@@ -6,5 +6,5 @@ use Rattle.om_pass.proofs.whole.run.Given as goal
 -- the bytes up to here lead to what is held
 abbrev pub invariant-tokens : goal.invariant-tokens
 invariant-tokens l =
-    Leads (table_of l.table) l.limit l.bytes l.head l.start l.at l.marks.items
+    Leads (table_of l.table) l.limit l.bytes l.head l.start l.at l.marks.items l.notes.items
     (held l.now l.state.places.waiting l.state.types l.words)

@@ -12,7 +12,7 @@ pub look-requires-clause-underway : goal.look-requires-clause-underway
 look-requires-clause-underway c = λ begun.
     let p = c.args.self.now.passing in
     let table = table_of c.args.table.now in
-    let longer : IsUnderway table c.args.limit (c.args.self.now.kept.items ++ c.args.piece.now) p = leads_longer table c.args.limit c.args.self.now.kept.items c.args.piece.now p.head p.start p.at p.marks.items p.state (c.requires.glance.underway begun) in
+    let longer : IsUnderway table c.args.limit (c.args.self.now.kept.items ++ c.args.piece.now) p = leads_longer table c.args.limit c.args.self.now.kept.items c.args.piece.now p.head p.start p.at p.marks.items p.notes.items p.state (c.requires.glance.underway begun) in
     subst (λ bytes. IsUnderway table c.args.limit bytes p) (sym (c.as_slice.ensures.value ∙ c.in_ok-extend_from_slice.ensures.items)) longer
 
 pub returns-in-More : goal.returns-in-More

@@ -5,12 +5,12 @@ use Rattle.om_format.specs.Raw.{fixed_bytes, variable_bytes}
 use Rattle.om_format.specs.Token.{Token, SpellsAfter}
 use Rattle.om_pass.specs.Again.{IsSeen}
 use Rattle.om_pass.proofs.AgainLemmas.{looked}
-use Rattle.om_pass.proofs.again.look.Goals as goal
+use Rattle.om_pass.proofs.again.look_kind.Goals as goal
 
 pub returns : goal.returns
 returns c =
     let bytes = c.args.bytes.now in
-    let kind = c.in-Ok.kind in
+    let kind = c.args.kind in
     let len : ℕ = c.in-Some.len in
     let some : 0 < length bytes = search rules in
     let is : kind_of (get_or bytes 0 0) ≡ Ok kind = search rules in
