@@ -1,0 +1,201 @@
+-- Names that are found to be read back are so at the types of a table.
+use Rattle.std.proofs.Common.{◌≡◌, ◌≢◌, ℕ, suc, ◌+◌, ◌<◌, ◌≤◌, ⊎_elim, Bool, true, false, List, [], ◌∷◌, length, Option, Some, None, refl, sym, ap, subst, ◌∙◌, arith, get_or, lt-ltb}
+use Rattle.std.specs.Prelude.{slice_get, find, map, codes, Contains, unwrap_or, option_map, ◌&&◌}
+use Rattle.std.specs.List.{list_all, position, position_or_len}
+use Rattle.std.specs.Str.{bytes_eq}
+use Rattle.std.specs.Char.{is_ascii_uppercase}
+use Rattle.std.proofs.lemmas.Bool.{false≢true, and_from, cases_lt}
+use Rattle.std.proofs.lemmas.Slice.Eq.{bytes_eq-Decides}
+use Rattle.std.proofs.lemmas.List.{length-map}
+use Rattle.std.proofs.lemmas.List.Quantifiers.{position-Some}
+use Rattle.std.proofs.lemmas.List.Sums.{position_or_len_is}
+use Rattle.std.proofs.lemmas.Option.{none-some, slice_get_within, get_or_from_slice_get}
+use Rattle.om_model.proofs.Options.{Contains-none, Contains-cases}
+use Rattle.om_types.specs.declared.decl.Decl.{Decl}
+use Rattle.om_types.specs.declared.names.ConstrNames.{ConstrNames}
+use Rattle.om_types.specs.declared.names.TagName.{TagName}
+use Rattle.om_types.specs.declared.names.Names.{Names}
+use Rattle.om_types.specs.declared.shape.ShapeOf.{ShapeOf}
+use Rattle.om_types.specs.declared.shape.ShapeOf.TheVariants as shapes
+use Rattle.om_types.specs.Names.{names_of, no_names}
+use Rattle.om_types.specs.Shape.{shape}
+use Rattle.om_types.specs.Table.{with_parts, node_or_none}
+use Rattle.om_types.specs.Ty.{Ty}
+use Rattle.om_equal.proofs.TableLemmas.{slice_get-mapped, mapped_some}
+use Rattle.om_leaves.specs.Frames.{is_hash}
+use Rattle.om_lex.specs.Lexeme.{starts_lower, is_name_byte, Lower, Upper, IsForm}
+use Rattle.om_lexed.specs.Lexed.{Begins, Ends}
+use Rattle.om_lexed.proofs.LexedLemmas.{lexed_upper, lexed_empty, lexed_double_colon, begins_with}
+use Rattle.om_literal.specs.Starts.{is_constr, same_names}
+use Rattle.om_literal_grammar.specs.Literal.{upper_head, cons_head, empty_head}
+use Rattle.om_literal_texts.specs.Readable.{IsHead, AreFieldNames, AreSumNames, IsConstructorName, IsTagName, IsReadable}
+use Rattle.om_literal_texts.proofs.ObjectReadLemmas.{same_names_refl}
+use Rattle.om_show.specs.Tables.{shape_in, names_in}
+use Rattle.om_type_table.specs.declared.table.TypeTable.{TypeTable}
+use Rattle.om_type_table.specs.Made.{types_of, IsTypeTable}
+use Rattle.om_guess.specs.Spelled.{IsNoKeyword, has_name, AreConstantNames, AreConstructorNames, IsSpelled, SpelledAreReadable}
+
+-- ---- heads
+
+upper_begins : (name : List ℕ) → IsForm (Upper name) → Begins name
+upper_begins [] is = absurd is
+upper_begins (b ∷ bs) is = record { first = b; others = bs; is = refl; no_star = λ e. absurd (false≢true (ap is_ascii_uppercase (sym e) ∙ is.0)) }
+
+pub upper_is_head : (name : List ℕ) → IsForm (Upper name) → IsHead name
+upper_is_head name is = record { head = upper_head name; lexed = lexed_upper name is; named = refl; begins = upper_begins name is }
+
+cons_is_head : IsHead (codes "::")
+cons_is_head = record { head = cons_head; lexed = lexed_double_colon Ends; named = refl; begins = begins_with 58 _ (λ e. absurd (omega arith)) }
+
+empty_is_head : IsHead (codes "[]")
+empty_is_head = record { head = empty_head; lexed = lexed_empty Ends; named = refl; begins = begins_with 91 _ (λ e. absurd (omega arith)) }
+
+pub cons_head_by : (name : List ℕ) → bytes_eq name (codes "::") ≡ true → IsHead name
+cons_head_by name e = subst IsHead (sym ((bytes_eq-Decides name (codes "::")).0 e)) cons_is_head
+
+pub empty_head_by : (name : List ℕ) → bytes_eq name (codes "[]") ≡ true → IsHead name
+empty_head_by name e = subst IsHead (sym ((bytes_eq-Decides name (codes "[]")).0 e)) empty_is_head
+
+-- ---- words
+
+pub lower_form : (name : List ℕ) (d : ℕ) → 0 < length name → starts_lower (get_or name 0 d) ≡ true → list_all is_name_byte name ≡ true → IsNoKeyword name → IsForm (Lower name)
+lower_form [] d some starts all free = absurd (omega (arith, some))
+lower_form (b ∷ bs) d some starts all free = ((starts, all), free)
+
+pub upper_form : (name : List ℕ) (d : ℕ) → 0 < length name → is_ascii_uppercase (get_or name 0 d) ≡ true → list_all is_name_byte name ≡ true → IsForm (Upper name)
+upper_form [] d some starts all = absurd (omega (arith, some))
+upper_form (b ∷ bs) d some starts all = (starts, all)
+
+-- ---- one name more
+
+pub more_known : {X : Type 0} (P : ℕ → X → Type 0) (xs : List X) (i : ℕ) → ((j : ℕ) (x : X) → j < i → slice_get xs j ≡ Some x → P j x)
+    → ((x : X) → slice_get xs i ≡ Some x → P i x) → (j : ℕ) (x : X) → j < i + 1 → slice_get xs j ≡ Some x → P j x
+more_known P xs i known this j x below at =
+    ⊎_elim (λ less. known j x less at) (λ rest. let same : i ≡ j = omega (arith, below, rest) in subst (λ k. P k x) same (this x (subst (λ k. slice_get xs k ≡ Some x) (sym same) at))) (cases_lt j i)
+
+pub all_known : {X : Type 0} (P : ℕ → X → Type 0) (xs : List X) (i : ℕ) → length xs ≤ i → ((j : ℕ) (x : X) → j < i → slice_get xs j ≡ Some x → P j x)
+    → (j : ℕ) (x : X) → slice_get xs j ≡ Some x → P j x
+all_known P xs i all known j x at = known j x (omega (arith, all, slice_get_within xs j x at)) at
+
+pub sum_names : (names : Names) → AreConstantNames names → AreConstructorNames names → AreSumNames names
+sum_names names constants constructors = record { constant = constants; constructor = constructors }
+
+pub spelled_there : (table : TypeTable) (i : ℕ) (s : ShapeOf ℕ) (names : Names) → slice_get table.nodes i ≡ Some s → slice_get table.names i ≡ Some names
+    → IsSpelled s names → IsSpelled (shape_in table i) (names_in table i)
+spelled_there table i s names e f h =
+    subst (λ x. IsSpelled x (names_in table i)) (sym (ap node_or_none e))
+    (subst (λ (n : Names). IsSpelled s n) (sym (ap (λ o. unwrap_or o no_names) f)) h)
+
+pub spelled_more : (table : TypeTable) (i : ℕ) → ((j : ℕ) → j < i → IsSpelled (shape_in table j) (names_in table j)) → IsSpelled (shape_in table i) (names_in table i)
+    → (j : ℕ) → j < i + 1 → IsSpelled (shape_in table j) (names_in table j)
+spelled_more table i known this j below =
+    ⊎_elim (known j) (λ rest. let same : i ≡ j = omega (arith, below, rest) in subst (λ k. IsSpelled (shape_in table k) (names_in table k)) same this) (cases_lt j i)
+
+-- ---- the constructor of a name is the first one of the name and its fields
+
+-- where the first that passes a test passes a stronger one too, it is the first that does
+position_too : {X : Type 0} (p q : X → Bool) (xs : List X) (i : ℕ) (d : X) → ((x : X) → p x ≡ false → q x ≡ false) → position p xs ≡ Some i → q (get_or xs i d) ≡ true → position q xs ≡ Some i
+position_too p q xs i d weaker first passes =
+    let f = position-Some p xs i d first in
+    let l : position_or_len q xs ≡ i = position_or_len_is q xs i d (omega (arith, f.0)) (λ k less. weaker (get_or xs k d) (f.2 k less)) (λ _. passes) in
+    rw (l, lt-ltb i (length xs) f.0) refl
+
+no_other_fields : (name : List ℕ) (fields : List (List ℕ)) (c : ConstrNames) → has_name name c ≡ false → is_constr name fields c ≡ false
+no_other_fields name fields c e = rw e refl
+
+pub constructor_found : (names : Names) (tag : ℕ) (c : ConstrNames) → slice_get names.constructors tag ≡ Some c → IsHead c.name → AreFieldNames c.fields
+    → position (has_name c.name) names.constructors ≡ Some tag → IsConstructorName names tag c
+constructor_found names tag c at head fields first = record {
+  is_head = head;
+  fields = fields;
+  one = position_too (has_name c.name) (is_constr c.name c.fields) names.constructors tag c (no_other_fields c.name c.fields) first
+      (subst (λ (x : ConstrNames). is_constr c.name c.fields x ≡ true) (sym (get_or_from_slice_get names.constructors tag c c at))
+      (and_from _ _ ((bytes_eq-Decides c.name c.name).1 refl) (same_names_refl c.fields)));
+}
+
+-- ---- at types in place of their numbers
+
+kept : {T U : Type 0} (f : T → U) (s : ShapeOf T) (names : Names) → IsSpelled s names → IsSpelled (with_parts f s) names
+kept f shapes.AnyInt names h = h
+kept f (shapes.Below k) names h = h
+kept f (shapes.Bytes mutable) names h = h
+kept f shapes.Double names h = h
+kept f shapes.Int32 names h = h
+kept f shapes.Int64 names h = h
+kept f shapes.Native names h = h
+kept f (shapes.Sum constants blocks) names h = h
+kept f (shapes.Product mutable ts) names h = (h.0, λ none. subst (λ n. 2 ≤ n) (sym (length-map ts f)) (h.1 none))
+kept f (shapes.FlatFloats mutable n) names h = h
+kept f (shapes.ArrayOf t) names h = h
+kept f shapes.FloatArray names h = h
+kept f (shapes.Poly tags) names h = h
+kept f shapes.Variable names h = h
+kept f shapes.ArrayOfVariable names h = h
+kept f shapes.Anything names h = h
+kept f (shapes.ArrayOfAnything t) names h = h
+
+no_tag : (names : Names) (z : _) (tag : TagName) → names.tags ≡ [] → find (is_hash z) names.tags ≡ Some tag → ⊥
+no_tag names z tag none found = none-some tag (subst (λ ts. find (is_hash z) ts ≡ Some tag) none found)
+
+readable : (s : ShapeOf Ty) (names : Names) → IsSpelled (with_parts Some s) names → IsReadable s names
+readable shapes.AnyInt names h = h
+readable (shapes.Below k) names h = h
+readable (shapes.Bytes mutable) names h = h
+readable shapes.Double names h = h
+readable shapes.Int32 names h = h
+readable shapes.Int64 names h = h
+readable shapes.Native names h = h
+readable (shapes.Sum constants blocks) names h = h
+readable (shapes.Product mutable ts) names h = (h.0, λ none. subst (λ n. 2 ≤ n) (length-map ts Some) (h.1 none))
+readable (shapes.FlatFloats mutable n) names h = h
+readable (shapes.ArrayOf t) names h = h
+readable shapes.FloatArray names h = h
+readable (shapes.Poly tags) names h = λ z tag found. absurd (no_tag names z tag h found)
+readable shapes.Variable names h = h
+readable shapes.ArrayOfVariable names h = h
+readable shapes.Anything names h = h
+readable (shapes.ArrayOfAnything t) names h = h
+
+module _ (decls : List Decl) (t : Ty) (table : TypeTable) (is : IsTypeTable decls t table) where
+  abbrev Is : ℕ → Ty → Type 0
+  Is i u = slice_get (types_of table) i ≡ Some u
+
+  abbrev type_if : ℕ → Option Ty
+  type_if i = slice_get (types_of table) i
+
+  -- the shape at a number is the type's, but for numbers in the place of types
+  shape_is : (i : ℕ) (u : Ty) → Is i u → with_parts type_if (shape_in table i) ≡ with_parts Some (shape decls u)
+  shape_is i u at =
+      let found = mapped_some (with_parts type_if) (slice_get table.nodes i) (with_parts Some (shape decls u))
+      (sym (slice_get-mapped (with_parts type_if) table.nodes i)
+      ∙ ap (λ all. slice_get all i) is.made.nodes
+      ∙ slice_get-mapped (λ u. with_parts Some (shape decls u)) (types_of table) i
+      ∙ ap (option_map (λ u. with_parts Some (shape decls u))) at) in
+      ap (λ node. with_parts type_if (node_or_none node)) found.1 ∙ found.2
+
+  names_are : (i : ℕ) (u : Ty) → Is i u → names_in table i ≡ names_of decls u
+  names_are i u at =
+      ap (λ all. unwrap_or (slice_get all i) no_names) is.named
+      ∙ ap (λ found. unwrap_or found no_names) (slice_get-mapped (names_of decls) (types_of table) i)
+      ∙ ap (λ found. unwrap_or (option_map (names_of decls) found) no_names) at
+
+  sizes : length table.nodes ≡ length (types_of table)
+  sizes =
+      sym (length-map table.nodes (with_parts (slice_get (types_of table))))
+      ∙ ap length is.made.nodes
+      ∙ length-map (types_of table) (λ (t : Ty). with_parts Some (shape decls t))
+
+contains_at : {X : Type 0} (xs : List X) (x : X) → Contains xs x → (i : ℕ) × (slice_get xs i ≡ Some x)
+contains_at [] x among = absurd (Contains-none x among)
+contains_at (y ∷ ys) x among = ⊎_elim (λ here. (0, ap Some here)) (λ later. let r = contains_at ys x later in (suc r.0, r.1)) (Contains-cases y ys x among)
+
+pub spelled_are_readable : SpelledAreReadable
+spelled_are_readable decls t table is spelled u among =
+    let found = contains_at (types_of table) u among in
+    let i = found.0 in
+    let at = found.1 in
+    let within : i < length table.nodes = omega (arith, slice_get_within (types_of table) i u at, sizes decls t table is) in
+    readable (shape decls u) (names_of decls u)
+    (subst (λ (names : Names). IsSpelled (with_parts Some (shape decls u)) names) (names_are decls t table is i u at)
+    (subst (λ s. IsSpelled s (names_in table i)) (shape_is decls t table is i u at)
+    (kept (slice_get (types_of table)) (shape_in table i) (names_in table i) (spelled i within))))

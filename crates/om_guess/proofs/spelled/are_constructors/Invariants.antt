@@ -1,0 +1,11 @@
+use Rattle.std.proofs.Common.{ℕ, ◌≡◌, ◌<◌, Some, length}
+use Rattle.std.specs.Prelude.{slice_get}
+use Rattle.om_types.specs.declared.names.ConstrNames.{ConstrNames}
+use Rattle.om_literal_texts.specs.Readable.{IsConstructorName}
+use Rattle.om_guess.proofs.spelled.are_constructors.Given as goal
+
+-- those before it are read back
+abbrev pub invariant-loop-tag : goal.invariant-loop-tag
+invariant-loop-tag l =
+    (l.tag-end ≡ length l.names.constructors)
+    × ((j : ℕ) (constr : ConstrNames) → j < l.tag → slice_get l.names.constructors j ≡ Some constr → IsConstructorName l.names j constr)

@@ -1,0 +1,214 @@
+//! What a part of a text begins with, at its type.
+
+use crate::open::Open;
+use crate::scan::{after, double, front, integer, name_len, plain_len, string};
+use om_heap::Heap;
+use om_model::Memory;
+use om_model::list::List;
+use om_model::value::Val;
+use om_type_table::TypeTable;
+use om_types::names::{ConstrNames, Names};
+use om_types::shape::{Constr, ShapeOf};
+use std::alloc::Global;
+
+/// A value, the block whose parts are to come, if it is one, and what follows in the text.
+#[derive(Clone, Copy)]
+pub struct Begun<'a, 't> {
+    pub value: Val,
+    pub inner: Option<Open<'a>>,
+    pub rest: &'t [u8],
+}
+
+/// A value without parts.
+#[inline(always)]
+fn whole<'a, 't>(value: Val, rest: &'t [u8]) -> Option<Begun<'a, 't>> {
+    Some(Begun {
+        value,
+        inner: None,
+        rest,
+    })
+}
+
+/// An integer.
+#[inline(always)]
+fn begin_integer<'a, 't>(text: &'t [u8]) -> Option<Begun<'a, 't>> {
+    let (z, rest) = integer(text);
+    whole(Val::Int(z), rest)
+}
+
+/// `()`, `false` or `true`.
+fn begin_below<'a, 't>(many: u64, text: &'t [u8]) -> Option<Begun<'a, 't>> {
+    if many == 1 {
+        return whole(Val::Int(0), after(text, 2));
+    }
+    if many != 2 {
+        return None;
+    }
+    match text {
+        [b't', ..] => whole(Val::Int(1), after(text, 4)),
+        _ => whole(Val::Int(0), after(text, 5)),
+    }
+}
+
+/// A string of these bytes.
+#[inline(always)]
+fn add_string(heap: &mut Heap, bytes: &[u8]) -> Result<Val, Memory> {
+    if bytes.len() >= 1 << 56 {
+        return Err(Memory);
+    }
+    Ok(Val::Ref(heap.add_bytes_of(bytes)?))
+}
+
+/// A string that has escapes.
+fn begin_escaped<'a, 't>(
+    alloc: Global,
+    heap: &mut Heap,
+    text: &'t [u8],
+) -> Result<Option<Begun<'a, 't>>, Memory> {
+    let Some((bytes, rest)) = string(alloc, text)? else {
+        return Ok(None);
+    };
+    let value = add_string(heap, bytes.as_slice())?;
+    Ok(whole(value, rest))
+}
+
+/// The string whose quote stands before the text.
+#[inline(always)]
+fn begin_string<'a, 't>(
+    alloc: Global,
+    heap: &mut Heap,
+    text: &'t [u8],
+) -> Result<Option<Begun<'a, 't>>, Memory> {
+    let count = plain_len(text);
+    match after(text, count) {
+        [b'"', rest @ ..] => {
+            let value = add_string(heap, front(text, count))?;
+            Ok(whole(value, rest))
+        }
+        _ => begin_escaped(alloc, heap, text),
+    }
+}
+
+/// The double whose `$` stands before the text.
+#[inline(always)]
+fn begin_double<'a, 't>(heap: &mut Heap, text: &'t [u8]) -> Result<Option<Begun<'a, 't>>, Memory> {
+    let (bits, rest) = double(text);
+    let value = Val::Ref(heap.add_double(bits)?);
+    Ok(whole(value, rest))
+}
+
+/// A block, before its first part.
+#[inline(always)]
+fn begin_block<'a, 't>(
+    heap: &mut Heap,
+    tag: usize,
+    types: &'a [usize],
+    fields: &'a [List<u8>],
+    rest: &'t [u8],
+) -> Result<Option<Begun<'a, 't>>, Memory> {
+    if tag > 243 || types.is_empty() || types.len() >= 1 << 53 {
+        return Ok(None);
+    }
+    let block = heap.add_block(tag as u8, types.len() as u64)?;
+    Ok(Some(Begun {
+        value: Val::Ref(block),
+        inner: Some(Open {
+            block,
+            next: 0,
+            types,
+            fields,
+        }),
+        rest,
+    }))
+}
+
+/// Whether a constructor has the name, and names of fields or none.
+#[inline(always)]
+fn is_named(constr: &ConstrNames, name: &[u8], plain: bool) -> bool {
+    constr.name.as_slice() == name && constr.fields.as_slice().is_empty() == plain
+}
+
+/// A constructor with arguments, whose name stands before the text.
+#[inline(always)]
+fn begin_carrying<'a, 't>(
+    heap: &mut Heap,
+    names: &'a Names,
+    blocks: &'a [Constr<usize>],
+    name: &[u8],
+    plain: bool,
+    text: &'t [u8],
+) -> Result<Option<Begun<'a, 't>>, Memory> {
+    let all = names.constructors.as_slice();
+    let Some(tag) = all.iter().position(|constr| is_named(constr, name, plain)) else {
+        return Ok(None);
+    };
+    if tag >= blocks.len() || tag >= all.len() {
+        return Ok(None);
+    }
+    let types = blocks[tag].fields.as_slice();
+    begin_block(heap, tag, types, all[tag].fields.as_slice(), after(text, 1))
+}
+
+/// A constructor without arguments.
+#[inline(always)]
+fn begin_constant<'a, 't>(names: &Names, name: &[u8], rest: &'t [u8]) -> Option<Begun<'a, 't>> {
+    let place = names
+        .constants
+        .as_slice()
+        .iter()
+        .position(|other| other.as_slice() == name);
+    match place {
+        Some(i) if i < 1 << 62 => whole(Val::Int(i as i64), rest),
+        _ => None,
+    }
+}
+
+/// A constructor.
+#[inline(always)]
+fn begin_constructor<'a, 't>(
+    heap: &mut Heap,
+    names: &'a Names,
+    blocks: &'a [Constr<usize>],
+    text: &'t [u8],
+) -> Result<Option<Begun<'a, 't>>, Memory> {
+    let count = name_len(text);
+    let name = front(text, count);
+    let rest = after(text, count);
+    match rest {
+        [b'(', ..] => begin_carrying(heap, names, blocks, name, true, rest),
+        [b'{', ..] => begin_carrying(heap, names, blocks, name, false, rest),
+        _ => Ok(begin_constant(names, name, rest)),
+    }
+}
+
+/// What a part begins with, at the type of this number.
+#[inline(always)]
+pub fn begin<'a, 't>(
+    alloc: Global,
+    heap: &mut Heap,
+    table: &'a TypeTable,
+    t: usize,
+    text: &'t [u8],
+) -> Result<Option<Begun<'a, 't>>, Memory> {
+    let Some(shape) = table.nodes.as_slice().get(t) else {
+        return Ok(None);
+    };
+    let Some(names) = table.names.as_slice().get(t) else {
+        return Ok(None);
+    };
+    match shape {
+        ShapeOf::AnyInt => Ok(begin_integer(text)),
+        ShapeOf::Below(many) => Ok(begin_below(*many, text)),
+        ShapeOf::Bytes(_) => begin_string(alloc, heap, after(text, 1)),
+        ShapeOf::Double => begin_double(heap, after(text, 1)),
+        ShapeOf::Sum(_, blocks) => begin_constructor(heap, names, blocks.as_slice(), text),
+        ShapeOf::Product(_, types) => begin_block(
+            heap,
+            0,
+            types.as_slice(),
+            names.fields.as_slice(),
+            after(text, 1),
+        ),
+        _ => Ok(None),
+    }
+}

@@ -1,0 +1,234 @@
+//! Whether the names of types are such that the texts of their values are read back.
+
+ghost use Rattle.std.specs.Prelude.{ℕ, List as Seq, ◌≡◌, ◌<◌, Some, IsTrue, codes, length, slice_get};
+ghost use Rattle.std.specs.List.{list_all, position};
+ghost use Rattle.std.specs.Str.{bytes_eq};
+ghost use Rattle.om_lex.specs.Lexeme.{starts_lower, is_name_byte, Lower, Upper, IsForm};
+ghost use Rattle.om_literal_texts.specs.Readable.{IsHead, AreFieldNames, IsConstantName, IsConstructorName};
+ghost use Rattle.om_types.specs.declared.names.ConstrNames.{ConstrNames};
+ghost use Rattle.om_guess.specs.Spelled.{IsNoKeyword, AreConstantNames, AreConstructorNames, IsSpelled, AreSpelled, has_name};
+
+use om_model::list::List;
+use om_type_table::TypeTable;
+use om_types::names::{ConstrNames, Names};
+use om_types::shape::ShapeOf;
+
+/// Whether a name may begin so in lower case.
+fn starts_lower(b: u8) -> bool
+    ensures { result ≡ starts_lower b }
+{
+    b.is_ascii_lowercase() || b == b'_'
+}
+
+/// Whether a name may go on so.
+fn is_name_byte(b: u8) -> bool
+    ensures { result ≡ is_name_byte b }
+{
+    b.is_ascii_alphanumeric() || b == b'_' || b == b'\''
+}
+
+/// Whether a word is none of the keywords.
+fn is_no_keyword(name: &[u8]) -> bool
+    ensures { IsTrue result → IsNoKeyword name.now }
+{
+    name != b"type".as_slice()
+        && name != b"and".as_slice()
+        && name != b"of".as_slice()
+        && name != b"mutable".as_slice()
+}
+
+/// Whether a name may go on with these bytes.
+fn are_name_bytes(name: &[u8]) -> bool
+    ensures { result ≡ list_all is_name_byte name.now }
+{
+    name.iter().all(|b| is_name_byte(*b))
+}
+
+/// Whether it is a name in lower case.
+fn is_lower(name: &[u8]) -> bool
+    ensures { IsTrue result → IsForm (Lower name.now) }
+{
+    if name.is_empty() {
+        return false;
+    }
+    let starts = starts_lower(name[0]);
+    if starts {
+        if are_name_bytes(name) {
+            return is_no_keyword(name);
+        }
+    }
+    false
+}
+
+/// Whether it is a name in upper case.
+fn is_upper(name: &[u8]) -> bool
+    ensures { IsTrue result → IsForm (Upper name.now) }
+{
+    if name.is_empty() {
+        return false;
+    }
+    let starts = name[0].is_ascii_uppercase();
+    if starts {
+        return are_name_bytes(name);
+    }
+    false
+}
+
+/// Whether it is the name of a list with elements.
+fn is_cons(name: &[u8]) -> bool
+    ensures { result ≡ bytes_eq name.now (codes "::") }
+{
+    name == b"::".as_slice()
+}
+
+/// Whether it is the name of the list without elements.
+fn is_empty_list(name: &[u8]) -> bool
+    ensures { result ≡ bytes_eq name.now (codes "[]") }
+{
+    name == b"[]".as_slice()
+}
+
+/// Whether it is the name of a constructor, but for `ref`.
+fn is_head(name: &[u8]) -> bool
+    ensures { IsTrue result → IsHead name.now }
+{
+    if is_upper(name) {
+        return true;
+    }
+    if is_cons(name) {
+        return true;
+    }
+    is_empty_list(name)
+}
+
+/// Whether they are names in lower case.
+fn are_fields(fields: &[List<u8>]) -> bool
+    ensures { IsTrue result → AreFieldNames fields.now }
+{
+    fields.iter().all(|field| is_lower(field.as_slice()))
+}
+
+/// The place of a name.
+fn place(all: &[List<u8>], name: &[u8]) -> Option<usize>
+    ensures { result ≡ position (bytes_eq name.now) all.now }
+{
+    all.iter().position(|other| name == other.as_slice())
+}
+
+/// Whether a constructor has the name.
+fn has_name(constr: &ConstrNames, name: &[u8]) -> bool
+    ensures { result ≡ has_name name.now constr.now }
+{
+    constr.name.as_slice() == name
+}
+
+/// The place of the constructor of a name.
+fn constructor_place(all: &[ConstrNames], name: &[u8]) -> Option<usize>
+    ensures { result ≡ position (has_name name.now) all.now }
+{
+    all.iter().position(|constr| has_name(constr, name))
+}
+
+/// Whether a place is this one.
+fn is_place(found: Option<usize>, i: usize) -> bool
+    ensures { IsTrue result → found ≡ Some i }
+{
+    match found {
+        Some(j) => j == i,
+        None => false,
+    }
+}
+
+/// Whether constant i is read back.
+fn is_constant(names: &Names, i: usize) -> bool
+    requires { i < length names.now.constants }
+    ensures { IsTrue result
+        → (name : Seq ℕ) → slice_get names.now.constants i ≡ Some name
+        → IsConstantName names.now i name }
+{
+    let name = names.constants.as_slice()[i].as_slice();
+    is_head(name) && is_place(place(names.constants.as_slice(), name), i)
+}
+
+/// Whether the constructor of this tag, which is this one, is read back.
+fn is_this_constructor(names: &Names, constr: &ConstrNames, tag: usize) -> bool
+    ensures { IsTrue result → slice_get names.now.constructors tag ≡ Some constr.now
+        → IsConstructorName names.now tag constr.now }
+{
+    if is_head(constr.name.as_slice()) {
+        if are_fields(constr.fields.as_slice()) {
+            let found = constructor_place(names.constructors.as_slice(), constr.name.as_slice());
+            return is_place(found, tag);
+        }
+    }
+    false
+}
+
+/// Whether the constructor of this tag is read back.
+fn is_constructor(names: &Names, tag: usize) -> bool
+    ensures { IsTrue result
+        → (constr : ConstrNames) → slice_get names.now.constructors tag ≡ Some constr
+        → IsConstructorName names.now tag constr }
+{
+    match names.constructors.as_slice().get(tag) {
+        Some(constr) => is_this_constructor(names, constr, tag),
+        None => true,
+    }
+}
+
+/// Whether all constants are read back.
+fn are_constants(names: &Names) -> bool
+    ensures { IsTrue result → AreConstantNames names.now }
+{
+    for i in 0..names.constants.as_slice().len() {
+        if !is_constant(names, i) {
+            return false;
+        }
+    }
+    true
+}
+
+/// Whether all other constructors are read back.
+fn are_constructors(names: &Names) -> bool
+    ensures { IsTrue result → AreConstructorNames names.now }
+{
+    for tag in 0..names.constructors.as_slice().len() {
+        if !is_constructor(names, tag) {
+            return false;
+        }
+    }
+    true
+}
+
+/// Whether the names of a type of this shape are read back.
+#[tactic(auto, using(crate::proofs::SpelledLemmas::sum_names))]
+fn is_spelled_at(shape: &ShapeOf<usize>, names: &Names) -> bool
+    ensures { IsTrue result → IsSpelled shape.now names.now }
+{
+    match shape {
+        ShapeOf::Below(many) => *many == 1 || *many == 2 || *many == 256,
+        ShapeOf::Sum(_, _) => are_constants(names) && are_constructors(names),
+        ShapeOf::Product(_, types) => {
+            are_fields(names.fields.as_slice())
+                && (!names.fields.as_slice().is_empty() || types.as_slice().len() >= 2)
+        }
+        ShapeOf::FlatFloats(_, _) => are_fields(names.fields.as_slice()),
+        ShapeOf::Poly(_) => names.tags.as_slice().is_empty(),
+        ShapeOf::Anything => false,
+        ShapeOf::ArrayOfAnything(_) => false,
+        _ => true,
+    }
+}
+
+/// Whether the names of all types of a table are read back, and none has tags.
+pub fn is_spelled(table: &TypeTable) -> bool
+    requires { length table.now.names ≡ length table.now.nodes }
+    ensures { IsTrue result → AreSpelled table.now }
+{
+    for i in 0..table.nodes.as_slice().len() {
+        if !is_spelled_at(table.shape(i), table.names(i)) {
+            return false;
+        }
+    }
+    true
+}

@@ -1,0 +1,38 @@
+//! Whether a text is that of a value.
+
+ghost use Rattle.std.specs.Prelude.{◌≡◌, ◌<◌, length, IfOk, IsTrue};
+ghost use Rattle.om_model.specs.Graph.{IsValue};
+ghost use Rattle.om_types.specs.Table.{table_shapes};
+ghost use Rattle.om_types.specs.Typing.{HasType};
+ghost use Rattle.om_type_table.specs.Made.{table_of, IsLawful};
+ghost use Rattle.om_show.specs.Shown.{shown_text};
+ghost use Rattle.om_show.specs.Tables.{shape_in, names_in};
+
+use om_heap::Heap;
+use om_model::Memory;
+use om_model::value::Val;
+use om_print::put_shown_at;
+use om_type_table::TypeTable;
+use std::alloc::Global;
+
+/// Whether the text of a value at the type of number 0 is this one.
+pub fn has_text(
+    alloc: Global,
+    heap: &Heap,
+    v: Val,
+    table: &TypeTable,
+    text: &[u8],
+) -> Result<bool, Memory>
+    requires value { IsValue (length heap.now) v }
+    requires lawful { IsLawful (table_of table.now) }
+    requires named { length table.now.names ≡ length table.now.nodes }
+    requires typed { HasType (table_shapes (table_of table.now)) heap.now v 0 }
+    ensures { IfOk result
+        (λ same. IsTrue same
+        → shown_text (shape_in table.now) (names_in table.now) heap.now v 0 ≡ text.now) }
+{
+    let mut own = Vec::new(alloc);
+    own.reserve(text.len())?;
+    put_shown_at(&mut own, alloc, heap, v, table, table.root())?;
+    Ok(own.as_slice() == text)
+}
