@@ -1,13 +1,9 @@
 -- What a line is by a table is what it is at the table's type.
-use Rattle.std.proofs.Common.{ℕ, ◌≡◌, ◌⊎◌, List, [], ◌∷◌, ◌++◌, length, Option, Some, None, Result, Ok, Err, inl, inr, refl, sym, ap, ◌∙◌, subst}
-use Rattle.std.specs.Prelude.{slice_get}
+use Rattle.std.proofs.Common.{ℕ, ◌≡◌, List, [], Some, Ok, Err, refl, sym, ap, ◌∙◌, subst}
 use Rattle.om_model.specs.declared.value.Val.{Val}
 use Rattle.om_model.specs.declared.value.Val.TheVariants as vals
 use Rattle.om_model.specs.declared.value.Obj.{Obj}
 use Rattle.om_lex.specs.declared.lexeme.Lexeme.{Lexeme}
-use Rattle.om_lex.specs.declared.lexeme.LexFault.{LexFault}
-use Rattle.om_lex.specs.LexText.{Lexes, Faults}
-use Rattle.om_types.specs.declared.decl.Decl.{Decl}
 use Rattle.om_types.specs.Names.{names_of}
 use Rattle.om_types.specs.Shape.{shape}
 use Rattle.om_types.specs.Ty.{Ty}
@@ -20,15 +16,13 @@ use Rattle.om_literal.specs.declared.fault.LiteralFault.{LiteralFault}
 use Rattle.om_literal.specs.declared.fault.LiteralFault.TheVariants as literals
 use Rattle.om_literal.specs.LiteralAnswers.{shape_in, names_in, in_bytes, fault_of, IsAnswer, IsMisread}
 use Rattle.om_literal.specs.Reading.{Refusal, misfit_at, int_range_at, label_at}
-use Rattle.om_literal_alike.specs.Alike.{TablesReadAlike}
 use Rattle.om_edit.specs.declared.spots.Spot.TheVariants as spots
 use Rattle.om_edit.specs.declared.spots.Place.{Place}
 use Rattle.om_edit.specs.EditedValues.{Answer, IsSetAt}
 use Rattle.om_edit.specs.Reasons.{Reason, no_field, not_block, no_literal, misread, ill_typed, literal_text, literal_or_none, literal_reason}
-use Rattle.om_edit.proofs.AlikeLemmas.{SetAlike, set_at_alike, ReasonsAgree, AnswersAgree, literal_text_same}
+use Rattle.om_edit.proofs.AlikeLemmas.{set_at_alike, AnswersAgree, literal_text_same}
 use Rattle.om_declared.specs.Language.{TypeOver}
-use Rattle.om_text.specs.Text.{IsTextAnswer}
-use Rattle.om_build.specs.Lines.{AreText, IsText, IsRefused, declared_texts}
+use Rattle.om_build.specs.Lines.{AreText}
 
 -- any value: what stands at the root before a text is put there is nowhere used
 abbrev pub before : Val

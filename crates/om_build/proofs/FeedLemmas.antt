@@ -1,8 +1,7 @@
 -- Where the first line feed stands in some bytes.
-use Rattle.std.proofs.Common.{◌≡◌, ℕ, zero, suc, ◌+◌, ◌<◌, ◌≤◌, List, [], ◌∷◌, ◌++◌, length, take, drop, refl, sym, ap, ◌∙◌, subst, arith}
+use Rattle.std.proofs.Common.{◌≡◌, ℕ, zero, suc, ◌+◌, ◌<◌, List, [], ◌∷◌, ◌++◌, length, take, drop, refl, sym, ap, ◌∙◌, arith}
 use Rattle.std.proofs.lemmas.Bool.Decides.{Decides-eqb}
 use Rattle.memchr.specs.Find.{Nowhere, Passes, is_byte}
-use Rattle.om_texts.specs.Texts.{IsUnbroken}
 use Rattle.om_build.proofs.TextsLemmas.{IsFeedAt}
 
 next_suc : (n : ℕ) → suc n + 1 ≡ suc (n + 1)

@@ -3,3 +3,4 @@ pub mod OnceLemmas
 pub mod StepLemmas
 pub mod TextsLemmas
 pub mod FeedLemmas
+pub mod GuessLemmas

@@ -1,5 +1,5 @@
 -- A line is read in one way at a type that was read.
-use Rattle.std.proofs.Common.{ℕ, ◌≡◌, ◌≢◌, List, [], length, Result, Ok, Err, inl, inr, refl, sym, ap, ◌∙◌, subst}
+use Rattle.std.proofs.Common.{ℕ, ◌≡◌, List, [], length, Result, Ok, Err, inl, inr, refl, sym, ap, ◌∙◌, subst}
 use Rattle.om_model.specs.declared.value.Val.{Val}
 use Rattle.om_model.specs.declared.value.Obj.{Obj}
 use Rattle.om_lex.specs.declared.lexeme.Lexeme.{Lexeme}
@@ -23,7 +23,7 @@ use Rattle.om_edit.specs.Reasons.{Reason, literal_text}
 use Rattle.om_edit.proofs.MadeLemmas.{set_once}
 use Rattle.om_promises.specs.Lawful.{IsOnce}
 use Rattle.om_declared.specs.Language.{TypeOver}
-use Rattle.om_texts.specs.Texts.{Built, blank, made, refused, untyped}
+use Rattle.om_texts.specs.Texts.{blank, made, refused, untyped}
 use Rattle.om_build.specs.Lines.{AreText, IsText, IsMade, IsUntyped, IsRefused, declared_texts}
 use Rattle.om_build.proofs.AlikeLemmas.{before, at_root, put_of_text}
 

@@ -12,7 +12,6 @@ use Rattle.om_edge.specs.State.{ByteState, Change, change}
 use Rattle.om_promises.proofs.PutLemmas.{puts_nothing}
 use Rattle.om_stops.specs.declared.stop.Halt.{Halt}
 use Rattle.om_stops.specs.declared.stop.Halt.TheVariants as halts
-use Rattle.om_stops.specs.declared.stop.Stop.{Stop}
 use Rattle.om_stops.specs.declared.stop.Stop.TheVariants as stops
 use Rattle.om_text.specs.declared.text.TextFault.{TextFault}
 use Rattle.om_text.specs.declared.text.TextFault.TheVariants as faults
@@ -73,7 +72,7 @@ plain_bytes tree None = refl
 plain_bytes tree (Some large) = refl
 
 -- the bytes of a value, whatever reader is to hold them, are the canonical ones
-bytes_plain :
+pub bytes_plain :
     (graph : List Obj) (root : Val) (bytes : List ℕ) → AreBytesOf false graph root (Ok bytes)
     → (tree : Tree) × IsTreeOf graph root tree × (bytes ≡ canon tree)
 bytes_plain graph root bytes (tree, of, is) =
@@ -81,7 +80,7 @@ bytes_plain graph root bytes (tree, of, is) =
     is ∙ plain_bytes tree (too_large_for_32 tree) in
     (tree, of, cc e)
 
-never_none :
+pub never_none :
     (graph : List Obj) (root : Val) (why : Unedited) → AreBytesOf false graph root (Err why) → ⊥
 never_none graph root why (tree, of, is) =
     let e : ◌≡◌ {A = Result (List ℕ) Unedited} (Err why) (Ok (canon tree)) =

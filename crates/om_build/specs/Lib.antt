@@ -1,2 +1,3 @@
+pub mod Guessed
 pub mod Lines
 pub mod Steps

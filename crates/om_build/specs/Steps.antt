@@ -12,7 +12,6 @@ use Rattle.om_outcome.specs.Outcome as outcome
 use Rattle.om_outcome.specs.Outcome.{text_line, untyped_value, out_of_memory, Said, all_well}
 use Rattle.om_stops.specs.declared.stop.Halt.{Halt}
 use Rattle.om_stops.specs.declared.stop.Halt.TheVariants as halts
-use Rattle.om_stops.specs.declared.stop.Stop.{Stop}
 use Rattle.om_stops.specs.Stops.{stop_of}
 use Rattle.om_promises.specs.Commands.{Item, SaysFirst}
 use Rattle.om_work.specs.Works.{Has, HaltsIn}

@@ -3,6 +3,7 @@
 #![tactic(auto)]
 
 mod fault;
+mod guessed;
 pub mod laws;
 mod line;
 mod texts;

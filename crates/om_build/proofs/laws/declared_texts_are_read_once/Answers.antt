@@ -1,5 +1,4 @@
 use Rattle.om_declared.proofs.GivenLemmas.{given_sound}
-use Rattle.om_declared.specs.Language.{TypeOver}
 use Rattle.om_build.proofs.OnceLemmas.{built_once}
 use Rattle.om_build.proofs.laws.declared_texts_are_read_once.Goals as goal
 

@@ -1,0 +1,122 @@
+//! Long texts that `show` put: a value is guessed, and kept where it has the type and the text.
+
+ghost use Rattle.std.specs.Prelude.{◌≡◌, length, IfOk, IfSome, IsTrue};
+ghost use Rattle.om_model.specs.Graph.{IsValue};
+ghost use Rattle.om_types.specs.Table.{table_shapes};
+ghost use Rattle.om_types.specs.Typing.{HasType};
+ghost use Rattle.om_type_table.specs.Made.{table_of};
+ghost use Rattle.om_guess.specs.Spelled.{AreSpelled};
+ghost use Rattle.om_declared.specs.Types.{type_over, IsReady};
+ghost use Rattle.om_build.specs.Guessed.{IsRight};
+
+use om_check::Verdict;
+use om_declared::{Requested, find_verdict};
+use om_guess::{guess, has_text, is_spelled, spelled_are_readable};
+use om_heap::Heap;
+use om_model::Memory;
+use om_model::value::Val;
+use om_same_type::{the_same_has_the_same_text, the_same_has_the_same_types};
+use om_show::laws::roots_show_alike;
+use om_table::tables_decide;
+use om_text::texts_are_read_again;
+use om_type_table::TypeTable;
+use om_type_table::laws::tables_are_lawful;
+use std::alloc::Global;
+
+/// The table is looked through for each text that is guessed, which has so many bytes for each of
+/// its types.
+const BYTES_A_TYPE: usize = 64;
+
+/// Whether a text is long beside the table, and the names of this are read back.
+fn is_worth_it(table: &TypeTable, line: &[u8]) -> bool
+    requires { length table.now.names ≡ length table.now.nodes }
+    ensures { IsTrue result → AreSpelled table.now }
+{
+    line.len() / BYTES_A_TYPE >= table.len() && is_spelled(table)
+}
+
+/// Whether a value has the type.
+fn is_typed(alloc: Global, heap: &Heap, root: Val, requested: &Requested) -> Result<bool, Memory>
+    requires value { IsValue (length heap.now) root }
+    requires ready { IsReady requested.now }
+    ensures { IfOk result
+        (λ typed. IsTrue typed
+        → HasType (table_shapes (table_of requested.now.table)) heap.now root 0) }
+{
+    match find_verdict(alloc, heap, root, requested)? {
+        Verdict::Yes(_) => Ok(true),
+        Verdict::No(_) => Ok(false),
+    }
+}
+
+/// Whether a value that has the type is one that a line stands for: whether it has the text.
+fn is_told(
+    alloc: Global,
+    heap: &Heap,
+    root: Val,
+    requested: &Requested,
+    line: &[u8],
+) -> Result<bool, Memory>
+    requires value { IsValue (length heap.now) root }
+    requires ready { IsReady requested.now }
+    requires spelled { AreSpelled requested.now.table }
+    requires typed { HasType (table_shapes (table_of requested.now.table)) heap.now root 0 }
+    ensures { IfOk result
+        (λ right. IsTrue right → IsRight (type_over requested.now) line.now heap.now root) }
+{
+    tables_are_lawful();
+    tables_decide();
+    roots_show_alike();
+    the_same_has_the_same_types();
+    the_same_has_the_same_text();
+    spelled_are_readable();
+    texts_are_read_again();
+    if heap.count() >= 1 << 62 {
+        return Ok(false);
+    }
+    has_text(alloc, heap, root, &requested.table, line)
+}
+
+/// Whether a value is one that a line stands for: whether it has the type, and the text.
+fn is_right(
+    alloc: Global,
+    heap: &Heap,
+    root: Val,
+    requested: &Requested,
+    line: &[u8],
+) -> Result<bool, Memory>
+    requires value { IsValue (length heap.now) root }
+    requires ready { IsReady requested.now }
+    requires spelled { AreSpelled requested.now.table }
+    ensures { IfOk result
+        (λ right. IsTrue right → IsRight (type_over requested.now) line.now heap.now root) }
+{
+    if !is_typed(alloc, heap, root, requested)? {
+        return Ok(false);
+    }
+    is_told(alloc, heap, root, requested, line)
+}
+
+/// The value that a line stands for, with its objects, where it is guessed; or none, and then the
+/// line is still to be read.
+pub fn guess_line(
+    alloc: Global,
+    heap: &mut Heap,
+    requested: &Requested,
+    line: &[u8],
+) -> Result<Option<Val>, Memory>
+    requires { IsReady requested.now }
+    ensures { IfOk result
+        (λ found. IfSome found (IsRight (type_over requested.now) line.now heap.new)) }
+{
+    if !is_worth_it(&requested.table, line) {
+        return Ok(None);
+    }
+    let Some(root) = guess(alloc, heap, &requested.table, line)? else {
+        return Ok(None);
+    };
+    if !is_right(alloc, heap, root, requested, line)? {
+        return Ok(None);
+    }
+    Ok(Some(root))
+}
