@@ -1,6 +1,7 @@
 //! Tests of what is said and done with values at types.
 
 mod certificates;
+mod doubles;
 mod dumps;
 mod generated;
 mod given;

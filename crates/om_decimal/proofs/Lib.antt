@@ -1,0 +1,12 @@
+pub mod SizeLemmas
+pub mod LevelLemmas
+pub mod NearestLemmas
+pub mod SearchLemmas
+pub mod RaisedLemmas
+pub mod ClosestLemmas
+pub mod UniqueLemmas
+pub mod ReadLemmas
+pub mod LayoutLemmas
+pub mod ReadBackLemmas
+pub mod LimbsLemmas
+pub mod RoomLemmas

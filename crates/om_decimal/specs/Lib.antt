@@ -1,0 +1,5 @@
+pub mod Limbs
+pub mod Doubles
+pub mod Layout
+pub mod Reading
+pub mod Laws

@@ -1,0 +1,37 @@
+-- Decimals in a text, and the doubles that they stand for.
+use Rattle.std.specs.Prelude.{ℕ, ◌+◌, ◌≡◌, Bool, ◌&&◌, ◌||◌, ◌==◌, nat_lt, if◌then◌else◌, List, length, drop, slice_index, Option, Some, None, to_bits}
+use Rattle.std.specs.Float.Ieee.{binary64}
+use Rattle.fast_float.specs.Text.{Parts, scan, nearest}
+
+-- 45 is the minus
+abbrev pub begins_with_minus : List ℕ → Bool
+begins_with_minus text = slice_index text 0 == 45
+
+abbrev pub minus_len : List ℕ → ℕ
+minus_len text = if begins_with_minus text then 1 else 0
+
+-- the longest numeral at the front, behind a minus
+abbrev pub numeral_in : List ℕ → Parts
+numeral_in text = scan (drop (minus_len text) text)
+
+-- digits stand before the point, and there is a point or an exponent
+abbrev pub is_decimal : Parts → Bool
+is_decimal p = nat_lt 0 (length p.whole) && (p.point || nat_lt 0 (length p.exponent))
+
+-- the bits of the double nearest to the number
+abbrev pub bits_of : Bool → Parts → ℕ
+bits_of negative p = to_bits binary64 (nearest binary64 negative p)
+
+-- the decimal at the front of a text: the bits of its double, and how many bytes it has
+abbrev pub decimal_at : List ℕ → Option (ℕ × ℕ)
+decimal_at text =
+    if is_decimal (numeral_in text)
+    then Some (
+      bits_of (begins_with_minus text) (numeral_in text),
+      minus_len text + (numeral_in text).len,
+    )
+    else None
+
+-- a decimal that is all of the text stands for the double with these bits
+abbrev pub IsRead : List ℕ → ℕ → Type 0
+IsRead text bits = decimal_at text ≡ Some (bits, length text)

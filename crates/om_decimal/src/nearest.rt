@@ -1,0 +1,116 @@
+//! Of the decimals with one power that read as a double the nearest one.
+
+ghost use Rattle.std.specs.Prelude.{◌≡◌, ◌*◌, ◌+◌, ◌-◌, ◌<◌, ◌^◌, true, false};
+ghost use Rattle.std.specs.Ordering.{nat_cmp};
+ghost use Rattle.om_decimal.specs.Doubles.{IsSome, Reads, units_of, double_units, decimal_units, IsNoBetterAbove, IsNoBetterBelow};
+
+use crate::big::Big;
+use crate::reads::{BIAS, reads};
+use std::cmp::Ordering;
+
+/// The digits of the double's size, as an integer, and the power of two that they are times.
+fn parts_of(size: u64) -> (u64, u64)
+    requires { IsSome size }
+    ensures value { result.0 * 2 ^ result.1 ≡ units_of size }
+    ensures small { (result.0 < 2 ^ 53) × (result.1 < 2046) }
+{
+    let field = size >> 52;
+    if field == 0 {
+        return (size, 0);
+    }
+    ((1 << 52) + (size & ((1 << 52) - 1)), field - 1)
+}
+
+/// Twice the double against the decimal halfway between these digits and the next ones, twice.
+fn against_halfway(size: u64, digits: u64, power: u64) -> Ordering
+    requires some { IsSome size }
+    requires small { power < 651 }
+    ensures { result
+        ≡ nat_cmp (2 * double_units size power) (decimal_units (2 * digits + 1) power) }
+{
+    let (significand, exponent) = parts_of(size);
+    let mut double = Big::new(significand);
+    double.times_two_to(exponent + 1);
+    double.times_ten_to(BIAS.saturating_sub(power));
+    let mut decimal = Big::new(digits);
+    decimal.mul_add(2, 1);
+    decimal.times_ten_to(power.saturating_sub(BIAS));
+    decimal.times_two_to(1074);
+    double.compare(&decimal)
+}
+
+/// Whether the next digits are better.
+fn is_better_above(size: u64, digits: u64, power: u64) -> bool
+    requires some { IsSome size }
+    requires reads { Reads size digits power }
+    ensures so { result ≡ true → Reads size (digits + 1) power }
+    ensures not { result ≡ false → IsNoBetterAbove size digits power }
+{
+    if !reads(size, digits + 1, power) {
+        return false;
+    }
+    match against_halfway(size, digits, power) {
+        Ordering::Less => false,
+        Ordering::Equal => digits % 2 == 1,
+        Ordering::Greater => true,
+    }
+}
+
+/// Whether the digits before are better; then those themselves are no better than they.
+fn is_better_below(size: u64, digits: u64, power: u64) -> bool
+    requires some { IsSome size }
+    requires reads { Reads size digits power }
+    ensures so { result ≡ true → Reads size (digits - 1) power }
+    ensures turned { result ≡ true → IsNoBetterAbove size (digits - 1) power }
+    ensures not { result ≡ false → IsNoBetterBelow size digits power }
+{
+    if !reads(size, digits - 1, power) {
+        return false;
+    }
+    match against_halfway(size, digits - 1, power) {
+        Ordering::Less => true,
+        Ordering::Equal => digits % 2 == 1,
+        Ordering::Greater => false,
+    }
+}
+
+/// Goes up while the next digits are better.
+fn up(size: u64, digits: u64, power: u64) -> u64
+    requires some { IsSome size }
+    requires reads { Reads size digits power }
+    ensures reads { Reads size result power }
+    ensures above { IsNoBetterAbove size result power }
+{
+    let mut digits = digits;
+    while is_better_above(size, digits, power) {
+        digits += 1;
+    }
+    digits
+}
+
+/// Goes down while the digits before are better.
+fn down(size: u64, digits: u64, power: u64) -> u64
+    requires some { IsSome size }
+    requires reads { Reads size digits power }
+    requires above { IsNoBetterAbove size digits power }
+    ensures reads { Reads size result power }
+    ensures above { IsNoBetterAbove size result power }
+    ensures below { IsNoBetterBelow size result power }
+{
+    let mut digits = digits;
+    while is_better_below(size, digits, power) {
+        digits -= 1;
+    }
+    digits
+}
+
+/// From a decimal that reads as the double, one with the same power that is nearest to it.
+pub fn nearest(size: u64, digits: u64, power: u64) -> u64
+    requires some { IsSome size }
+    requires reads { Reads size digits power }
+    ensures reads { Reads size result power }
+    ensures above { IsNoBetterAbove size result power }
+    ensures below { IsNoBetterBelow size result power }
+{
+    down(size, up(size, digits, power), power)
+}

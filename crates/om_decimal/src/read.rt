@@ -1,0 +1,41 @@
+//! Decimals in a text.
+
+ghost use Rattle.std.specs.Prelude.{◌≡◌, ◌≤◌, true, length, IfSome};
+ghost use Rattle.om_decimal.specs.Reading.{begins_with_minus, is_decimal, decimal_at};
+
+use fast_float::Numeral;
+
+/// Whether a minus stands at the front.
+fn begins_with_minus(text: &[u8]) -> bool
+    ensures value { result ≡ begins_with_minus text.now }
+    ensures some { result ≡ true → 1 ≤ length text.now }
+{
+    match text {
+        [first, ..] => *first == b'-',
+        [] => false,
+    }
+}
+
+/// Whether a numeral is that of a decimal: there are digits before the point, and there is a point or
+/// an exponent.
+fn is_decimal(numeral: &Numeral<'_>) -> bool
+    ensures { result ≡ is_decimal numeral.now }
+{
+    !numeral.whole().is_empty() && (numeral.has_point() || !numeral.exponent().is_empty())
+}
+
+/// The decimal at the front of a text: the bits of the double nearest to it, which may be infinite,
+/// and how many bytes it has.
+pub fn read_decimal(text: &[u8]) -> Option<(u64, usize)>
+    ensures value { result ≡ decimal_at text.now }
+    ensures within { IfSome result (λ r. r.1 ≤ length text.now) }
+{
+    let negative = begins_with_minus(text);
+    let minus = usize::from(negative);
+    let numeral = Numeral::scan(&text[minus..]);
+    if !is_decimal(&numeral) {
+        return None;
+    }
+    let double: f64 = numeral.to_float(negative);
+    Some((double.to_bits(), minus + numeral.len()))
+}

@@ -1,0 +1,31 @@
+//! Whether a decimal reads as a double.
+
+ghost use Rattle.std.specs.Prelude.{◌≡◌, true, false};
+ghost use Rattle.om_decimal.specs.Doubles.{IsSome, Reads};
+
+use fast_float::nearest_bits;
+
+/// The size of infinity.
+pub const INFINITE: u64 = 0x7ff0_0000_0000_0000;
+
+/// A decimal is digits * 10 ^ (power - BIAS).
+pub const BIAS: u64 = 342;
+
+/// A decimal with this power, or a greater one, reads as infinity.
+pub const POWERS: u64 = 651;
+
+/// The least number of more than 19 digits.
+pub const TOO_MANY: u64 = 10_000_000_000_000_000_000;
+
+/// Whether a decimal of at most 19 digits reads as the double of this size.
+#[inline]
+pub fn reads(size: u64, digits: u64, power: u64) -> bool
+    requires { IsSome size }
+    ensures so { result ≡ true → Reads size digits power }
+    ensures not { result ≡ false → ¬ Reads size digits power }
+{
+    if digits == 0 || digits >= TOO_MANY || power >= POWERS {
+        return false;
+    }
+    nearest_bits::<f64>(digits, power) == size
+}

@@ -1,0 +1,60 @@
+//! A decimal that reads as a double, where the one that was tried does not.
+
+ghost use Rattle.std.specs.Prelude.{ℕ, ◌+◌, ◌<◌, ◌≤◌, ◌^◌, MatchOption};
+ghost use Rattle.om_decimal.specs.Doubles.{IsSome, IsNearest, Reads, HasNone};
+
+use crate::hint::hint;
+use crate::reads::{POWERS, TOO_MANY, reads};
+use fast_float::nearest_bits;
+
+/// The least digits with which the decimal of this power reads as no lesser double than that of this
+/// size; or the greatest digits, where there are none.
+fn least_digits(size: u64, power: u64) -> u64
+    requires { power < 651 }
+    ensures range { (0 < result) × (result < 10 ^ 19) }
+    ensures least { (digits : ℕ) → 0 < digits → digits < result → (other : ℕ)
+        → IsNearest other digits power → other < size }
+    ensures reaches { result + 1 < 10 ^ 19 → (other : ℕ)
+        → IsNearest other result power → size ≤ other }
+{
+    let mut low = 1;
+    let mut high = TOO_MANY - 1;
+    while low < high {
+        let middle = low + (high - low) / 2;
+        if nearest_bits::<f64>(middle, power) < size {
+            low = middle + 1;
+        } else {
+            high = middle;
+        }
+    }
+    low
+}
+
+/// A decimal that reads as the double of this size, by a search of all powers. No run is known to
+/// come here.
+#[cold]
+#[inline(never)]
+fn search(size: u64) -> Option<(u64, u64)>
+    requires { IsSome size }
+    ensures { MatchOption result (HasNone size) (λ d. Reads size d.0 d.1) }
+{
+    for power in 0..POWERS {
+        let digits = least_digits(size, power);
+        if nearest_bits::<f64>(digits, power) == size {
+            return Some((digits, power));
+        }
+    }
+    None
+}
+
+/// A decimal that reads as the double of this size, if one does.
+pub fn some_decimal(size: u64) -> Option<(u64, u64)>
+    requires { IsSome size }
+    ensures { MatchOption result (HasNone size) (λ d. Reads size d.0 d.1) }
+{
+    let (digits, power) = hint(size);
+    if reads(size, digits, power) {
+        return Some((digits, power));
+    }
+    search(size)
+}

@@ -1,0 +1,59 @@
+//! Doubles as text.
+
+ghost use Rattle.std.specs.Prelude.{ℕ, List, ◌≡◌, ◌<◌, ◌^◌, ◌++◌, OnOk, codes};
+ghost use Rattle.std.specs.Fmt.{sign_text};
+ghost use Rattle.om_decimal.specs.Doubles.{is_negative};
+ghost use Rattle.om_decimal.specs.Layout.{IsDoubleText, size_text};
+
+use crate::layout::put_size;
+use crate::reads::INFINITE;
+use crate::shortest::shortest;
+use om_leaves::{put, put_float};
+use om_model::Memory;
+
+/// The bit of the sign.
+const SIGN: u64 = 1 << 63;
+
+/// Puts the minus of a negative double.
+fn put_sign(text: &mut Vec<u8>, bits: u64) -> Result<(), Memory>
+    ensures { OnOk result (text.new.items ≡ text.old.items ++ sign_text (is_negative bits)) }
+{
+    put(text, if bits >= SIGN { b"-" } else { b"" })
+}
+
+/// Puts a zero.
+fn put_zero(text: &mut Vec<u8>, bits: u64) -> Result<(), Memory>
+    ensures { OnOk result (text.new.items
+        ≡ text.old.items ++ (sign_text (is_negative bits) ++ codes "0.")) }
+{
+    put_sign(text, bits)?;
+    put(text, b"0.")
+}
+
+/// Puts a decimal with the sign of a double.
+fn put_signed(text: &mut Vec<u8>, bits: u64, digits: u64, power: u64) -> Result<(), Memory>
+    requires { (digits < 10 ^ 19) × (power < 651) }
+    ensures { OnOk result (text.new.items
+        ≡ text.old.items ++ (sign_text (is_negative bits) ++ size_text digits power)) }
+{
+    put_sign(text, bits)?;
+    put_size(text, digits, power)
+}
+
+/// Puts a double: a finite one as the shortest decimal, any other one by its bits.
+pub fn put_double(text: &mut Vec<u8>, bits: u64) -> Result<(), Memory>
+    ensures { OnOk result ((written : List ℕ) × IsDoubleText bits written
+        × (text.new.items ≡ text.old.items ++ written)) }
+{
+    let size = bits % SIGN;
+    if size == 0 {
+        return put_zero(text, bits);
+    }
+    if size >= INFINITE {
+        return put_float(text, bits);
+    }
+    match shortest(size) {
+        Some((digits, power)) => put_signed(text, bits, digits, power),
+        None => put_float(text, bits),
+    }
+}
