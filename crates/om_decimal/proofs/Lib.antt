@@ -7,6 +7,7 @@ pub mod ClosestLemmas
 pub mod UniqueLemmas
 pub mod ReadLemmas
 pub mod LayoutLemmas
+pub mod ScanLemmas
 pub mod ReadBackLemmas
 pub mod LimbsLemmas
 pub mod RoomLemmas

@@ -11,10 +11,10 @@ use lib.Ieee.Scale.{round_same}
 use Rattle.fast_float.specs.Text.{Parts, IsWellFormed, nearest, text_of}
 use Rattle.fast_float.proofs.ExactLemmas.{ten_to_pos}
 use Rattle.fast_float.proofs.Extremes.{nearest_of_zero}
-use Rattle.fast_float.proofs.Writing.{scan-text_of}
+use Rattle.om_decimal.proofs.ScanLemmas.{scan_before}
 use Rattle.ryu.proofs.Signs as signs
 use Rattle.om_decimal.specs.Doubles.{size_of, is_negative, infinite, IsNearest}
-use Rattle.om_decimal.specs.Reading.{IsRead, is_decimal, decimal_at, bits_of}
+use Rattle.om_decimal.specs.Reading.{IsRead, Stops, is_decimal, decimal_at, bits_of}
 use Rattle.om_leaves.specs.Leaves.{float_text}
 use Rattle.om_decimal.specs.Layout.{IsDoubleText, size_text}
 use Rattle.om_decimal.proofs.NearestLemmas.{few_powers}
@@ -35,21 +35,22 @@ bits_are bits digits power p few h near worth =
 
 -- ---- the text itself
 
-no_minus : (ds rest : List ℕ) → AllDigits 10 ds → 0 < length ds → eqb (get_or (ds ++ rest) 0 0) 45 ≡ false
-no_minus [] rest h l = absurd (omega arith)
-no_minus (d ∷ ds) rest h l = let r = digit_from_value d h.0 in ne_eqb d 45 (λ e. omega arith)
+no_minus : (ds x after : List ℕ) → AllDigits 10 ds → 0 < length ds → eqb (get_or ((ds ++ x) ++ after) 0 0) 45 ≡ false
+no_minus [] x after h l = absurd (omega arith)
+no_minus (d ∷ ds) x after h l = let r = digit_from_value d h.0 in ne_eqb d 45 (λ e. omega arith)
 
-read_text : (negative : Bool) (p : Parts) → IsWellFormed p → 0 < length p.whole → is_decimal p ≡ true
-    → decimal_at (sign_text negative ++ text_of p) ≡ Some (bits_of negative p, length (sign_text negative ++ text_of p))
-read_text true p w some d = rw (scan-text_of p w, d, w.len_is) (let z : 1 + length (text_of p) ≡ suc (length (text_of p)) = omega arith in λ i. Some (bits_of true p, z i))
-read_text false p w some d = rw (no_minus p.whole _ w.whole_digits some, scan-text_of p w, d, w.len_is) (let z : 0 + length (text_of p) ≡ length (text_of p) = omega arith in λ i. Some (bits_of false p, z i))
+read_text : (negative : Bool) (p : Parts) (after : List ℕ) → Stops after → IsWellFormed p → 0 < length p.whole → is_decimal p ≡ true
+    → decimal_at ((sign_text negative ++ text_of p) ++ after) ≡ Some (bits_of negative p, length (sign_text negative ++ text_of p))
+read_text true p after stop w some d = rw (scan_before p after w stop, d, w.len_is) (let z : 1 + length (text_of p) ≡ suc (length (text_of p)) = omega arith in λ i. Some (bits_of true p, z i))
+read_text false p after stop w some d = rw (no_minus p.whole _ after w.whole_digits some, scan_before p after w stop, d, w.len_is) (let z : 0 + length (text_of p) ≡ length (text_of p) = omega arith in λ i. Some (bits_of false p, z i))
 
 pub read_back : (bits digits power : ℕ) (text size : List ℕ) → bits < 2 ^ 64 → size_of bits ≤ infinite → IsNearest (size_of bits) digits power → IsNumeralOf size digits power
     → text ≡ sign_text (is_negative bits) ++ size → IsRead text bits
 read_back bits digits power text size few h near n is =
     let whole = is ∙ ap (λ t. sign_text (is_negative bits) ++ t) n.text_is in
     subst (λ t. IsRead t bits) (sym whole)
-    (read_text (is_negative bits) n.parts n.well_formed n.whole n.decimal ∙ (λ i. Some (bits_are bits digits power n.parts few h near n.worth i, length (sign_text (is_negative bits) ++ text_of n.parts))))
+    (λ after stop. read_text (is_negative bits) n.parts after stop n.well_formed n.whole n.decimal
+    ∙ (λ i. Some (bits_are bits digits power n.parts few h near n.worth i, length (sign_text (is_negative bits) ++ text_of n.parts))))
 
 zero_near : (bits : ℕ) → size_of bits ≡ 0 → IsNearest (size_of bits) 0 342
 zero_near bits e = subst (λ s. IsNearest s 0 342) (sym e) (nearest_of_zero binary64 (0 * 10 ^ (342 - 342)) (10 ^ (342 - 342)) (ten_to_pos (342 - 342)) (omega arith))

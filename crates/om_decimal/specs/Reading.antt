@@ -1,5 +1,6 @@
 -- Decimals in a text, and the doubles that they stand for.
-use Rattle.std.specs.Prelude.{ℕ, ◌+◌, ◌≡◌, Bool, ◌&&◌, ◌||◌, ◌==◌, nat_lt, if◌then◌else◌, List, length, drop, slice_index, Option, Some, None, to_bits}
+use Rattle.std.specs.Prelude.{ℕ, ◌+◌, ◌≡◌, ◌≢◌, Bool, false, ◌&&◌, ◌||◌, ◌==◌, nat_lt, if◌then◌else◌, List, [], ◌∷◌, ◌++◌, length, drop, slice_index, Option, Some, None, to_bits}
+use Rattle.std.specs.Char.{is_ascii_digit}
 use Rattle.std.specs.Float.Ieee.{binary64}
 use Rattle.fast_float.specs.Text.{Parts, scan, nearest}
 
@@ -32,6 +33,12 @@ decimal_at text =
     )
     else None
 
--- a decimal that is all of the text stands for the double with these bits
+-- no decimal goes on with these bytes: 46 is the point, 101 and 69 are `e` and `E`
+abbrev pub Stops : List ℕ → Type 0
+Stops [] = Unit {0}
+Stops (b ∷ bs) = (is_ascii_digit b ≡ false) × (b ≢ 46) × (b ≢ 101) × (b ≢ 69)
+
+-- all of the text is a decimal that stands for the double with these bits, before whatever stops it
 abbrev pub IsRead : List ℕ → ℕ → Type 0
-IsRead text bits = decimal_at text ≡ Some (bits, length text)
+IsRead text bits =
+    (after : List ℕ) → Stops after → decimal_at (text ++ after) ≡ Some (bits, length text)
