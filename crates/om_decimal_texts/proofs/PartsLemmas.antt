@@ -1,0 +1,175 @@
+-- A text with its doubles as decimals, part after part.
+use Rattle.std.proofs.Common.{◌≡◌, ◌⊎◌, ◌∙◌, ℕ, ◌+◌, ◌-◌, ◌&&◌, ◌||◌, ◌==◌, Bool, true, false, List, [], ◌∷◌, ◌++◌, length, get_or, slice_range, slice_index_or, refl, sym, ap, subst, arith, inl, inr, append-nil, append_assoc, length-append, take_at, drop_at, add-zero, get_or-append-add}
+use Rattle.std.specs.List.{flat_map, AllByRecursion}
+use Rattle.std.specs.Str.{bytes_eq}
+use Rattle.std.proofs.lemmas.Bool.{and_parts}
+use Rattle.std.proofs.lemmas.Slice.Eq.{bytes_eq-Decides}
+use Rattle.om_lex.specs.declared.lexeme.Lexeme.{Lexeme}
+use Rattle.om_lex.specs.Lexeme.{number_in, Form, Reserved, Lower, Upper, Tag, Variable, Character, Number, Quoted, Double, Mark, form_bytes, form_kind}
+use Rattle.om_lex.specs.LexText.{Part, Separator, Comment, Word, part_bytes, AreParts, lexemes_of}
+use Rattle.om_leaves.specs.Leaves.{float_text}
+use Rattle.om_decimal.specs.Layout.{IsDoubleText}
+use Rattle.om_decimal_texts.specs.Texts.{may_precede, may_follow, stands_alone, IsPutIf, IsPutFor, IsReplaced}
+use Rattle.om_decimal_texts.specs.Laws.{IsApart}
+use Rattle.om_decimal_texts.proofs.SpelledLemmas.{first_of, opens, ends_open, ends_append, IsKept, part_some}
+
+-- this byte may stand behind a decimal
+abbrev pub follows : ℕ → Bool
+follows b = b == 32 || b == 41 || b == 44 || b == 59 || b == 124 || b == 125
+
+-- a double of which the decimal is put
+pub record IsDecimalPut (opened : Bool) (p : Part) (r put : List ℕ) : Type 0 where
+  pub digits : List ℕ
+  pub is : p ≡ Word (Double digits)
+  pub written : form_bytes (Double digits) ≡ float_text (number_in 16 digits)
+  pub text : IsDoubleText (number_in 16 digits) put
+  pub before : opened ≡ true
+  pub behind : follows (first_of r) ≡ true
+
+abbrev pub IsPutPart : Bool → Part → List ℕ → List ℕ → Type 0
+IsPutPart opened p r put = (put ≡ part_bytes p) ⊎ IsDecimalPut opened p r put
+
+-- behind what opens or does not
+abbrev pub ArePut : Bool → List Part → List ℕ → Type 0
+ArePut opened [] new = new ≡ []
+ArePut opened (p ∷ ps) new =
+    (put : List ℕ) × (rest : List ℕ) × IsPutPart opened p (flat_map part_bytes ps) put
+    × ArePut (ends_open (part_bytes p)) ps rest × (new ≡ put ++ rest)
+
+abbrev pub AreKept : List Part → Type 0
+AreKept [] = Unit {0}
+AreKept (p ∷ ps) = IsKept p (flat_map part_bytes ps) × AreKept ps
+
+-- ---- what stands at a place
+
+at_end : (x y : List ℕ) → slice_index_or (x ++ y) (length x) 32 ≡ first_of y
+at_end x y = rw add-zero at (get_or-append-add x y 0 32) ∙ first y
+  where
+    first : (y : List ℕ) → get_or y 0 32 ≡ first_of y
+    first [] = refl
+    first (b ∷ bs) = refl
+
+last_is : (x : ℕ) (xs rest : List ℕ) → opens (get_or (x ∷ (xs ++ rest)) (length xs) 32) ≡ ends_open (x ∷ xs)
+last_is x [] rest = refl
+last_is x (y ∷ xs) rest = last_is y xs rest
+
+precede_is : (x rest : List ℕ) → may_precede (x ++ rest) (length x) ≡ ends_open x
+precede_is [] rest = refl
+precede_is (x ∷ xs) rest = last_is x xs rest
+
+module _ (text before : List ℕ) (place : ℕ) (at : length before ≡ place) (form : Form) (r : List ℕ) (is : text ≡ before ++ (form_bytes form ++ r)) where
+  here : slice_range text place (place + length (form_bytes form)) ≡ form_bytes form
+  here =
+      let long : place + length (form_bytes form) - place ≡ length (form_bytes form) = omega arith in
+      rw (is, drop_at before (form_bytes form ++ r) place at, long) (take_at (form_bytes form) r (length (form_bytes form)) refl)
+
+  precede_here : may_precede text place ≡ ends_open before
+  precede_here = rw (is, ← at) (precede_is before (form_bytes form ++ r))
+
+  next_here : slice_index_or text (place + length (form_bytes form)) 32 ≡ first_of r
+  next_here =
+      let cut : text ≡ (before ++ form_bytes form) ++ r = is ∙ sym (append_assoc before (form_bytes form) r) in
+      let long : place + length (form_bytes form) ≡ length (before ++ form_bytes form) = omega (arith, length-append before (form_bytes form)) in
+      rw (cut, long) (at_end (before ++ form_bytes form) r)
+
+  same_put : (put : List ℕ) → put ≡ slice_range text place (place + length (form_bytes form)) → IsPutPart (ends_open before) (Word form) r put
+  same_put put e = inl (e ∙ here)
+
+double_put : (text before : List ℕ) (place : ℕ) → length before ≡ place → (ds r : List ℕ) → text ≡ before ++ (form_bytes (Double ds) ++ r) → (put : List ℕ)
+    → (alone : Bool) → stands_alone text place (place + length (form_bytes (Double ds))) (float_text (number_in 16 ds)) ≡ alone
+    → IsPutIf alone (number_in 16 ds) (slice_range text place (place + length (form_bytes (Double ds)))) put → IsPutPart (ends_open before) (Word (Double ds)) r put
+double_put text before place at ds r is put false test put_is = same_put text before place at (Double ds) r is put put_is
+double_put text before place at ds r is put true test put_is =
+    let last = place + length (form_bytes (Double ds)) in
+    let first = and_parts (may_precede text place && may_follow text last) (bytes_eq (slice_range text place last) (float_text (number_in 16 ds))) test in
+    let second = and_parts (may_precede text place) (may_follow text last) first.0 in
+    inr (record {
+      digits = ds;
+      is = refl;
+      written = sym (here text before place at (Double ds) r is) ∙ (bytes_eq-Decides (slice_range text place last) (float_text (number_in 16 ds))).0 first.1;
+      text = put_is;
+      before = sym (precede_here text before place at (Double ds) r is) ∙ second.0;
+      behind = ap follows (sym (next_here text before place at (Double ds) r is)) ∙ second.1;
+    })
+
+form_put : (text before : List ℕ) (place : ℕ) → length before ≡ place → (form : Form) (r : List ℕ) → text ≡ before ++ (form_bytes form ++ r) → (put : List ℕ)
+    → IsPutFor text (form_kind form) place (place + length (form_bytes form)) put → IsPutPart (ends_open before) (Word form) r put
+form_put text before place at (Double ds) r is put for = double_put text before place at ds r is put (stands_alone text place (place + length (form_bytes (Double ds))) (float_text (number_in 16 ds))) refl for
+form_put text before place at (Reserved k) r is put for = same_put text before place at (Reserved k) r is put for
+form_put text before place at (Lower name) r is put for = same_put text before place at (Lower name) r is put for
+form_put text before place at (Upper name) r is put for = same_put text before place at (Upper name) r is put for
+form_put text before place at (Tag name) r is put for = same_put text before place at (Tag name) r is put for
+form_put text before place at (Variable name) r is put for = same_put text before place at (Variable name) r is put for
+form_put text before place at (Character c) r is put for = same_put text before place at (Character c) r is put for
+form_put text before place at (Number minus digits suffix) r is put for = same_put text before place at (Number minus digits suffix) r is put for
+form_put text before place at (Quoted cs) r is put for = same_put text before place at (Quoted cs) r is put for
+form_put text before place at (Mark m) r is put for = same_put text before place at (Mark m) r is put for
+
+-- ---- all parts: up to a lexeme there is a gap, which is put as it is
+
+ends_last : (x y : List ℕ) (c : ℕ) (cs : List ℕ) → y ≡ c ∷ cs → ends_open (x ++ y) ≡ ends_open y
+ends_last x y c cs is = rw is (ends_append x c cs)
+
+module _ (p : Part) (ps : List Part) (text before gap : List ℕ) (place : ℕ) (is : text ≡ before ++ (gap ++ flat_map part_bytes (p ∷ ps))) (to : length (before ++ gap) ≡ place) where
+  longer_is : text ≡ before ++ ((gap ++ part_bytes p) ++ flat_map part_bytes ps)
+  longer_is = is ∙ ap (λ t. before ++ t) (sym (append_assoc gap (part_bytes p) (flat_map part_bytes ps)))
+
+  longer_to : length (before ++ (gap ++ part_bytes p)) ≡ place + length (part_bytes p)
+  longer_to = ap length (sym (append_assoc before gap (part_bytes p))) ∙ length-append (before ++ gap) (part_bytes p) ∙ ap (λ (n : ℕ). n + length (part_bytes p)) to
+
+  gap_put : (new : List ℕ) (c : ℕ) (cs : List ℕ) → part_bytes p ≡ c ∷ cs
+      → (put : List ℕ) × (new ≡ (gap ++ part_bytes p) ++ put) × ArePut (ends_open (before ++ (gap ++ part_bytes p))) ps put
+      → (put : List ℕ) × (new ≡ gap ++ put) × ArePut (ends_open (before ++ gap)) (p ∷ ps) put
+  gap_put new c cs bytes (put, eq, are) =
+      let opened : ends_open (before ++ (gap ++ part_bytes p)) ≡ ends_open (part_bytes p) = ap ends_open (sym (append_assoc before gap (part_bytes p))) ∙ ends_last (before ++ gap) (part_bytes p) c cs bytes in (
+        part_bytes p ++ put,
+        eq ∙ append_assoc gap (part_bytes p) put,
+        (part_bytes p, put, inl refl, subst (λ o. ArePut o ps put) opened are, refl),
+      )
+
+pub are_put : (ps : List Part) (text before gap : List ℕ) (from place : ℕ) (new : List ℕ) → AreParts ps [] → text ≡ before ++ (gap ++ flat_map part_bytes ps) → length before ≡ from → length (before ++ gap) ≡ place
+    → IsReplaced text from (lexemes_of place ps) new → (put : List ℕ) × (new ≡ gap ++ put) × ArePut (ends_open (before ++ gap)) ps put
+are_put [] text before gap from place new parts is at to replaced =
+    ([], replaced ∙ rw (is, drop_at before (gap ++ []) from at), refl)
+are_put (Separator b ∷ ps) text before gap from place new parts is at to replaced =
+    let e = longer_is (Separator b) ps text before gap place is to in
+    let l = longer_to (Separator b) ps text before gap place is to in
+    gap_put (Separator b) ps text before gap place is to new b [] refl (are_put ps text before (gap ++ b ∷ []) from (place + length (b ∷ [])) new parts.1 e at l replaced)
+are_put (Comment inside ∷ ps) text before gap from place new parts is at to replaced =
+    let p = Comment inside in
+    let e = longer_is p ps text before gap place is to in
+    let l = longer_to p ps text before gap place is to in
+    gap_put p ps text before gap place is to new _ _ refl (are_put ps text before (gap ++ part_bytes p) from (place + length (part_bytes p)) new parts.1 e at l replaced)
+are_put (Word form ∷ ps) text before gap from place new parts is at to (put, rest, for, more, eq) =
+    let x = form_bytes form in
+    let r = flat_map part_bytes ps in
+    let pre = before ++ gap in
+    let some = part_some (Word form) (r ++ []) parts.0 in
+    let here_is : text ≡ pre ++ (x ++ r) = is ∙ sym (append_assoc before gap (x ++ r)) in
+    let next_is : text ≡ (pre ++ x) ++ r = here_is ∙ sym (append_assoc pre x r) in
+    let far : length (pre ++ x) ≡ place + length x = length-append pre x ∙ ap (λ (n : ℕ). n + length x) to in
+    let others = are_put ps text (pre ++ x) [] (place + length x) (place + length x) rest parts.1 next_is far (ap length (append-nil (pre ++ x)) ∙ far) more in
+    let wide : place - from ≡ length gap = omega (arith, at, to, length-append before gap) in
+    let gap_is : slice_range text from place ≡ gap = rw (is, drop_at before (gap ++ (x ++ r)) from at, wide) (take_at gap (x ++ r) (length gap) refl) in
+    let opened : ends_open ((pre ++ x) ++ []) ≡ ends_open x = ap ends_open (append-nil (pre ++ x)) ∙ ends_last pre x some.0 some.1 some.2 in
+    let are : ArePut (ends_open x) ps rest = subst (λ t. ArePut (ends_open x) ps t) (sym others.1) (subst (λ o. ArePut o ps others.0) opened others.2) in (
+      put ++ rest,
+      eq ∙ ap (λ t. t ++ (put ++ rest)) gap_is,
+      (put, rest, form_put text pre place to form r here_is put for, are, refl),
+    )
+
+-- ---- integers stand apart
+
+pub are_kept : (ps : List Part) (text before : List ℕ) (place : ℕ) → text ≡ before ++ flat_map part_bytes ps → length before ≡ place
+    → AllByRecursion (λ (l : Lexeme). IsApart l.kind (slice_index_or text (l.span.first + l.span.len) 32)) (lexemes_of place ps) → AreKept ps
+are_kept [] text before place is at all = tt
+are_kept (Separator b ∷ ps) text before place is at all =
+    (tt, are_kept ps text (before ++ b ∷ []) (place + length (b ∷ [])) (is ∙ sym (append_assoc before (b ∷ []) (flat_map part_bytes ps))) (length-append before (b ∷ []) ∙ ap (λ (n : ℕ). n + length (b ∷ [])) at) all)
+are_kept (Comment inside ∷ ps) text before place is at all =
+    let x = part_bytes (Comment inside) in
+    (tt, are_kept ps text (before ++ x) (place + length x) (is ∙ sym (append_assoc before x (flat_map part_bytes ps))) (length-append before x ∙ ap (λ (n : ℕ). n + length x) at) all)
+are_kept (Word form ∷ ps) text before place is at all =
+    let x = form_bytes form in (
+      subst (IsApart (form_kind form)) (next_here text before place at form (flat_map part_bytes ps) is) all.0,
+      are_kept ps text (before ++ x) (place + length x) (is ∙ sym (append_assoc before x (flat_map part_bytes ps))) (length-append before x ∙ ap (λ (n : ℕ). n + length x) at) all.1,
+    )

@@ -1,0 +1,79 @@
+-- A text with its doubles as decimals, put lexeme after lexeme.
+use Rattle.std.proofs.Common.{ℕ, ◌≡◌, ◌∙◌, ◌+◌, ◌<◌, ◌≤◌, ◌++◌, List, [], ◌∷◌, length, drop, get_or, append_assoc, append-nil, refl, subst, sym, ap, arith}
+use Rattle.std.proofs.lemmas.List.{drop_more}
+use Rattle.std.specs.Prelude.{slice_range}
+use Rattle.om_lex.specs.LexText.{SpansWithin}
+use Rattle.om_lex.specs.declared.lexeme.Lexeme.{Lexeme}
+use Rattle.om_decimal_texts.specs.Texts.{IsPutFor, IsReplaced}
+
+-- what was put leads to the text with decimals, whatever is put for the lexemes that are left
+abbrev pub IsSoFar : (text : List ℕ) (all : List Lexeme) (at : ℕ) (left : List Lexeme) (old new : List ℕ) → Type 0
+IsSoFar text all at left old new =
+    (put : List ℕ) × (new ≡ old ++ put)
+    × ((rest : List ℕ) → IsReplaced text at left rest → IsReplaced text 0 all (put ++ rest))
+
+pub so_far_none : (text : List ℕ) (all : List Lexeme) (old : List ℕ) → IsSoFar text all 0 all old old
+so_far_none text all old = ([], sym (append-nil old), λ rest is. is)
+
+pub so_far_more :
+    (text : List ℕ) (all : List Lexeme) (at : ℕ) (l : Lexeme) (left : List Lexeme)
+    (old new between behind put : List ℕ)
+    → IsSoFar text all at (l ∷ left) old new
+    → between ≡ new ++ slice_range text at l.span.first
+    → IsPutFor text l.kind l.span.first (l.span.first + l.span.len) put
+    → behind ≡ between ++ put
+    → IsSoFar text all (l.span.first + l.span.len) left old behind
+so_far_more text all at l left old new between behind put (done, is, leads) first for last =
+    let gap = slice_range text at l.span.first in (
+      done ++ (gap ++ put),
+      last ∙ (λ i. first i ++ put) ∙ (λ i. (is i ++ gap) ++ put)
+          ∙ append_assoc (old ++ done) gap put ∙ append_assoc old done (gap ++ put),
+      λ rest more. subst (λ t. IsReplaced text 0 all t)
+          (sym (append_assoc done (gap ++ put) rest ∙ (λ i. done ++ append_assoc gap put rest i)))
+          (leads (gap ++ (put ++ rest)) (put, rest, for, more, refl)),
+    )
+
+pub so_far_all :
+    (text : List ℕ) (all : List Lexeme) (at : ℕ) (old new behind : List ℕ)
+    → IsSoFar text all at [] old new → behind ≡ new ++ drop at text
+    → (put : List ℕ) × IsReplaced text 0 all put × (behind ≡ old ++ put)
+so_far_all text all at old new behind (done, is, leads) last = (
+  done ++ drop at text,
+  leads (drop at text) refl,
+  last ∙ (λ i. is i ++ drop at text) ∙ append_assoc old done (drop at text),
+)
+
+-- ---- what the lexemes' places are
+
+left_is :
+    (all : List Lexeme) (i : ℕ) (l : Lexeme) → i < length all → l ≡ get_or all i l
+    → drop i all ≡ l ∷ drop (i + 1) all
+left_is all i l below read =
+    drop_more all i l below ∙ ap (λ (x : Lexeme). x ∷ drop (i + 1) all) (sym read)
+
+spans_end : (from : ℕ) (ls : List Lexeme) (end : ℕ) → SpansWithin from ls end → from ≤ end
+spans_end from [] end is = is
+spans_end from (l ∷ ls) end is =
+    omega (arith, is.0, spans_end (l.span.first + l.span.len) ls end is.2)
+
+module _ (all : List Lexeme) (at i : ℕ) (l : Lexeme) (n : ℕ) (below : i < length all) (read : l ≡ get_or all i l) where
+  spans_here : SpansWithin at (drop i all) n → SpansWithin at (l ∷ drop (i + 1) all) n
+  spans_here is = subst (λ ls. SpansWithin at ls n) (left_is all i l below read) is
+
+  pub spans_behind :
+      SpansWithin at (drop i all) n
+      → SpansWithin (l.span.first + l.span.len) (drop (i + 1) all) n
+  spans_behind is = (spans_here is).2
+
+  pub last_within : SpansWithin at (drop i all) n → l.span.first + l.span.len ≤ n
+  last_within is = spans_end (l.span.first + l.span.len) (drop (i + 1) all) n (spans_behind is)
+
+  pub first_within :
+      SpansWithin at (drop i all) n → (at ≤ l.span.first) × (l.span.first ≤ n)
+  first_within is = ((spans_here is).0, omega (arith, last_within is))
+
+  pub so_far_here :
+      (text old new : List ℕ) → IsSoFar text all at (drop i all) old new
+      → IsSoFar text all at (l ∷ drop (i + 1) all) old new
+  so_far_here text old new is =
+      subst (λ ls. IsSoFar text all at ls old new) (left_is all i l below read) is

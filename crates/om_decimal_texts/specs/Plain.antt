@@ -1,0 +1,91 @@
+-- A text in which decimals may stand for doubles, and the plain text that it stands for.
+use Rattle.std.specs.Prelude.{ℕ, zero, suc, ◌+◌, ◌-◌, ◌<◌, ◌≤◌, Bool, true, false, nat_lt, if◌then◌else◌, List, [], ◌∷◌, ◌++◌, length, drop, slice_range, Option, Some, None, Result, Ok, Err}
+use Rattle.om_lex.specs.declared.lexeme.LexemeKind.{LexemeKind}
+use Rattle.om_lex.specs.declared.lexeme.LexemeKind.TheVariants as kinds
+use Rattle.om_lex.specs.declared.lexeme.Symbol.TheVariants as symbols
+use Rattle.om_lex.specs.declared.lexeme.LexFault.{LexFault}
+use Rattle.om_lex.specs.declared.found.Step.{Step}
+use Rattle.om_lex.specs.declared.found.Step.TheVariants.{Gap, Word}
+use Rattle.om_lex.specs.Scan.{step_at}
+use Rattle.om_leaves.specs.Leaves.{float_text}
+use Rattle.om_decimal.specs.Reading.{decimal_at}
+use Rattle.om_decimal_texts.specs.declared.decimals.Decimal.{Decimal}
+use Rattle.om_decimal_texts.specs.declared.front.Front.{Front}
+use Rattle.om_decimal_texts.specs.declared.front.Front.TheVariants as fronts
+
+-- ---- the decimals of a text
+
+abbrev pub is_point : LexemeKind → Bool
+is_point (kinds.Symbol symbols.Dot) = true
+is_point kind = false
+
+-- What stands at the front, by the decimal there and by what stands there in a text without
+-- decimals. Directly behind a point no decimal begins.
+abbrev pub front_of : Option (ℕ × ℕ) → Result Step LexFault → Front
+front_of (Some decimal) step = fronts.Double decimal.0 decimal.1
+front_of None (Ok (Gap len)) = fronts.Kept len true
+front_of None (Ok (Word word)) = fronts.Kept word.len (if is_point word.kind then false else true)
+front_of None (Err fault) = fronts.Fault
+
+-- with the decimal there, where one may begin
+abbrev pub front_at : Bool → List ℕ → Front
+front_at may text = front_of (if may then decimal_at text else None) (step_at text)
+
+-- the decimals from a place on, by those behind what stands there
+abbrev pub decimals_by : ℕ → (ℕ → Bool → List Decimal) → Front → List Decimal
+decimals_by place behind (fronts.Double bits len) =
+    record { first = place; len = len; bits = bits } ∷ behind len true
+decimals_by place behind (fronts.Kept len may) = behind len may
+decimals_by place behind fronts.Fault = []
+
+-- those of a text of at most n bytes that begins at a place, up to the first fault
+unfoldable pub decimals_from : ℕ → ℕ → Bool → List ℕ → List Decimal
+decimals_from zero place may text = []
+decimals_from (suc n) place may text =
+    decimals_by place (λ len next. decimals_from n (place + len) next (drop len text))
+    (front_at may text)
+
+abbrev pub decimals_in : List ℕ → List Decimal
+decimals_in text = decimals_from (length text) 0 true text
+
+-- they are not empty, and stand one after the other, from a place on and up to another
+abbrev pub AreWithin : ℕ → List Decimal → ℕ → Type 0
+AreWithin from [] end = from ≤ end
+AreWithin from (d ∷ ds) end = (from ≤ d.first) × (0 < d.len) × AreWithin (d.first + d.len) ds end
+
+-- ---- the plain text
+
+-- from a place on the text with the doubles by their bits, in place of these decimals
+abbrev pub plain_with : List ℕ → ℕ → List Decimal → List ℕ
+plain_with text at [] = drop at text
+plain_with text at (d ∷ ds) =
+    slice_range text at d.first ++ (float_text d.bits ++ plain_with text (d.first + d.len) ds)
+
+-- what the text stands for
+abbrev pub plain_text : List ℕ → List ℕ
+plain_text text = plain_with text 0 (decimals_in text)
+
+-- ---- places
+
+-- Where a byte of the plain text stands in the text, from two places on at which both are alike. A
+-- double has 17 bytes, and each stands where its decimal begins.
+abbrev pub given_from : ℕ → ℕ → List Decimal → ℕ → ℕ
+given_from at plain [] byte = at + (byte - plain)
+given_from at plain (d ∷ ds) byte =
+    let begins = plain + (d.first - at) in
+    if nat_lt byte begins then at + (byte - plain)
+    else
+    (if nat_lt byte (begins + 17) then d.first
+    else given_from (d.first + d.len) (begins + 17) ds byte)
+
+-- where a byte of the plain text, or its end, stands in the text with these decimals
+abbrev pub given_place : List Decimal → ℕ → ℕ
+given_place decimals byte = given_from 0 0 decimals byte
+
+-- ---- what a call gives
+
+-- what stands at the front has a length, which the text has too
+abbrev pub IsFrontWithin : ℕ → Front → Type 0
+IsFrontWithin n (fronts.Double bits len) = (0 < len) × (len ≤ n)
+IsFrontWithin n (fronts.Kept len may) = (0 < len) × (len ≤ n)
+IsFrontWithin n fronts.Fault = Unit {0}

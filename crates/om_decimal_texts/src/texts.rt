@@ -1,0 +1,106 @@
+//! A text with its doubles as decimals.
+
+ghost use Rattle.std.specs.Prelude.{ℕ, ◌≡◌, ◌≤◌, ◌+◌, ◌++◌, List, length, OnOk, slice_range};
+ghost use Rattle.std.specs.Str.{bytes_eq};
+ghost use Rattle.om_leaves.specs.Leaves.{float_text};
+ghost use Rattle.om_lex.specs.LexText.{SpansWithin};
+ghost use Rattle.om_lex.specs.declared.lexeme.LexemeKind.TheVariants as kinds;
+ghost use Rattle.om_decimal_texts.specs.Texts.{may_precede, may_follow, IsPutFor, IsReplaced, IsDecimalText};
+
+use om_decimal::put_double;
+use om_leaves::put;
+use om_lex::lexeme::{LexFault, Lexeme, LexemeKind};
+use om_lex::tokens;
+use om_model::Memory;
+use std::alloc::Global;
+
+/// Whether a double may be a decimal behind what stands before this place.
+fn may_precede(text: &[u8], at: usize) -> bool
+    requires { at ≤ length text.now }
+    ensures { result ≡ may_precede text.now at }
+{
+    at == 0 || matches!(text[at - 1], b' ' | b'(' | b'=' | b'|')
+}
+
+/// Whether it may be one before what stands at this place.
+fn may_follow(text: &[u8], end: usize) -> bool
+    requires { end ≤ length text.now }
+    ensures { result ≡ may_follow text.now end }
+{
+    end == text.len() || matches!(text[end], b' ' | b')' | b',' | b';' | b'|' | b'}')
+}
+
+/// Whether these bytes are the text of a double by its bits.
+fn is_float_text(bytes: &[u8], bits: u64) -> bool
+    ensures { result ≡ bytes_eq bytes.now (float_text bits) }
+{
+    let mut digits = [0; 16];
+    hex::encode_to_slice(bits.to_be_bytes(), &mut digits).unwrap();
+    match bytes {
+        [b'$', rest @ ..] => rest == digits.as_slice(),
+        _ => false,
+    }
+}
+
+/// Puts a double that stands in the text as its bits: as a decimal, where it stands alone.
+fn put_bits(
+    new: &mut Vec<u8>,
+    text: &[u8],
+    bits: u64,
+    first: usize,
+    end: usize,
+) -> Result<(), Memory>
+    requires { (first ≤ end) × (end ≤ length text.now) }
+    ensures { OnOk result ((put : List ℕ) × IsPutFor text.now (kinds.Double bits) first end put
+        × (new.new.items ≡ new.old.items ++ put)) }
+{
+    let written = &text[first..end];
+    if may_precede(text, first) && may_follow(text, end) && is_float_text(written, bits) {
+        put_double(new, bits)
+    } else {
+        put(new, written)
+    }
+}
+
+/// Puts a lexeme.
+fn put_lexeme(new: &mut Vec<u8>, text: &[u8], lexeme: &Lexeme) -> Result<(), Memory>
+    requires { lexeme.now.span.first + lexeme.now.span.len ≤ length text.now }
+    ensures { OnOk result ((put : List ℕ)
+        × IsPutFor text.now lexeme.now.kind lexeme.now.span.first
+        (lexeme.now.span.first + lexeme.now.span.len) put
+        × (new.new.items ≡ new.old.items ++ put)) }
+{
+    let first = lexeme.span.first;
+    let end = first + lexeme.span.len;
+    match lexeme.kind {
+        LexemeKind::Double(bits) => put_bits(new, text, bits, first, end),
+        _ => put(new, &text[first..end]),
+    }
+}
+
+/// Puts a text of which these are the lexemes.
+fn put_replaced(new: &mut Vec<u8>, text: &[u8], lexemes: &[Lexeme]) -> Result<(), Memory>
+    requires { SpansWithin 0 lexemes.now (length text.now) }
+    ensures { OnOk result ((put : List ℕ) × IsReplaced text.now 0 lexemes.now put
+        × (new.new.items ≡ new.old.items ++ put)) }
+{
+    let mut at = 0;
+    for lexeme in lexemes {
+        put(new, &text[at..lexeme.span.first])?;
+        put_lexeme(new, text, lexeme)?;
+        at = lexeme.span.first + lexeme.span.len;
+    }
+    put(new, &text[at..])
+}
+
+/// Puts a text with its doubles as decimals. What has no lexemes is put as it is.
+pub fn put_decimal_text(alloc: Global, new: &mut Vec<u8>, text: &[u8]) -> Result<(), Memory>
+    ensures { OnOk result ((put : List ℕ) × IsDecimalText text.now put
+        × (new.new.items ≡ new.old.items ++ put)) }
+{
+    match tokens(alloc, text) {
+        Ok(lexemes) => put_replaced(new, text, lexemes.as_slice()),
+        Err(LexFault::Memory) => Err(Memory),
+        Err(_) => put(new, text),
+    }
+}
