@@ -1,0 +1,148 @@
+//! Tokens, one after another. What a token may say is read from its bytes, and then looked at:
+//! nothing rests on how it is read.
+
+ghost use Rattle.std.specs.Prelude.{◌≡◌, ◌<◌, ◌≤◌, length, slice_index, IfSome};
+ghost use Rattle.std.specs.Bool.{OnTrue};
+ghost use Rattle.om_written.specs.Written.{BeginsWritten, AreWritten, AreBare};
+
+use crate::fronts::{block_len, double_len, int_len, shared_len, string_len};
+use om_codes::{CodeKind, code_kind};
+use om_model::bytes::{big_endian, signed};
+
+/// The number of so many bytes after the first.
+fn number_after(bytes: &[u8], width: u8) -> Option<u64> {
+    let width = usize::from(width);
+    if width > 8 || bytes.len() <= width {
+        return None;
+    }
+    Some(big_endian(&bytes[1..=width]))
+}
+
+/// The same of an integer.
+fn signed_after(bytes: &[u8], width: u8) -> Option<i64> {
+    let width = usize::from(width);
+    if width == 0 || width > 8 || bytes.len() <= width {
+        return None;
+    }
+    Some(signed(&bytes[1..=width]))
+}
+
+/// The bits of a double after the first byte.
+fn bits_after(bytes: &[u8]) -> Option<u64> {
+    if bytes.len() < 9 {
+        return None;
+    }
+    let b = bytes;
+    Some(u64::from_le_bytes([b[1], b[2], b[3], b[4], b[5], b[6], b[7], b[8]]))
+}
+
+/// How many bytes the token has, of this kind, if they begin with what the runtime writes for it.
+fn kind_len(kind: CodeKind, bytes: &[u8]) -> Option<usize>
+    ensures { IfSome result (λ n. BeginsWritten n bytes.now) }
+{
+    match kind {
+        CodeKind::Shared(width) => match number_after(bytes, width) {
+            Some(offset) => shared_len(offset, bytes),
+            None => None,
+        },
+        CodeKind::SmallString(len) => string_len(u64::from(len), bytes),
+        CodeKind::Str(width) => match number_after(bytes, width) {
+            Some(len) => string_len(len, bytes),
+            None => None,
+        },
+        CodeKind::SmallBlock(tag, size) => block_len(tag, u64::from(size), bytes),
+        CodeKind::Block(width) => match number_after(bytes, width) {
+            Some(word) => block_len((word % 256) as u8, word / 1024, bytes),
+            None => None,
+        },
+        CodeKind::SmallInt(n) => int_len(i64::from(n), bytes),
+        CodeKind::Int(width) => match signed_after(bytes, width) {
+            Some(z) => int_len(z, bytes),
+            None => None,
+        },
+        CodeKind::Double(_) => match bits_after(bytes) {
+            Some(bits) => double_len(bits, bytes),
+            None => None,
+        },
+        _ => None,
+    }
+}
+
+/// The same of a token whose code carries its number: each is written so.
+#[inline(always)]
+fn small_len(code: u8, bytes: &[u8]) -> Option<usize>
+    requires some { 0 < length bytes.now }
+    requires code { slice_index bytes.now 0 ≡ code }
+    requires small { 32 ≤ code }
+    ensures { IfSome result (λ n. BeginsWritten n bytes.now) }
+{
+    if code >= 0x80 {
+        return Some(1);
+    }
+    if code >= 0x40 {
+        return Some(1);
+    }
+    let n = 1 + usize::from(code - 0x20);
+    if bytes.len() < n {
+        return None;
+    }
+    Some(n)
+}
+
+/// How many bytes the first token has, if they are what the runtime writes for it.
+fn token_len(bytes: &[u8]) -> Option<usize>
+    ensures { IfSome result (λ n. BeginsWritten n bytes.now) }
+{
+    if bytes.is_empty() {
+        return None;
+    }
+    let code = bytes[0];
+    if code >= 0x20 {
+        return small_len(code, bytes);
+    }
+    match code_kind(code) {
+        Ok(kind) => kind_len(kind, bytes),
+        Err(_) => None,
+    }
+}
+
+/// Whether the bytes are what the runtime writes for tokens.
+pub fn are_written(bytes: &[u8]) -> bool
+    ensures { OnTrue result (AreWritten bytes.now) }
+{
+    let mut at = 0;
+    for _turn in 0..bytes.len() {
+        let Some(n) = token_len(&bytes[at..]) else {
+            return false;
+        };
+        at += n;
+        if at == bytes.len() {
+            return true;
+        }
+    }
+    false
+}
+
+/// The same of one integer.
+pub fn are_bare(bytes: &[u8]) -> bool
+    ensures { OnTrue result (AreBare bytes.now) }
+{
+    if bytes.is_empty() {
+        return false;
+    }
+    let z = match code_kind(bytes[0]) {
+        Ok(CodeKind::SmallInt(n)) => i64::from(n),
+        Ok(CodeKind::Int(width)) => match signed_after(bytes, width) {
+            Some(z) => z,
+            None => return false,
+        },
+        _ => return false,
+    };
+    let Some(n) = int_len(z, bytes) else {
+        return false;
+    };
+    if n != bytes.len() {
+        return false;
+    }
+    true
+}

@@ -1,0 +1,50 @@
+//! A whole value.
+
+ghost use Rattle.std.specs.Prelude.{◌≡◌, length, IfSome};
+ghost use Rattle.std.specs.Bool.{OnTrue};
+ghost use Rattle.om_written.specs.Written.{IsAsWritten, IsOwnHeader};
+
+use crate::tokens::{are_bare, are_written};
+use om_headers::{HeaderStep, parse, spell};
+
+/// How many objects a small header states, if it is spelled as the runtime does it.
+fn objects_in(header: &[u8]) -> Option<u64>
+    requires { length header.now ≡ 20 }
+    ensures { IfSome result (λ objects. IsOwnHeader header.now objects) }
+{
+    let Ok(HeaderStep::Head(head)) = parse(header) else {
+        return None;
+    };
+    let most = 1 << 32;
+    if head.big
+        || head.length >= most
+        || head.objects >= most
+        || head.w32 >= most
+        || head.w64 >= most
+    {
+        return None;
+    }
+    let (bytes, n) = spell(head);
+    if header != &bytes[..n] {
+        return None;
+    }
+    Some(head.objects)
+}
+
+/// Whether the bytes of a value are those that the runtime writes for it. Where it says no, nothing
+/// is said.
+pub fn is_as_written(bytes: &[u8]) -> bool
+    ensures { OnTrue result (IsAsWritten bytes.now) }
+{
+    if bytes.len() < 20 {
+        return false;
+    }
+    let Some(objects) = objects_in(&bytes[..20]) else {
+        return false;
+    };
+    let data = &bytes[20..];
+    if objects == 0 {
+        return are_bare(data);
+    }
+    are_written(data)
+}
