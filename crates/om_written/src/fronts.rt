@@ -8,6 +8,8 @@ ghost use Rattle.om_format.specs.Token.{integer, shared, block_or_atom, leaf};
 ghost use Rattle.om_written.specs.Written.{StandsFirst, BeginsWritten};
 
 use om_codes::{spell_block, spell_int, spell_shared, spell_string_len};
+use om_customs::spell;
+use om_model::code::Custom;
 
 /// Whether the bytes begin with the first n of these.
 #[inline(always)]
@@ -92,4 +94,37 @@ pub fn double_len(bits: u64, bytes: &[u8]) -> Option<usize>
         return None;
     }
     Some(9)
+}
+
+/// The same of a custom of four bytes.
+pub fn int32_len(z: i32, bytes: &[u8]) -> Option<usize>
+    ensures { IfSome result (λ n. StandsFirst (leaf (objects.I32 z)) n bytes.now) }
+{
+    let (front, n) = spell(Custom::I32(z));
+    if !begins(bytes, &front, n) {
+        return None;
+    }
+    Some(n)
+}
+
+/// The same of one of eight.
+pub fn int64_len(z: i64, bytes: &[u8]) -> Option<usize>
+    ensures { IfSome result (λ n. StandsFirst (leaf (objects.I64 z)) n bytes.now) }
+{
+    let (front, n) = spell(Custom::I64(z));
+    if !begins(bytes, &front, n) {
+        return None;
+    }
+    Some(n)
+}
+
+/// The same of a `Nativeint`.
+pub fn native_len(z: i64, bytes: &[u8]) -> Option<usize>
+    ensures { IfSome result (λ n. StandsFirst (leaf (objects.Native z)) n bytes.now) }
+{
+    let (front, n) = spell(Custom::Native(z));
+    if !begins(bytes, &front, n) {
+        return None;
+    }
+    Some(n)
 }

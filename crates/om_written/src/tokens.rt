@@ -5,7 +5,9 @@ ghost use Rattle.std.specs.Prelude.{◌≡◌, ◌<◌, ◌≤◌, length, slice
 ghost use Rattle.std.specs.Bool.{OnTrue};
 ghost use Rattle.om_written.specs.Written.{BeginsWritten, AreWritten, AreBare};
 
-use crate::fronts::{block_len, double_len, int_len, shared_len, string_len};
+use crate::fronts::{
+    block_len, double_len, int_len, int32_len, int64_len, native_len, shared_len, string_len,
+};
 use om_codes::{CodeKind, code_kind};
 use om_model::bytes::{big_endian, signed};
 
@@ -18,13 +20,19 @@ fn number_after(bytes: &[u8], width: u8) -> Option<u64> {
     Some(big_endian(&bytes[1..=width]))
 }
 
-/// The same of an integer.
+/// The same of an integer, of a width that has a code.
 fn signed_after(bytes: &[u8], width: u8) -> Option<i64> {
-    let width = usize::from(width);
-    if width == 0 || width > 8 || bytes.len() <= width {
-        return None;
+    let b = bytes;
+    match width {
+        1 if b.len() > 1 => Some(i64::from(b[1].cast_signed())),
+        2 if b.len() > 2 => Some(i64::from(u16::from_be_bytes([b[1], b[2]]).cast_signed())),
+        4 if b.len() > 4 => {
+            let bits = u32::from_be_bytes([b[1], b[2], b[3], b[4]]);
+            Some(i64::from(bits.cast_signed()))
+        }
+        8 if b.len() > 8 => Some(signed(&b[1..9])),
+        _ => None,
     }
-    Some(signed(&bytes[1..=width]))
 }
 
 /// The bits of a double after the first byte.
@@ -34,6 +42,21 @@ fn bits_after(bytes: &[u8]) -> Option<u64> {
     }
     let b = bytes;
     Some(u64::from_le_bytes([b[1], b[2], b[3], b[4], b[5], b[6], b[7], b[8]]))
+}
+
+/// How many bytes the custom has, if they begin with what the runtime writes for it.
+fn custom_len(bytes: &[u8]) -> Option<usize>
+    ensures { IfSome result (λ n. BeginsWritten n bytes.now) }
+{
+    match bytes {
+        [_, _, b'i', _, a, b, c, d, ..] => {
+            int32_len(u32::from_be_bytes([*a, *b, *c, *d]).cast_signed(), bytes)
+        }
+        [_, _, b'j', _, _, _, _, _, _, _, _, _, ..] => int64_len(signed(&bytes[4..12]), bytes),
+        [_, _, b'n', _, 1, _, _, _, _, ..] => native_len(signed(&bytes[5..9]), bytes),
+        [_, _, b'n', _, 2, _, _, _, _, _, _, _, _, ..] => native_len(signed(&bytes[5..13]), bytes),
+        _ => None,
+    }
 }
 
 /// How many bytes the token has, of this kind, if they begin with what the runtime writes for it.
@@ -64,7 +87,8 @@ fn kind_len(kind: CodeKind, bytes: &[u8]) -> Option<usize>
             Some(bits) => double_len(bits, bytes),
             None => None,
         },
-        _ => None,
+        CodeKind::Custom(_) => custom_len(bytes),
+        CodeKind::Doubles(..) => None,
     }
 }
 

@@ -5,7 +5,7 @@ ghost use Rattle.std.specs.Bool.{OnTrue};
 ghost use Rattle.om_written.specs.Written.{IsAsWritten, IsOwnHeader};
 
 use crate::tokens::{are_bare, are_written};
-use om_headers::{HeaderStep, parse, spell};
+use om_headers::{HeaderStep, parse};
 
 /// How many objects a small header states, if it is spelled as the runtime does it.
 fn objects_in(header: &[u8]) -> Option<u64>
@@ -22,10 +22,6 @@ fn objects_in(header: &[u8]) -> Option<u64>
         || head.w32 >= most
         || head.w64 >= most
     {
-        return None;
-    }
-    let (bytes, n) = spell(head);
-    if header != &bytes[..n] {
         return None;
     }
     Some(head.objects)
