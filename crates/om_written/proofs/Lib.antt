@@ -1,2 +1,3 @@
+pub mod DoublesLemmas
 pub mod HeaderLemmas
 pub mod WrittenLemmas

@@ -7,7 +7,7 @@ ghost use Rattle.om_format.specs.Canonical.{double_bytes};
 ghost use Rattle.om_format.specs.Token.{integer, shared, block_or_atom, leaf};
 ghost use Rattle.om_written.specs.Written.{StandsFirst, BeginsWritten};
 
-use om_codes::{spell_block, spell_int, spell_shared, spell_string_len};
+use om_codes::{spell_block, spell_double_array_len, spell_int, spell_shared, spell_string_len};
 use om_customs::spell;
 use om_model::code::Custom;
 
@@ -75,6 +75,24 @@ pub fn string_len(len: u64, bytes: &[u8]) -> Option<usize>
         return None;
     }
     Some(n + len as usize)
+}
+
+/// The same of an array of so many doubles.
+pub fn doubles_len(count: u64, bytes: &[u8]) -> Option<usize>
+    ensures { IfSome result (λ n. BeginsWritten n bytes.now) }
+{
+    if count == 0 {
+        return None;
+    }
+    let (front, n) = spell_double_array_len(count);
+    if !begins(bytes, &front, n) {
+        return None;
+    }
+    let room = (bytes.len() - n) / 8;
+    if (room as u64) < count {
+        return None;
+    }
+    Some(n + 8 * count as usize)
 }
 
 /// A double from its code on.

@@ -6,7 +6,8 @@ ghost use Rattle.std.specs.Bool.{OnTrue};
 ghost use Rattle.om_written.specs.Written.{BeginsWritten, AreWritten, AreBare};
 
 use crate::fronts::{
-    block_len, double_len, int_len, int32_len, int64_len, native_len, shared_len, string_len,
+    block_len, double_len, doubles_len, int_len, int32_len, int64_len, native_len, shared_len,
+    string_len,
 };
 use om_codes::{CodeKind, code_kind};
 use om_model::bytes::{big_endian, signed};
@@ -88,7 +89,10 @@ fn kind_len(kind: CodeKind, bytes: &[u8]) -> Option<usize>
             None => None,
         },
         CodeKind::Custom(_) => custom_len(bytes),
-        CodeKind::Doubles(..) => None,
+        CodeKind::Doubles(width, _) => match number_after(bytes, width) {
+            Some(count) => doubles_len(count, bytes),
+            None => None,
+        },
     }
 }
 
