@@ -9,8 +9,8 @@ ghost use Rattle.om_check.specs.declared.verdict.Verdict.TheVariants.{No};
 use crate::types::Requested;
 use om_check::{Steps, Verdict, check};
 use om_equal::table::tables_have_the_faults;
-use om_fault::fault_text;
 use om_fault::laws::texts_are_of_types;
+use om_fault::put_fault;
 use om_heap::Heap;
 use om_model::Memory;
 use om_model::value::Val;
@@ -55,8 +55,7 @@ pub fn put_no(
     tables_decide();
     tables_have_the_faults();
     texts_are_of_types();
-    let why = fault_text(alloc, heap, root, &requested.table, fault)?;
     put(text, b"no ")?;
-    put(text, why.as_slice())?;
+    put_fault(text, alloc, heap, root, &requested.table, fault)?;
     Ok(())
 }
