@@ -159,8 +159,8 @@ impl Values {
         }
     }
 
-    /// Puts what is said of the value that the reader has whole. A new reader waits for the next
-    /// one, in the memory of this one.
+    /// Puts what is said of the value that the reader has whole, where it is. Then the reader waits
+    /// for the next one.
     fn put_line<K: Sink>(
         &mut self,
         alloc: Global,
@@ -175,10 +175,9 @@ impl Values {
             → PutsNext (jobs.Say speech.entry limit) taken said v.trees v.whole
             (change (K.state out.old) (K.state out.new)) self.new result }
     {
-        let reader = mem::replace(&mut self.reader, Reader::new(alloc, limit));
-        let value = reader.finish();
-        let well = put_said(alloc, &value.heap, value.root, speech, out)?;
-        self.reader = Reader::over(alloc, limit, value.heap);
+        let value = self.reader.lend();
+        let well = put_said(alloc, value.heap, value.root, speech, out)?;
+        self.reader.restart(limit);
         self.well &= well;
         self.count += 1;
         Ok(())

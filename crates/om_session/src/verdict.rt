@@ -60,6 +60,9 @@ pub struct Line {
     pub well: bool,
 }
 
+/// Most lines on small values have no more bytes.
+const ROOM: usize = 96;
+
 /// What is said of a value.
 pub fn line_of(alloc: Global, heap: &Heap, root: Val, speech: Speech<'_>) -> Result<Line, Memory>
     requires value { IsValue (length heap.now) root }
@@ -77,7 +80,7 @@ fn dumped_lines(alloc: Global, heap: &Heap, root: Val) -> Result<Line, Memory>
     requires value { IsValue (length heap.now) root }
     ensures { IfOk result (λ line. IsSaidOf speeches.Dump heap.now root line.text line.well) }
 {
-    let mut text = Vec::new(alloc);
+    let mut text = Vec::with_capacity(alloc, ROOM)?;
     put_dump(&mut text, heap, root)?;
     Ok(Line {
         text: List::of(text),
@@ -119,7 +122,7 @@ fn line_by(
         (λ line. IsSaidOf (speeches.Tell requested.entry saying.entry) heap.now root line.text
         line.well) }
 {
-    let mut text = Vec::new(alloc);
+    let mut text = Vec::with_capacity(alloc, ROOM)?;
     let well = put_line(&mut text, alloc, heap, root, requested, saying, verdict)?;
     put(&mut text, b"\n")?;
     Ok(Line {

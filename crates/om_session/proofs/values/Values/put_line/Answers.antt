@@ -1,6 +1,6 @@
-use Rattle.std.proofs.Common.{refl, sym, subst, arith}
+use Rattle.std.proofs.Common.{refl, arith}
 use Rattle.om_edge.specs.State.{change}
-use Rattle.om_read.specs.Reader.{Leads}
+use Rattle.om_read.specs.declared.value.Value.{Value}
 use Rattle.om_session.specs.declared.values.Job.TheVariants.{Say}
 use Rattle.om_session.proofs.ReadLemmas.{room_for_one}
 use Rattle.om_session.proofs.SaidLemmas.{said_put, said_halts}
@@ -12,17 +12,16 @@ overflow_add-self g c = let room = room_for_one (Say c.args.speech c.args.limit)
 pub put_said-requires-clause-value : goal.put_said-requires-clause-value
 put_said-requires-clause-value g c =
     let v = c.requires.2 in
-    let leads : Leads c.args.limit v.whole c.replace-reader.result = subst (λ r. Leads c.args.limit v.whole r) (sym c.replace-reader.ensures.value) v.leads in
-    (c.finish-value.ensures c.args.limit v.whole leads).is_value.valid
+    (c.lend-value.ensures c.args.limit v.whole v.leads).is_value.valid
 
 pub returns-in_err-well : goal.returns-in_err-well
 returns-in_err-well g c = λ taken said v.
-    let leads : Leads c.args.limit v.whole c.replace-reader.result = subst (λ r. Leads c.args.limit v.whole r) (sym c.replace-reader.ensures.value) v.leads in
-    said_halts c.args.speech c.args.limit taken said c.args.self.now v c.finish-value.result (c.finish-value.ensures c.args.limit v.whole leads)
+    let value : Value = record { heap = c.lend-value.result.heap.now; root = c.lend-value.result.root } in
+    said_halts c.args.speech c.args.limit taken said c.args.self.now v value (c.lend-value.ensures c.args.limit v.whole v.leads)
     (change (g.K.Sink.state c.args.out.now) (g.K.Sink.state c.put_said.new.out)) c.in_err-well.field-0.0 _ c.from_residual.result c.from_residual.ensures.1 c.in_err-well.ensures
 
 pub returns : goal.returns
 returns g c = λ taken said v.
-    let leads : Leads c.args.limit v.whole c.replace-reader.result = subst (λ r. Leads c.args.limit v.whole r) (sym c.replace-reader.ensures.value) v.leads in
-    said_put c.args.speech c.args.limit taken said c.args.self.now v c.finish-value.result (c.finish-value.ensures c.args.limit v.whole leads)
-    (change (g.K.Sink.state c.args.out.now) (g.K.Sink.state c.put_said.new.out)) c.in_ok-well.well c.in_ok-well.ensures c.over.result c.over.ensures.leads _ refl
+    let value : Value = record { heap = c.lend-value.result.heap.now; root = c.lend-value.result.root } in
+    said_put c.args.speech c.args.limit taken said c.args.self.now v value (c.lend-value.ensures c.args.limit v.whole v.leads)
+    (change (g.K.Sink.state c.args.out.now) (g.K.Sink.state c.put_said.new.out)) c.in_ok-well.well c.in_ok-well.ensures c.restart.new.self c.restart.ensures.leads _ refl
