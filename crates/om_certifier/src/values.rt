@@ -33,24 +33,36 @@ fn refused(number: u64, refusal: ReadRefusal) -> Stop<'static>
     }
 }
 
+/// A heap of more words gives its memory back before a section is put.
+const LARGE: u64 = 1 << 16;
+
+// Gives the memory of a large heap back: the text of a section, which has a line for each object,
+// may be gathered whole.
+fn give_back(alloc: Global, heap: &mut Heap) {
+    if heap.words() > LARGE {
+        *heap = Heap::new(alloc);
+    }
+}
+
 /// Puts the section of a value, with its number, and answers whether nothing is wrong with the
-/// value.
+/// value, which is done with.
 fn put_said<K: Sink>(
     alloc: Global,
-    heap: &Heap,
+    heap: &mut Heap,
     root: Val,
     requested: &Requested,
     leasts: &Leasts,
     number: u64,
     out: &mut K,
 ) -> Result<bool, Halt>
-    requires value { IsValue (length heap.now) root }
+    requires value { IsValue (length heap.old) root }
     requires ready { IsReady requested.now }
     requires leasts { AreLeasts (table_of requested.now.table) leasts.now }
-    ensures { PutsSection (type_over requested.now) number heap.now root
+    ensures { PutsSection (type_over requested.now) number heap.old root
         (change (K.state out.old) (K.state out.new)) result }
 {
     let section = value_section(alloc, heap, root, requested, leasts)?;
+    give_back(alloc, heap);
     match put_cert(alloc, number, &section, out) {
         Ok(()) => Ok(is_yes(&section)),
         Err(WriteError::Fault) => Err(Halt::WriteFault),
@@ -113,10 +125,10 @@ impl<'a> Certifying<'a> {
             result }
     {
         let reader = mem::replace(&mut self.reader, Reader::new(alloc, self.limit));
-        let value = reader.finish();
+        let mut value = reader.finish();
         let well = put_said(
             alloc,
-            &value.heap,
+            &mut value.heap,
             value.root,
             self.requested,
             self.leasts,
