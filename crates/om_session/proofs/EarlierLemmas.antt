@@ -328,6 +328,10 @@ pub used_up_to : (lines : List ScriptLine) (number : ℕ) (last : Option ℕ) �
 used_up_to lines number None unused = λ i d within copies. absurd (unused i d within copies)
 used_up_to lines number (Some last) (some, all) = all
 
+-- and no further than any greater number
+pub used_within : (lines : List ScriptLine) (number last : ℕ) → last ≤ number → IsUsedUpTo lines number last → IsUsedUpTo lines number number
+used_within lines number last most used = λ i d within copies. let up_to = used i d within copies in omega (arith, up_to, most)
+
 pub used_last : (lines : List ScriptLine) (number : ℕ) (last : Option ℕ) → MatchOption last (IsUnused lines number) (IsLastUse lines number) → number < unwrap_or last 0 → IsLastUse lines number (unwrap_or last 0)
 used_last lines number None unused less = absurd (omega (arith, less))
 used_last lines number (Some last) is less = is
@@ -424,6 +428,31 @@ module _ (lines : List ScriptLine) (n : ℕ) (kept : List Earlier) (are : AreEar
       let entry = are.entries k d within in
       let at_least = entry.used some in
       named_now (get_or kept k d).number (get_or kept k d).last (omega (arith, at_least, past)) entry.last.0
+
+  -- a value that no line edits or copies from later leaves them as they are
+  left_entry : AreNamed n [] kept → All (IsEntry lines (n + 1)) kept
+  left_entry named k d within =
+      let entry = are.entries k d within in record {
+        before = let less = entry.before in omega (arith, less);
+        last = entry.last;
+        used = λ some. ⊎_elim
+            (λ later. omega (arith, later))
+            (λ past. absurd (in_none (λ (line : ScriptLine). CopiesFrom (get_or kept k d).number line.action) (named k d within some past)))
+            (cases_lt n (get_or kept k d).last);
+      }
+
+  pub left_needed : lines_of_value n lines ≡ [] → IsUsedUpTo lines n n → AreEarlier lines (n + 1) kept
+  left_needed none used = record {
+    in_order = are.in_order;
+    entries = left_entry (subst (λ (ls : List ScriptLine). AreNamed n ls kept) none all_named);
+    needed = λ i d within number copies less after. ⊎_elim
+        (λ before. are.needed i d within number copies before (omega (arith, after)))
+        (λ past.
+        let same : number ≡ n = omega (arith, less, past) in
+        let up_to = used i d within (subst (λ m. CopiesFrom m (get_or lines i d).action) same copies) in
+        absurd (omega (arith, up_to, after)))
+        (cases_lt number n);
+  }
 
   -- those that the lines of the next value copy from are there
   copies_before : (value number : ℕ) (action : Action) → IsInTime value action → CopiesFrom number action → number < value

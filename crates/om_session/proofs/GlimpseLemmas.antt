@@ -1,5 +1,5 @@
 -- What looks at the bytes in hand show is said of the next value.
-use Rattle.std.proofs.Common.{◌≡◌, ℕ, suc, ◌+◌, ◌^◌, ◌<◌, List, [], ◌∷◌, ◌++◌, length, take, drop, Ok, Err, inl, inr, refl, sym, ap, ◌∙◌, subst, append_assoc, append-nil, length-append, arith}
+use Rattle.std.proofs.Common.{◌≡◌, ℕ, Bool, true, false, suc, ◌+◌, ◌^◌, ◌<◌, List, [], ◌∷◌, ◌++◌, length, take, drop, Option, None, Some, Ok, Err, inl, inr, refl, sym, ap, ◌∙◌, subst, append_assoc, append-nil, length-append, arith}
 use Rattle.std.proofs.lemmas.List.{take-append-drop}
 use Rattle.std.specs.Prelude.{codes, Result, IfOk}
 use Rattle.std.specs.Borrow.{Bor}
@@ -11,17 +11,28 @@ use Rattle.om_format.specs.Front.{IsFront}
 use Rattle.om_format.specs.Stream.{cut}
 use Rattle.om_format.specs.Tree.{Tree, root, objects_of}
 use Rattle.om_format.specs.Spelled.{SpelledUnder}
+use Rattle.om_format.specs.Canonical.{canon}
+use Rattle.om_format.specs.Compat.{TooLargeFor32, too_large_for_32}
+use Rattle.om_canonical.proofs.TreeGraphs.{own_tree}
+use Rattle.om_types.specs.Equal.{Equal}
+use Rattle.om_types.specs.Names.{names_of}
+use Rattle.om_types.specs.Shape.{shape}
+use Rattle.om_types.specs.Ty.{Ty}
+use Rattle.om_edit.specs.EditedLines.{AreEdited}
+use Rattle.om_edit.specs.EditedValues.{Edited}
+use Rattle.om_path.specs.declared.edits.ScriptLine.{ScriptLine}
+use Rattle.om_written.specs.Written.{IsAsWritten}
 use Rattle.om_read.specs.Reader.{Leads, EndsInput}
 use Rattle.om_table.specs.TableDecides.{TheRootIsFirst, TablesDecide}
-use Rattle.om_type_table.specs.Made.{table_of}
+use Rattle.om_type_table.specs.Made.{types_of, table_of}
 use Rattle.om_pass_law.specs.OnePass.{IsTypedFront}
 use Rattle.om_glance.specs.declared.glance.Glance.{Glance}
 use Rattle.om_glance.specs.declared.glance.Answer.{Answer}
 use Rattle.om_glance.specs.declared.glance.Answer.TheVariants as answers
-use Rattle.om_glance.specs.Glance.{Glances}
+use Rattle.om_glance.specs.Glance.{IsTypedNext, Glances}
 use Rattle.om_outcome.specs.RefusalText.{truncated_text}
 use Rattle.om_outcome.specs.Outcome as outcome
-use Rattle.om_outcome.specs.Outcome.{Said, SayFirst, line, all_well}
+use Rattle.om_outcome.specs.Outcome.{Said, Says, SayFirst, Unedited, line, all_well}
 use Rattle.om_commands.specs.Tasks.{items_of, commands}
 use Rattle.om_commands.proofs.FirstLemmas.{says_first, front_end, goes_on}
 use Rattle.om_promises.specs.Account.{HoldNoStop}
@@ -30,15 +41,22 @@ use Rattle.om_promises.proofs.ValueLemmas.{not_whole, nothing_front, first_more,
 use Rattle.om_stops.specs.declared.stop.Halt.TheVariants as halts
 use Rattle.om_stops.specs.declared.stop.Stop.TheVariants as stops
 use Rattle.om_work.specs.Works.{HaltsIn, PutsLast}
-use Rattle.om_declared.specs.Language.{declared_types}
-use Rattle.om_declared.specs.Types.{IsReady}
+use Rattle.om_declared.specs.Language.{declared_types, lines_of_value, bytes_for}
+use Rattle.om_declared.specs.Types.{type_over, IsReady}
+use Rattle.om_declared.proofs.DoneLemmas.{MakeOf, as_it_came, done_length, done_more}
+use Rattle.om_declared.proofs.GivenLemmas.{ready_each}
+use Rattle.om_declared.proofs.VerdictLemmas.{is_first, made}
 use Rattle.om_declared.specs.declared.types.Requested.{Requested}
 use Rattle.om_session.specs.declared.values.Values.{Values}
+use Rattle.om_session.specs.declared.edit.Edits.{Edits}
 use Rattle.om_session.specs.declared.values.Job.{Job}
+use Rattle.om_session.specs.declared.values.Job.TheVariants as jobs
+use Rattle.om_session.specs.Earlier.{AreEarlier}
 use Rattle.om_session.specs.declared.verdict.Saying.TheVariants as sayings
-use Rattle.om_session.specs.Glimpse.{yes, IsYes, IsGlimpse, IsBetween, verdict_job}
-use Rattle.om_session.specs.Values.{MayTake, HasRead, task_of, word_limit}
-use Rattle.om_session.proofs.ReadLemmas.{front_goes_on, none_goes_on, spell_count}
+use Rattle.om_session.specs.Glimpse.{yes, IsYes, IsGlimpse, IsBetween, verdict_job, IsUnchanged, IsUnchangedNext, IsUnchangedGlimpse, IsLeft}
+use Rattle.om_session.specs.Values.{MayTake, HasRead, IsKept, edits_by, task_of, word_limit}
+use Rattle.om_session.proofs.EarlierLemmas.{all_stay, left_needed}
+use Rattle.om_session.proofs.ReadLemmas.{front_goes_on, none_goes_on, spell_count, next_halts, Halts}
 use Rattle.om_session.proofs.VerdictLemmas.{puts_yes}
 
 -- a value that a pass shows to have the type has the declared one, and each closed instance of it
@@ -168,6 +186,126 @@ module _ (r : Bor Requested) (limit : ℕ) (before : List ℕ) (said : List Said
         counted = ap (λ n. n + 1) h.counted ∙ sym (length-append h.trees (yes'.tree ∷ []));
         well = h.well ∙ (sym (and_true (all_well said)) ∙ sym (all_well-snoc said yes));
         kept = tt;
+      }
+
+-- ---- a value that is put as it came
+
+-- one that a pass shows to have the type, and whose bytes are what the runtime writes
+unchanged_front : (r : Requested) → IsReady r → TheRootIsFirst → TablesDecide → (limit n : ℕ) (bytes : List ℕ) → IsTypedFront (table_of r.table) limit n bytes → IsAsWritten (take n bytes) → IsUnchanged r limit n bytes
+unchanged_front r ready first decide limit n bytes f written =
+    let graph = objects_of f.tree 0 in
+    let v = root f.tree 0 in
+    let by_type = (decide r.decls r.ty (types_of r.table) (table_of r.table) (made r ready first graph v) graph v 0 r.ty (is_first r ready first graph v)).0 f.typed in record {
+      within = f.within;
+      tree = f.tree;
+      spelled = f.spelled;
+      written = written limit f.tree f.spelled;
+      has = by_type;
+      each = ready_each r ready graph v by_type;
+    }
+
+-- what a look at a piece shows of the type's table, it shows of the type
+pub unchanged_next :
+    (r : Requested) → IsReady r → TheRootIsFirst → TablesDecide → (limit : ℕ) (old : Glance) (piece : List ℕ) (new : Glance) (n : ℕ) → old.kept.items ≡ [] → IsTypedNext (table_of r.table) limit old piece new n → IsAsWritten (take n piece)
+    → IsUnchangedNext r limit piece new n
+unchanged_next r ready first decide limit old piece new n none it written =
+    let size : 0 + n ≡ n = omega arith in
+    let typed : IsTypedFront (table_of r.table) limit (0 + n) piece = subst (λ kept. IsTypedFront (table_of r.table) limit (length kept + n) (kept ++ piece)) none it.typed in record {
+      some = it.some;
+      unchanged = unchanged_front r ready first decide limit n piece (subst (λ m. IsTypedFront (table_of r.table) limit m piece) size typed) written;
+      none = it.none;
+      glance = it.glance;
+    }
+
+-- a piece was kept of a value of which there was nothing
+pub only_kept : (old new : Glance) (piece : List ℕ) → old.kept.items ≡ [] → new.kept.items ≡ old.kept.items ++ piece → new.kept.items ≡ piece
+only_kept old new piece none same = same ∙ ap (λ kept. kept ++ piece) none
+
+abbrev answer_of : List ℕ → Result (List ℕ) Unedited
+answer_of bytes = Ok bytes
+
+-- the bytes of a value are those of its tree, where each reader may hold it
+left_bytes : (compat : Bool) (tree : Tree) (large : Option TooLargeFor32) → compat ≡ false → bytes_for compat tree large ≡ answer_of (canon tree)
+left_bytes compat tree None small = refl
+left_bytes false tree (Some large) small = refl
+left_bytes true tree (Some large) small = absurd (cc small)
+
+module _ (e : Edits) (limit : ℕ) (taken : List ℕ) (said : List Said) (values : Values) (h : HasRead (jobs.Edit e limit) values taken said) (between : IsBetween values) (in_hand : List ℕ) (n : ℕ) (left : IsLeft e values.count)
+    (seen : IsUnchanged e.requested.now limit n in_hand) where
+  abbrev job : Job
+  job = jobs.Edit e limit
+
+  abbrev pub put_said : Said
+  put_said = record { text = take n in_hand; well = true }
+
+  left_here : IsLeft e (length h.trees)
+  left_here = subst (λ k. IsLeft e k) h.counted left
+
+  left_says : Says declared_types (edits_by e) h.trees seen.tree put_said
+  left_says =
+      let t = type_over e.requested.now in
+      let tree = seen.tree in
+      let own = seen.spelled.spells in
+      let edited : Edited Ty = Ok (as_it_came tree) in
+      let made_so : AreEdited (shape t.decls) (names_of t.decls) (Equal t.decls) t.type h.kept.others (lines_of_value (length h.trees) e.script.now.lines) (objects_of tree 0) (root tree 0) edited =
+      subst (λ (ls : List ScriptLine). AreEdited (shape t.decls) (names_of t.decls) (Equal t.decls) t.type h.kept.others ls (objects_of tree 0) (root tree 0) edited) (sym left_here.lines) refl in (
+        (
+          h.kept.others,
+          h.kept.done,
+          inl (record {
+            has = seen.has;
+            each = seen.each;
+            edited = edited;
+            made = made_so;
+            bytes = (tree, own_tree tree own.is_tree own.refers_back, ap answer_of seen.written ∙ sym (left_bytes e.compat tree (too_large_for_32 tree) left_here.compat));
+          }),
+        ),
+        refl,
+      )
+
+  left_first : SayFirst declared_types (task_of job) (taken ++ take n in_hand) (h.trees ++ seen.tree ∷ []) (said ++ put_said ∷ []) []
+  left_first =
+      let after : SayFirst declared_types (task_of job) (taken ++ take n in_hand) h.trees said (h.front ++ take n in_hand) = first_after declared_types (task_of job) taken h.trees said h.front (take n in_hand) h.first in
+      let whole : SayFirst declared_types (task_of job) (taken ++ take n in_hand) h.trees said (take n in_hand) =
+      subst (λ front. SayFirst declared_types (task_of job) (taken ++ take n in_hand) h.trees said (front ++ take n in_hand)) (nothing_taken job taken said values h between) after in
+      first_more declared_types (task_of job) (taken ++ take n in_hand) h.trees said (take n in_hand) [] seen.tree put_said
+      (subst (λ b. SayFirst declared_types (task_of job) (taken ++ take n in_hand) h.trees said b) (sym (append-nil (take n in_hand))) whole) seen.spelled left_says
+
+  -- out failed
+  pub left_fault : (a b : ByteState) → PutsPart (change a b) (take n in_hand) → Halts job taken said values h in_hand (change a b) halts.WriteFault
+  left_fault a b part = next_halts job taken said values h in_hand n a b values halts.WriteFault (put_said, (h.trees ++ seen.tree ∷ [], [], left_first), part)
+
+  -- what later lines copy from stays, with one value more
+  left_kept : IsKept job (h.trees ++ seen.tree ∷ []) values.kept.items values.earlier.items
+  left_kept =
+      let t = type_over e.requested.now in
+      let lines = e.script.now.lines in
+      let others = h.kept.others in
+      let as_is = as_it_came seen.tree in
+      let size : length others ≡ length h.trees = let long = done_length t lines [] h.trees others h.kept.done in omega (arith, long) in
+      let own : lines_of_value (length others) lines ≡ [] = subst (λ k. lines_of_value k lines ≡ []) (sym size) left_here.lines in
+      let last : MakeOf t lines others seen.tree as_is =
+      subst (λ (ls : List ScriptLine). AreEdited (shape t.decls) (names_of t.decls) (Equal t.decls) t.type others ls (objects_of seen.tree 0) (root seen.tree 0) (Ok as_is)) (sym own) refl in record {
+        others = others ++ as_is ∷ [];
+        done = done_more t lines [] h.trees others seen.tree as_is h.kept.done last;
+        kept = all_stay others as_is values.earlier.items h.kept.kept;
+        needed = subst (λ k. AreEarlier lines k values.earlier.items) (sym (length-append h.trees (seen.tree ∷ []))) (left_needed lines (length h.trees) values.earlier.items h.kept.needed left_here.lines left_here.unused);
+      }
+
+  -- its bytes were put, and the reader waits for the next one
+  pub left_read : HasRead job (record values { count = values.count + 1 }) (taken ++ take n in_hand) (said ++ put_said ∷ [])
+  left_read =
+      let leads : Leads limit [] values.reader = subst (λ front. Leads limit front values.reader) (nothing_taken job taken said values h between) h.leads in record {
+        ready = h.ready;
+        trees = h.trees ++ seen.tree ∷ [];
+        front = [];
+        first = left_first;
+        is_front = nothing_front limit leads.bytes;
+        goes_on = λ stop at. none_goes_on job limit (h.trees ++ seen.tree ∷ []) stop at;
+        leads = leads;
+        counted = ap (λ n. n + 1) h.counted ∙ sym (length-append h.trees (seen.tree ∷ []));
+        well = h.well ∙ (sym (and_true (all_well said)) ∙ sym (all_well-snoc said put_said));
+        kept = left_kept;
       }
 
 -- there are no more values than bytes

@@ -24,6 +24,7 @@ use Rattle.om_glance.specs.Glance.{IsGlance}
 use Rattle.om_session.specs.declared.values.Values.{Values}
 use Rattle.om_session.specs.declared.values.Job.{Job}
 use Rattle.om_session.specs.declared.values.Job.TheVariants as jobs
+use Rattle.om_session.specs.declared.edit.Edits.{Edits}
 use Rattle.om_session.specs.declared.verdict.Saying.TheVariants as sayings
 use Rattle.om_session.specs.declared.verdict.Speech.TheVariants as speeches
 use Rattle.om_session.specs.Glimpse.{IsBetween, Later, verdict_job}
@@ -79,7 +80,7 @@ fresh_glanced (jobs.Say (speeches.Tell r (sayings.Text style)) limit) values g n
 fresh_glanced (jobs.Say (speeches.Tell r (sayings.Part path style)) limit) values g none glance = none
 fresh_glanced (jobs.Say (speeches.Tell r sayings.Trees) limit) values g none glance = none
 fresh_glanced (jobs.Say speeches.Dump limit) values g none glance = none
-fresh_glanced (jobs.Edit e limit) values g none glance = none
+fresh_glanced (jobs.Edit e limit) values g none glance = (glance e.requested limit, inl none)
 fresh_glanced (jobs.Compare limit) values g none glance = none
 
 -- what is kept is a front of the next value
@@ -97,7 +98,9 @@ kept_front (jobs.Say (speeches.Tell r (sayings.Text style)) limit) values g none
 kept_front (jobs.Say (speeches.Tell r (sayings.Part path style)) limit) values g none = inl none
 kept_front (jobs.Say (speeches.Tell r sayings.Trees) limit) values g none = inl none
 kept_front (jobs.Say speeches.Dump limit) values g none = inl none
-kept_front (jobs.Edit e limit) values g none = inl none
+kept_front (jobs.Edit e limit) values g (glance, inl none) = inl none
+kept_front (jobs.Edit e limit) values g (glance, inr between) =
+    inr (record { bytes = glance.bytes; is_front = glance.is_front; between = between; may = λ n. tt })
 kept_front (jobs.Compare limit) values g none = inl none
 
 module _ (w : Job) (values : Values) (g : Glance) (taken : List ℕ) (said : List Said) (h : HasTaken w values g taken said) where
@@ -214,6 +217,67 @@ module _ (w : Job) (r : Bor Requested) (limit : ℕ) (is : IsVerdict w r limit) 
         glanced = (glance, ⊎_elim (λ none. inl (same ∙ none)) (λ between. inr between) h.glanced.1);
       })
 
+-- ---- where values are edited
+
+module _ (w : Job) (e : Edits) (limit : ℕ) (is : w ≡ jobs.Edit e limit) (values : Values) (g : Glance) where
+  -- a look can be taken
+  pub ready_to_leave : (taken : List ℕ) (said : List Said) → HasTaken w values g taken said → IsReady e.requested.now × IsGlance (table_of e.requested.now.table) limit g
+  ready_to_leave taken said =
+      let P : Job → Type 0 = λ w. HasTaken w values g taken said → IsReady e.requested.now × IsGlance (table_of e.requested.now.table) limit g in
+      subst P (sym is) (λ h. (h.read.ready.0, h.glanced.0))
+
+  pub short_edited : (taken : List ℕ) (said : List Said) (more : ℕ) → length taken + more < 2 ^ 63 → HasTaken w values g taken said
+      → (before : List ℕ) × (said : List Said) × HasRead (jobs.Edit e limit) values before said × (length before < 2 ^ 63)
+  short_edited taken said more short =
+      let P : Job → Type 0 = λ w. HasTaken w values g taken said → (before : List ℕ) × (said : List Said) × HasRead (jobs.Edit e limit) values before said × (length before < 2 ^ 63) in
+      subst P (sym is)
+      (λ h.
+      let size : length taken ≡ length h.before + length g.kept.items = ap length h.whole ∙ length-append h.before g.kept.items in
+      (h.before, said, h.read, omega (arith, size, short)))
+
+  -- a look showed a value that is put as it came
+  pub left_feeds :
+      (new : Values) (g' : Glance) (in_hand : List ℕ) (out : Change ByteState) (result : Result ℕ Halt) → g.kept.items ≡ [] → g'.kept.items ≡ [] → IsGlance (table_of e.requested.now.table) limit g'
+      → Feeds (commands declared_types) (task_of (jobs.Edit e limit)) (HasRead (jobs.Edit e limit) values) (HasRead (jobs.Edit e limit) new) in_hand out result
+      → Feeds (commands declared_types) (task_of w) (HasTaken w values g) (HasTaken w new g') in_hand out result
+  left_feeds new g' in_hand out result none none' glance feeds =
+      let v : Job = jobs.Edit e limit in
+      let P : Job → Type 0 = λ w. Feeds (commands declared_types) (task_of w) (HasTaken w values g) (HasTaken w new g') in_hand out result in
+      subst P (sym is)
+      (feeds_weaker (commands declared_types) (task_of v) (HasRead v values) (HasTaken v values g) (HasRead v new) (HasTaken v new g') in_hand out result
+      (λ bytes said h. all_read v values g bytes said none h) (λ bytes said h. read_taken v new g' bytes said none' (glance, inl none') h) feeds)
+
+  -- or that more has to come
+  pub more_edited :
+      (g' : Glance) (in_hand : List ℕ) (o : ByteState) → 0 < length in_hand → g.kept.items ≡ [] → IsBetween values → g'.kept.items ≡ in_hand → IsGlance (table_of e.requested.now.table) limit g'
+      → Feeds (commands declared_types) (task_of w) (HasTaken w values g) (HasTaken w values g') in_hand (change o o) (Ok (length in_hand))
+  more_edited g' in_hand o some none between same glance =
+      let v : Job = jobs.Edit e limit in
+      let P : Job → Type 0 = λ w. Feeds (commands declared_types) (task_of w) (HasTaken w values g) (HasTaken w values g') in_hand (change o o) (Ok (length in_hand)) in
+      let all : take (length in_hand) in_hand ≡ in_hand = take_all (length in_hand) in_hand (omega arith) in
+      subst P (sym is) (
+        some,
+        omega arith,
+        λ bytes said h. (
+          [],
+          omega arith,
+          subst (λ s. HasTaken v values g' (bytes ++ take (length in_hand) in_hand) s) (sym (append-nil said)) (record {
+            before = bytes;
+            whole = ap (λ rest. bytes ++ rest) (all ∙ sym same);
+            read = all_read v values g bytes said none h;
+            glanced = (glance, inr between);
+          }),
+          puts_nothing o,
+        ),
+      )
+
+  -- or nothing
+  pub untold_edited : (g' : Glance) (taken : List ℕ) (said : List Said) → g.kept.items ≡ [] → g'.kept.items ≡ [] → IsGlance (table_of e.requested.now.table) limit g' → HasTaken w values g taken said → HasTaken w values g' taken said
+  untold_edited g' taken said none none' glance =
+      let v : Job = jobs.Edit e limit in
+      let P : Job → Type 0 = λ w. HasTaken w values g taken said → HasTaken w values g' taken said in
+      subst P (sym is) (λ h. read_taken v values g' taken said none' (glance, inl none') (all_read v values g taken said none h))
+
 -- reading goes on after a look that showed nothing, or none was taken
 pub read_feeds :
     (w w' : Job) → w' ≡ w → (values new : Values) (g g' g'' : Glance) (in_hand : List ℕ) (out : Change ByteState) (result : Result ℕ Halt) → ((taken : List ℕ) (said : List Said) → HasTaken w values g taken said → HasTaken w values g' taken said)
@@ -229,5 +293,5 @@ glanced_any (jobs.Say (speeches.Tell r (sayings.Text style)) limit) old new g no
 glanced_any (jobs.Say (speeches.Tell r (sayings.Part path style)) limit) old new g none glanced = none
 glanced_any (jobs.Say (speeches.Tell r sayings.Trees) limit) old new g none glanced = none
 glanced_any (jobs.Say speeches.Dump limit) old new g none glanced = none
-glanced_any (jobs.Edit e limit) old new g none glanced = none
+glanced_any (jobs.Edit e limit) old new g none glanced = (glanced.0, inl none)
 glanced_any (jobs.Compare limit) old new g none glanced = none

@@ -1,20 +1,26 @@
 -- What a look at the bytes in hand shows of the next value.
-use Rattle.std.specs.Prelude.{ℕ, ◌+◌, ◌<◌, ◌≤◌, ◌≡◌, true, List, [], ◌++◌, length, take, codes, Ok}
+use Rattle.std.specs.Prelude.{ℕ, ◌+◌, ◌<◌, ◌≤◌, ◌≡◌, true, false, List, [], ◌++◌, length, take, codes, Ok}
 use Rattle.std.specs.Borrow.{Bor}
 use Rattle.om_format.specs.Tree.{Tree, root, objects_of}
 use Rattle.om_format.specs.Spelled.{SpelledUnder}
+use Rattle.om_format.specs.Canonical.{canon}
 use Rattle.om_read.specs.Reader.{Leads, EndsInput}
 use Rattle.om_outcome.specs.Outcome.{Said, the_verdict, line}
 use Rattle.om_work.specs.Works.{Has}
+use Rattle.om_types.specs.Equal.{declared_shapes}
 use Rattle.om_types.specs.Table.{Table}
+use Rattle.om_types.specs.Typing.{HasType}
+use Rattle.om_rigid.specs.Rigid.{HasEachInstance}
 use Rattle.om_type_table.specs.Made.{table_of}
 use Rattle.om_glance.specs.declared.glance.Glance.{Glance}
 use Rattle.om_glance.specs.declared.glance.Answer.{Answer}
 use Rattle.om_glance.specs.declared.glance.Answer.TheVariants as answers
 use Rattle.om_glance.specs.Glance.{IsGlance}
-use Rattle.om_declared.specs.Language.{SaysLine}
+use Rattle.om_declared.specs.Language.{SaysLine, lines_of_value}
 use Rattle.om_declared.specs.Types.{type_over}
 use Rattle.om_declared.specs.declared.types.Requested.{Requested}
+use Rattle.om_session.specs.Earlier.{IsUsedUpTo}
+use Rattle.om_session.specs.declared.edit.Edits.{Edits}
 use Rattle.om_session.specs.declared.values.Values.{Values}
 use Rattle.om_session.specs.declared.values.Job.{Job}
 use Rattle.om_session.specs.declared.values.Job.TheVariants as jobs
@@ -63,3 +69,38 @@ abbrev pub IsBetween : Values → Type 0
 IsBetween values =
     (limit : ℕ) (taken : List ℕ) → Leads limit taken values.reader
     → EndsInput {U = Unit {0}} limit taken (Ok tt)
+
+-- ---- a value that is put as it came
+
+-- the first n bytes spell a value of at most so many words that has the type, and each closed
+-- instance of it, and they are its canonical bytes
+pub record IsUnchanged (r : Requested) (limit n : ℕ) (bytes : List ℕ) : Type 0 where
+  pub within : n ≤ length bytes
+  pub tree : Tree
+  pub spelled : SpelledUnder limit (take n bytes) tree
+  pub written : take n bytes ≡ canon tree
+  pub has : HasType (declared_shapes r.decls) (objects_of tree 0) (root tree 0) r.ty
+  pub each : HasEachInstance r.decls (objects_of tree 0) (root tree 0) r.ty
+
+-- the first n bytes of the piece are such a value; nothing is kept of the next one
+pub record IsUnchangedNext (r : Requested) (limit : ℕ) (piece : List ℕ) (new : Glance) (n : ℕ)
+    : Type 0 where
+  pub some : 0 < n
+  pub unchanged : IsUnchanged r limit n piece
+  pub none : new.kept.items ≡ []
+  pub glance : (table : Table) (limit' : ℕ) → IsGlance table limit' new
+
+-- what a look at a piece shows, of whose value nothing was kept: such a value, or more has to come,
+-- or nothing
+abbrev pub IsUnchangedGlimpse : Requested → ℕ → List ℕ → Glance → Answer → Type 0
+IsUnchangedGlimpse r limit piece new (answers.Typed n) = IsUnchangedNext r limit piece new n
+IsUnchangedGlimpse r limit piece new answers.More =
+    (new.kept.items ≡ piece) × IsGlance (table_of r.table) limit new
+IsUnchangedGlimpse r limit piece new answers.Untold =
+    (new.kept.items ≡ []) × IsGlance (table_of r.table) limit new
+
+-- no line edits value k, none copies from it into a later one, and each reader may hold it
+pub record IsLeft (e : Edits) (k : ℕ) : Type 0 where
+  pub compat : e.compat ≡ false
+  pub lines : lines_of_value k e.script.now.lines ≡ []
+  pub unused : IsUsedUpTo e.script.now.lines k k

@@ -12,11 +12,14 @@ use Rattle.om_session.specs.declared.verdict.Speech.TheVariants as speeches
 use Rattle.om_session.specs.Glimpse.{IsBetween}
 use Rattle.om_session.specs.Values.{HasRead}
 
--- bytes are kept only where the verdict is told, and only of a value of which none were read: they
--- are a front of it
+-- bytes are kept only where the verdict is told or values are edited, and only of a value of which
+-- none were read: they are a front of it
 abbrev pub IsGlanced : Job → Values → Glance → Type 0
 IsGlanced (jobs.Say (speeches.Tell r sayings.Verdict) limit) values glance =
     IsGlance (table_of r.now.table) limit glance
+    × ((glance.kept.items ≡ []) ⊎ IsBetween values)
+IsGlanced (jobs.Edit e limit) values glance =
+    IsGlance (table_of e.requested.now.table) limit glance
     × ((glance.kept.items ≡ []) ⊎ IsBetween values)
 IsGlanced job values glance = glance.kept.items ≡ []
 

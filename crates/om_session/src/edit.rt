@@ -32,6 +32,29 @@ pub struct Edits<'a> {
     pub compat: bool,
 }
 
+impl Edits<'_> {
+    ghost use Rattle.std.specs.Bool.{OnTrue};
+    ghost use Rattle.om_session.specs.Glimpse.{IsLeft};
+
+    /// Whether no line edits the value of this number or copies from it into a later one, and each
+    /// reader may hold it: then its canonical bytes are put.
+    pub fn leave(self, number: u64) -> bool
+        ensures { OnTrue result (IsLeft self.entry number) }
+    {
+        if self.compat {
+            return false;
+        }
+        if self.script.last_use(number).unwrap_or(0) > number {
+            return false;
+        }
+        let mut lines = self.script.lines_of(number);
+        match lines.next() {
+            Some(_) => false,
+            None => true,
+        }
+    }
+}
+
 /// Edits the value of this number by its lines, which may copy parts of earlier values that are
 /// kept, and puts its bytes.
 pub fn edit_value<K: Sink>(

@@ -1,16 +1,20 @@
-//! A value that has its type, as one look at its bytes shows while they come, without a heap.
+//! A value that has its type, as one look at its bytes shows while they come, without a heap; and
+//! one whose bytes are also those that the runtime writes for it.
 
-ghost use Rattle.std.specs.Prelude.{IfOk};
+ghost use Rattle.std.specs.Bool.{OnTrue};
+ghost use Rattle.std.specs.Prelude.{◌≡◌, ◌≤◌, [], length, take, IfOk};
 ghost use Rattle.om_glance.specs.Glance.{IsGlance};
 ghost use Rattle.om_type_table.specs.Made.{table_of};
 ghost use Rattle.om_declared.specs.Types.{IsReady};
-ghost use Rattle.om_session.specs.Glimpse.{IsGlimpse};
+ghost use Rattle.om_session.specs.Glimpse.{IsGlimpse, IsUnchangedGlimpse};
+ghost use Rattle.om_written.specs.Written.{IsAsWritten};
 
 use om_declared::Requested;
 use om_glance::{Answer, Glance};
 use om_model::Memory;
 use om_table::tables_decide;
 use om_type_table::laws::tables_are_lawful;
+use om_written::is_as_written;
 
 /// After so many looks in a row that showed nothing most values are not looked at.
 const MISSES: u8 = 8;
@@ -74,4 +78,41 @@ pub fn glimpse<'a>(
     tables_are_lawful();
     tables_decide();
     glance.feed(&requested.table, limit, piece)
+}
+
+/// Whether the first n bytes are what the runtime writes for the value that they spell.
+fn is_front_as_written(bytes: &[u8], n: usize) -> bool
+    requires { n ≤ length bytes.now }
+    ensures { OnTrue result (IsAsWritten (take n bytes.now)) }
+{
+    is_as_written(&bytes[..n])
+}
+
+/// A look at a piece, of whose value nothing was kept: whether the value lies whole in it, has the
+/// type, and its bytes are what the runtime writes for it.
+pub fn glimpse_unchanged<'a>(
+    requested: &'a Requested,
+    limit: u64,
+    glance: &mut Glance<'a>,
+    piece: &[u8],
+) -> Result<Answer, Memory>
+    requires ready { IsReady requested.now }
+    requires glance { IsGlance (table_of requested.now.table) limit glance.old }
+    requires none { glance.old.kept.items ≡ [] }
+    ensures { IfOk result (IsUnchangedGlimpse requested.now limit piece.now glance.new) }
+{
+    tables_are_lawful();
+    tables_decide();
+    let answer = glance.feed(&requested.table, limit, piece)?;
+    match answer {
+        Answer::Typed(n) => {
+            if is_front_as_written(piece, n) {
+                Ok(Answer::Typed(n))
+            } else {
+                Ok(Answer::Untold)
+            }
+        }
+        Answer::More => Ok(Answer::More),
+        Answer::Untold => Ok(Answer::Untold),
+    }
 }

@@ -1,5 +1,5 @@
-//! A job over the values of the input: where only the verdict is told of each, a pass looks at their
-//! bytes first.
+//! A job over the values of the input: where only the verdict is told of each, or they are edited, a
+//! pass looks at their bytes first.
 
 ghost use Rattle.std.specs.Prelude.{◌≡◌, ◌≢◌, ◌<◌, ◌+◌, ◌^◌, ℕ, List, [], length, OnOk, MatchBool};
 ghost use Rattle.std.specs.Bool.{OnTrue};
@@ -10,11 +10,13 @@ ghost use Rattle.om_commands.specs.Tasks.{commands};
 ghost use Rattle.om_work.specs.Works.{Feeds};
 ghost use Rattle.om_declared.specs.Language.{TypeOver, declared_types};
 ghost use Rattle.om_session.specs.declared.values.Job.{Job};
-ghost use Rattle.om_session.specs.Glimpse.{IsBetween};
+ghost use Rattle.om_session.specs.declared.values.Job.TheVariants as jobs;
+ghost use Rattle.om_session.specs.Glimpse.{IsBetween, IsLeft};
 ghost use Rattle.om_session.specs.Progress.{HasTaken, IsGlanced};
 ghost use Rattle.om_session.specs.Values.{IsReadyJob, HasRead, task_of};
 
-use crate::glimpse::{Looks, glimpse};
+use crate::edit::Edits;
+use crate::glimpse::{Looks, glimpse, glimpse_unchanged};
 use crate::values::{Job, Values};
 use om_edge::Sink;
 use om_glance::{Answer, Glance};
@@ -47,6 +49,26 @@ fn is_due(looks: &mut Looks, values: &Values, glance: &Glance<'_>) -> bool
     } else {
         true
     }
+}
+
+/// Whether a look is taken at a value that is edited: it begins with the bytes in hand, no line
+/// needs it, and the next one is to be looked at.
+fn is_left_due(looks: &mut Looks, values: &Values, glance: &Glance<'_>, edits: Edits<'_>) -> bool
+    requires { (job : Job) × (taken : List ℕ) × (said : List Said)
+        × HasRead job values.now taken said }
+    ensures { OnTrue result ((glance.now.kept.items ≡ []) × IsBetween values.now
+        × IsLeft edits.entry values.now.count) }
+{
+    if !keeps_none(glance) {
+        return false;
+    }
+    if !values.is_between() {
+        return false;
+    }
+    if !edits.leave(values.count) {
+        return false;
+    }
+    looks.is_due()
 }
 
 /// The values take what was kept of the next one, and it is looked at no more.
@@ -110,6 +132,47 @@ impl<'a> Progress<'a> {
         give_up(alloc, &mut self.values, &mut self.glance)?;
         self.values.read_some(alloc, self.job, in_hand, out)
     }
+
+    /// The same where values are edited: one that is left as it is, whole in hand, is put without
+    /// being read, where a look shows what is to be known of it.
+    fn feed_edited<K: Sink>(
+        &mut self,
+        alloc: Global,
+        edits: Edits<'a>,
+        limit: u64,
+        in_hand: &[u8],
+        out: &mut K,
+    ) -> Result<usize, Halt>
+        requires some { 0 < length in_hand.now }
+        requires job { self.old.job ≡ jobs.Edit edits limit }
+        requires has { (taken : List ℕ) × (said : List Said)
+            × HasTaken self.old.job self.old.values self.old.glance taken said
+            × (length taken + length in_hand.now < 2 ^ 63) }
+        ensures kept { self.new.job ≡ self.old.job }
+        ensures feeds { Feeds (commands declared_types) (task_of self.old.job)
+            (HasTaken self.old.job self.old.values self.old.glance)
+            (HasTaken self.old.job self.new.values self.new.glance) in_hand.now
+            (change (K.state out.old) (K.state out.new)) result }
+    {
+        if !is_left_due(&mut self.looks, &self.values, &self.glance, edits) {
+            return self.read_on(alloc, in_hand, out);
+        }
+        let answer = glimpse_unchanged(edits.requested, limit, &mut self.glance, in_hand)?;
+        match answer {
+            Answer::Typed(n) => {
+                self.looks.hit();
+                self.values.take_left(edits, limit, in_hand, n, out)
+            }
+            Answer::More => {
+                self.looks.miss();
+                Ok(in_hand.len())
+            }
+            Answer::Untold => {
+                self.looks.miss();
+                self.read_on(alloc, in_hand, out)
+            }
+        }
+    }
 }
 
 impl Work for Progress<'_> {
@@ -126,6 +189,9 @@ impl Work for Progress<'_> {
     }
 
     fn feed<K: Sink>(&mut self, alloc: Global, in_hand: &[u8], out: &mut K) -> Result<usize, Halt> {
+        if let Job::Edit(edits, limit) = self.job {
+            return self.feed_edited(alloc, edits, limit, in_hand, out);
+        }
         let Some((requested, limit)) = self.job.verdict() else {
             return self.read_on(alloc, in_hand, out);
         };

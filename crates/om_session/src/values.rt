@@ -15,7 +15,7 @@ ghost use Rattle.om_session.specs.declared.values.Job.TheVariants as jobs;
 ghost use Rattle.om_declared.specs.Language.{declared_types};
 ghost use Rattle.om_session.specs.Verdict.{IsReadySpeech};
 ghost use Rattle.om_session.specs.SaidOfValue.{PutsSaid};
-ghost use Rattle.om_session.specs.Glimpse.{IsYes, IsBetween, Later, verdict_job};
+ghost use Rattle.om_session.specs.Glimpse.{IsYes, IsUnchanged, IsLeft, IsBetween, Later, verdict_job};
 ghost use Rattle.om_session.specs.Values.{IsReadyJob, IsStopOf, AreValues, IsFull, MayTake, HasRead, IsValueRead, KeepsNext, PutsNext, Compares, EndsScript, task_of, word_limit};
 
 use crate::earlier::{Earlier, make_room, next_reader};
@@ -289,6 +289,32 @@ impl Values {
             (change (K.state out.old) (K.state out.new)) result }
     {
         put_all(out, b"yes\n")?;
+        self.count += 1;
+        Ok(n)
+    }
+
+    /// Takes a value, the first n bytes in hand: no line needs it, and a look showed that it has the
+    /// type and that they are its canonical bytes. They are put.
+    pub fn take_left<K: Sink>(
+        &mut self,
+        edits: Edits<'_>,
+        limit: u64,
+        in_hand: &[u8],
+        n: usize,
+        out: &mut K,
+    ) -> Result<usize, Halt>
+        requires some { 0 < n }
+        requires short { (taken : List ℕ) × (said : List Said)
+            × HasRead (jobs.Edit edits limit) self.old taken said × (length taken < 2 ^ 63) }
+        requires between { IsBetween self.old }
+        requires left { IsLeft edits self.old.count }
+        requires unchanged { IsUnchanged edits.requested.now limit n in_hand.now }
+        ensures { Feeds (commands declared_types) (task_of (jobs.Edit edits.entry limit))
+            (HasRead (jobs.Edit edits.entry limit) self.old)
+            (HasRead (jobs.Edit edits.entry limit) self.new) in_hand.now
+            (change (K.state out.old) (K.state out.new)) result }
+    {
+        put_all(out, &in_hand[..n])?;
         self.count += 1;
         Ok(n)
     }

@@ -47,15 +47,22 @@ read_on-requires-in-Untold-clause-has g c =
     let untold = rw c.in-Untold.is at c.in_ok-answer.ensures in
     (t.0, t.1, untold_taken p.job c.in-Some.requested c.in-Some.limit c.in-Some.ensures p.values p.glance c.glimpse.new.glance t.0 t.1 untold.0 untold.1 t.2, t.3)
 
-pub returns-in_default-clause-kept : goal.returns-in_default-clause-kept
-returns-in_default-clause-kept g c = ap task_of c.read_on.ensures.kept
-
-pub returns-in_default-clause-feeds : goal.returns-in_default-clause-feeds
-returns-in_default-clause-feeds g c = λ reads.
+pub returns-in-Edit-clause-feeds : goal.returns-in-Edit-clause-feeds
+returns-in-Edit-clause-feeds g c = λ reads.
     let p = c.args.self.now in
-    let new = c.read_on.new.self in
-    read_feeds p.job new.job c.read_on.ensures.kept p.values new.values p.glance p.glance new.glance c.args.in_hand.now (change (g.K.Sink.state c.args.out.now) (g.K.Sink.state c.read_on.new.out)) c.read_on.result
-    (λ taken said h. h) c.read_on.ensures.feeds
+    let new = c.feed_edited.new.self in
+    read_feeds p.job new.job c.feed_edited.ensures.kept p.values new.values p.glance p.glance new.glance c.args.in_hand.now (change (g.K.Sink.state c.args.out.now) (g.K.Sink.state c.feed_edited.new.out)) c.feed_edited.result
+    (λ taken said h. h) c.feed_edited.ensures.feeds
+
+pub returns-in_default-verdict : goal.returns-in_default-verdict
+returns-in_default-verdict g c =
+    let p = c.args.self.now in
+    let new = c.read_on.new.self in record {
+      kept = ap task_of c.read_on.ensures.kept;
+      feeds = λ reads.
+          read_feeds p.job new.job c.read_on.ensures.kept p.values new.values p.glance p.glance new.glance c.args.in_hand.now (change (g.K.Sink.state c.args.out.now) (g.K.Sink.state c.read_on.new.out)) c.read_on.result
+          (λ taken said h. h) c.read_on.ensures.feeds;
+    }
 
 pub returns-then-not-is_due-clause-kept : goal.returns-then-not-is_due-clause-kept
 returns-then-not-is_due-clause-kept g c = ap task_of c.read_on-then-not-is_due.ensures.kept
