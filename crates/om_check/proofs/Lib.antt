@@ -14,3 +14,4 @@ pub mod ScannedLemmas
 pub mod SettleLemmas
 pub mod SettledLemmas
 pub mod MetLemmas
+pub mod AskedLemmas

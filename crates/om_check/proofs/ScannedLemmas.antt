@@ -9,12 +9,9 @@ use Rattle.om_types.specs.Fitting.{numbered_from}
 use Rattle.om_types.specs.Table.{Table, table_shapes}
 use Rattle.om_types.specs.Typing.{HasType}
 use Rattle.om_typing.specs.StepLaws.{AreApart, key_of}
-use Rattle.om_scan.specs.declared.straight.Scanned.TheVariants as answers
-use Rattle.om_scan.specs.Paths.{HasPath, HavePaths}
 use Rattle.om_scan.specs.declared.seconds.Seconds.{Seconds}
 use Rattle.om_scan.specs.Seconds.{noted_in}
 use Rattle.om_scan.specs.Scanned.{IsScanned, pairs_with}
-use Rattle.om_scan.proofs.ScanLemmas.{pair_at}
 use Rattle.om_check.specs.Verdict.{IsYes}
 use Rattle.om_scan.proofs.IncreaseLemmas.{numbered}
 use Rattle.std.proofs.lemmas.List.{length-append}
@@ -79,9 +76,3 @@ scanned_yes table graph types scanned =
       record { fits = scanned.typing.fits 0 0 pair; typed = (numbered_from 0 types, scanned.typing, pair) },
       record { typing = scanned.typing; rooted = (0, pair, refl); apart = numbers_apart table types },
     )
-
--- some path leads to each pair
-pub scanned_paths :
-    (table : Table) (graph : List Obj) (types : List ℕ) → HavePaths table graph (answers.Told types)
-    → (o t : ℕ) → Contains (numbered_from 0 types) (o, t) → HasPath table graph (vals.Ref 0) o t
-scanned_paths table graph types led o t among = led o t (pair_at types o t among)

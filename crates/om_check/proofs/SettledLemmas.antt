@@ -128,10 +128,8 @@ module _ (table : Table) (graph : List Obj) (types : List ℕ) (seconds : Second
         record { typing = pairs_typing; rooted = (0, pair, refl); apart = pairs_apart },
       )
 
-  pub settled_paths :
-      ((o t : ℕ) → slice_get types o ≡ Some t → HasPath table graph (vals.Ref 0) o t)
-      → (o t : ℕ) → Contains (pairs_with types seconds) (o, t) → HasPath table graph (vals.Ref 0) o t
-  settled_paths led o t among = ⊎_elim (led o t) (settled.over.paths o t) (cases o t among)
+  pub settled_cases : (o t : ℕ) → Contains (pairs_with types seconds) (o, t) → (slice_get types o ≡ Some t) ⊎ HasPath table graph (vals.Ref 0) o t
+  settled_cases o t among = ⊎_elim (λ one. inl one) (λ other. inr (settled.over.paths o t other)) (cases o t among)
 
   pub settled_few : 1 + (cost_of graph types + cost_of_pairs graph (noted_in seconds)) ≤ most_steps table graph
   settled_few =

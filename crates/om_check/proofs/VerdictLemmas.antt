@@ -1,5 +1,5 @@
 -- What all visits say of the value, where none of their needs is a misfit.
-use Rattle.std.proofs.Common.{ℕ, ◌<◌, ◌≤◌, ◌≡◌, ◌∙◌, ◌⊎◌, inl, inr, ⊎_elim, ◌++◌, List, [], ◌∷◌, length, Some, refl, sym, ap, subst, arith}
+use Rattle.std.proofs.Common.{ℕ, ◌<◌, ◌≤◌, ◌≡◌, ◌∙◌, inl, inr, ⊎_elim, ◌++◌, List, [], ◌∷◌, length, Some, refl, sym, ap, subst, arith}
 use Rattle.std.specs.Prelude.{slice_get, Contains, IsSomeAnd, IsTrue}
 use Rattle.std.proofs.lemmas.Option.{same_Some, slice_get_within}
 use Rattle.om_model.proofs.Options.{slice_get-Contains, slice_get_there, Contains-map, map-Contains}

@@ -1,3 +1,4 @@
+pub mod Asked
 pub mod Rest
 pub mod Trail
 pub mod Visits

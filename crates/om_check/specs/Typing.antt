@@ -10,3 +10,4 @@ abbrev pub pairs_in : Pairs → List (ℕ × ℕ)
 pairs_in (forms.Searched visits) = pairs_of (listed visits)
 pairs_in (forms.Scanned types) = numbered_from 0 types
 pairs_in (forms.Settled settled) = settled
+pairs_in (forms.Listed pairs) = pairs.items

@@ -1,9 +1,9 @@
 //! Whether a value has the type that is number 0 of a table.
 
-ghost use Rattle.std.specs.Prelude.{◌≡◌, ◌≤◌, ◌<◌, ◌+◌, length, IfOk};
+ghost use Rattle.std.specs.Prelude.{◌≡◌, ◌≤◌, ◌<◌, ◌+◌, length, IfOk, IsTrue};
 ghost use Rattle.om_model.specs.declared.value.Val.TheVariants as vals;
 ghost use Rattle.om_model.specs.Graph.{IsValue, IsGraph};
-ghost use Rattle.om_types.specs.Table.{table_shapes};
+ghost use Rattle.om_types.specs.Table.{table_shapes, is_asked_in};
 ghost use Rattle.om_types.specs.Steps.{most_steps};
 ghost use Rattle.om_type_table.specs.Made.{table_of, IsLawful};
 ghost use Rattle.om_scan.specs.FittingRows.{AreRows};
@@ -15,6 +15,7 @@ ghost use Rattle.om_check.specs.Told.{AreOrdered, IsClashOf};
 ghost use Rattle.om_check.specs.Visits.{listed};
 ghost use Rattle.om_check.specs.Verdict.{IsVerdict, PairsHavePaths};
 
+use crate::asked::{settled_typing, told_typing};
 use crate::clash::first_clash;
 use crate::path::path_of;
 use crate::search::search;
@@ -22,7 +23,7 @@ use crate::settle::settle;
 use crate::typing::Typing;
 use crate::verdict::Verdict;
 use crate::visits::Visits;
-use om_fits::{Row, needs_of};
+use om_fits::{Row, is_asked, needs_of};
 use om_heap::Heap;
 use om_model::Memory;
 use om_model::path::Path;
@@ -57,8 +58,43 @@ pub fn check(
 }
 
 /// The same of an object that fits the type: mostly a scan of the objects tells it, where the
-/// object is the first.
+/// object is the first, and something is asked of it.
 fn check_object(
+    alloc: Global,
+    heap: &Heap,
+    object: u64,
+    table: &TypeTable,
+    steps: &mut Steps,
+) -> Result<Verdict, Memory>
+    requires object { object < length heap.now }
+    requires table { IsLawful (table_of table.now) }
+    requires fits { (table_shapes (table_of table.now)).fits heap.now (vals.Ref object) 0 }
+    ensures verdict { IfOk result (IsVerdict (table_of table.now) heap.now (vals.Ref object)) }
+    ensures paths { IfOk result (PairsHavePaths (table_of table.now) heap.now (vals.Ref object)) }
+    ensures steps { steps.new + 1 ≤ steps.old + most_steps (table_of table.now) heap.now }
+{
+    if object != 0 {
+        return search_whole(alloc, heap, object, table, steps);
+    }
+    if !is_asked(table.shape(0)) {
+        return search_whole(alloc, heap, object, table, steps);
+    }
+    let objects = heap.count();
+    let rows = rows_of(alloc, heap, table)?;
+    match scan(alloc, heap, table, &rows, steps)? {
+        Scanned::Told(types) => {
+            let typing = told_typing(alloc, table, types)?;
+            Ok(Verdict::Yes(typing))
+        }
+        Scanned::Noted(noted) => settle_noted(alloc, heap, objects, table, &rows, noted, steps),
+        Scanned::Stopped(taken) => {
+            search_object(alloc, heap, objects, object, table, &rows, &taken, steps)
+        }
+    }
+}
+
+/// The same of any object that fits the type, by a search of the heap alone.
+fn search_whole(
     alloc: Global,
     heap: &Heap,
     object: u64,
@@ -74,17 +110,8 @@ fn check_object(
 {
     let objects = heap.count();
     let rows = rows_of(alloc, heap, table)?;
-    if object != 0 {
-        let none = Taken::none(alloc)?;
-        return search_object(alloc, heap, objects, object, table, &rows, &none, steps);
-    }
-    match scan(alloc, heap, table, &rows, steps)? {
-        Scanned::Told(types) => Ok(Verdict::Yes(Typing::scanned(types))),
-        Scanned::Noted(noted) => settle_noted(alloc, heap, objects, table, &rows, noted, steps),
-        Scanned::Stopped(taken) => {
-            search_object(alloc, heap, objects, object, table, &rows, &taken, steps)
-        }
-    }
+    let none = Taken::none(alloc)?;
+    search_object(alloc, heap, objects, object, table, &rows, &none, steps)
 }
 
 /// The same of the first object, where a scan met objects at second classes: mostly they are
@@ -105,6 +132,7 @@ fn settle_noted(
     requires rows { AreRows table.now.nodes rows.now }
     requires table { IsLawful (table_of table.now) }
     requires fits { (table_shapes (table_of table.now)).fits heap.now (vals.Ref 0) 0 }
+    requires asked { IsTrue (is_asked_in (table_of table.now) 0) }
     requires told { Tells (table_of table.now) heap.now (answers.Noted noted) }
     requires paths { HavePaths (table_of table.now) heap.now (answers.Noted noted) }
     requires all { noted.all ≤ cost_of heap.now noted.taken.types }
@@ -123,7 +151,7 @@ fn settle_noted(
     let mut more = Steps::new();
     match settle(heap, table, rows, &taken.types, seconds, all, &mut more)? {
         Some(seconds) => {
-            let typing = Typing::settled(taken.types, seconds)?;
+            let typing = settled_typing(alloc, table, taken.types, seconds)?;
             steps.raise_by(all);
             steps.raise_by(more.taken());
             Ok(Verdict::Yes(typing))

@@ -1,6 +1,7 @@
 //! Whether a value has a type, which is a number of a table, and if not the least fault.
 #![tactic(auto)]
 
+mod asked;
 mod clash;
 mod decide;
 mod laws;

@@ -21,6 +21,8 @@ pub enum Pairs {
     Scanned(Cells),
     /// The same, and then objects at further types.
     Settled(Settled),
+    /// Objects at types, in any order.
+    Listed(Vec<(u64, usize)>),
 }
 
 /// Objects at types that justify one another: as a search met them, or by the objects' numbers, and
@@ -69,6 +71,15 @@ impl Typing {
         })
     }
 
+    /// These pairs.
+    pub fn listed(pairs: Vec<(u64, usize)>) -> Typing
+        ensures { result ≡ pairs.items }
+    {
+        Typing {
+            pairs: Pairs::Listed(pairs),
+        }
+    }
+
     /// How many there are.
     pub fn len(&self) -> usize
         ensures { result ≡ length self.now }
@@ -93,6 +104,7 @@ fn count_in(pairs: &Pairs) -> usize
         Pairs::Searched(visits) => visits.len(),
         Pairs::Scanned(types) => types.len(),
         Pairs::Settled(settled) => settled.len(),
+        Pairs::Listed(pairs) => pairs.len(),
     }
 }
 
@@ -108,5 +120,14 @@ fn pair_at(pairs: &Pairs, k: usize) -> (u64, usize)
         }
         Pairs::Scanned(types) => (k as u64, types.get(k) as usize),
         Pairs::Settled(settled) => settled.get(k),
+        Pairs::Listed(pairs) => listed_at(pairs, k),
     }
+}
+
+/// Pair k of a list.
+fn listed_at(pairs: &Vec<(u64, usize)>, k: usize) -> (u64, usize)
+    requires { k < length pairs.now.items }
+    ensures { slice_get pairs.now.items k ≡ Some (result.0, result.1) }
+{
+    pairs[k]
 }

@@ -21,7 +21,7 @@ use Rattle.om_scan.specs.declared.notes.First.{First}
 use Rattle.om_scan.specs.declared.notes.Notes.{Notes}
 use Rattle.om_scan.specs.declared.notes.Unmet.{Unmet}
 use Rattle.om_scan.specs.declared.seconds.Seconds.{Seconds}
-use Rattle.om_scan.specs.Paths.{HasPath}
+use Rattle.om_scan.specs.Paths.{HasPath, IsLed}
 use Rattle.om_scan.specs.Seconds.{noted_in, AreSeconds, IsNoting}
 use Rattle.om_scan.specs.Scanned.{object_typed}
 use Rattle.om_scan.specs.Scan.{first_or, AreMarks, AreKept, IsSecond, AreNoted, AreStillNoted, IsMet, IsOther, IsNoted, IsUnfit, AreMet, IsUnmet, IsFirstOf, IsToldIn, IsWhole, IsMeeting, IsTaken}
@@ -60,7 +60,7 @@ module _ (table : Table) (graph : List Obj) where
 
   pub marks_more :
       (marks : List ℕ) (key t : ℕ) → AreMarks table graph marks → key < length marks → t < length table.nodes
-      → ((o : ℕ) → o < length graph → key_of graph o ≡ key → HasPath table graph (vals.Ref 0) o t)
+      → ((o : ℕ) → o < length graph → key_of graph o ≡ key → IsLed table graph o t)
       → AreMarks table graph (slice_set marks key (suc t))
   marks_more marks key t are inside less led = record {
     keyed = λ o there. subst (λ m. key_of graph o < m) (sym (length-set marks key (suc t))) (are.keyed o there);
@@ -72,7 +72,7 @@ module _ (table : Table) (graph : List Obj) where
         (λ same.
         let is = ap (slice_index (slice_set marks key (suc t))) same ∙ get_or-set_same marks key (suc t) 0 inside in
         let type : t ≡ u = omega (arith, is, marked) in
-        subst (HasPath table graph (vals.Ref 0) o) type (led o there same))
+        subst (IsLed table graph o) type (led o there same))
         (λ apart. are.paths o u there (sym (get_or-set_other marks key (key_of graph o) (suc t) 0 apart) ∙ marked))
         (same_or_not (key_of graph o) key);
   }
@@ -147,7 +147,7 @@ module _ (table : Table) (graph : List Obj) where
     other = second.other;
   }
 
-  noted_kept : (old new : List ℕ) (seconds : Seconds) → AreKept old new → AreNoted table graph old seconds → AreNoted table graph new seconds
+  pub noted_kept : (old new : List ℕ) (seconds : Seconds) → AreKept old new → AreNoted table graph old seconds → AreNoted table graph new seconds
   noted_kept old new seconds kept noted = record {
     valid = noted.valid;
     all = λ o t among. second_kept old new o t kept (noted.all o t among);

@@ -1,7 +1,9 @@
 -- What is noted on the way of a scan, object by object.
-use Rattle.std.proofs.Common.{ℕ, suc, ◌+◌, ◌<◌, ◌≤◌, ◌≡◌, ◌∙◌, List, [], length, take, Option, Some, None, sym, ap, subst, arith}
+use Rattle.std.proofs.Common.{ℕ, suc, ◌+◌, ◌<◌, ◌≤◌, ◌≡◌, ◌∙◌, ◌++◌, List, [], ◌∷◌, length, take, Option, Some, None, refl, sym, ap, subst, arith}
 use Rattle.std.specs.Prelude.{slice_get, slice_set, Contains, MatchOption}
-use Rattle.std.proofs.lemmas.List.{take-set, take-set-le}
+use Rattle.std.proofs.lemmas.Bool.{false≢true}
+use Rattle.std.proofs.lemmas.Option.{none-some}
+use Rattle.std.proofs.lemmas.List.{take-set, take-set-le, take_more_set, get_or-set_same}
 use Rattle.om_model.proofs.Options.{Contains-none}
 use Rattle.om_model.specs.declared.value.Val.TheVariants as vals
 use Rattle.om_model.specs.declared.value.Obj.{Obj}
@@ -10,11 +12,13 @@ use Rattle.om_heap.specs.Heap.{key_of}
 use Rattle.om_scan.specs.declared.notes.First.{First}
 use Rattle.om_scan.specs.declared.notes.Notes.{Notes}
 use Rattle.om_scan.specs.declared.straight.Stop.TheVariants as stops
+use Rattle.om_scan.specs.Paths.{IsHidden}
 use Rattle.om_scan.specs.Seconds.{noted_in}
-use Rattle.om_scan.specs.Scan.{mark_of, AreMarks, AreKept, AreNoted, IsFirstOf, IsToldIn, IsWhole, IsScanning, Stops, IsStoppedAt, AreNotes}
+use Rattle.om_scan.specs.Scan.{mark_of, AreMarks, AreKept, AreNoted, IsFirstOf, IsToldIn, IsWhole, IsScanning, Stops, IsStoppedAt, AreNotes, IsGoing}
 use Rattle.om_scan.proofs.PlaceLemmas.{slice_set_at, slice_set_other}
-use Rattle.om_scan.proofs.MarkLemmas.{unmet_kept}
-use Rattle.om_scan.proofs.ScanLemmas.{scanning_kept}
+use Rattle.om_scan.proofs.MarkLemmas.{unmet_kept, marks_more, kept_more, noted_kept, meeting_first}
+use Rattle.om_scan.proofs.ScanLemmas.{scanning_kept, scanning_more}
+use Rattle.om_scan.proofs.PathLemmas.{hidden_typed, hidden_fits}
 use Rattle.om_scan.proofs.SecondLemmas.{seconds_none, nothing_in}
 
 module _ (table : Table) (graph : List Obj) where
@@ -120,3 +124,44 @@ module _ (table : Table) (graph : List Obj) where
         → MatchOption found (noted_in notes.seconds ≡ []) (λ first. Unit {0})
     by_first None none = none
     by_first (Some first) is = tt
+
+  -- ---- an object that is passed
+
+  module _ (marks types : List ℕ) (notes : Notes) (o t steps : ℕ) (inside : o < length graph) (many : length types ≡ length graph)
+      (hidden : IsHidden table t) (unmarked : mark_of graph marks o ≡ 0) (going : IsGoing table graph marks types notes o steps) where
+    keyed : key_of graph o < length marks
+    keyed = going.scanning.valid.keyed o inside
+
+    passed_valid : AreMarks table graph (slice_set marks (key_of graph o) (suc t))
+    passed_valid = marks_more table graph marks (key_of graph o) t going.scanning.valid keyed hidden.0
+        (λ p here same asked. absurd (false≢true (sym hidden.1 ∙ asked)))
+
+    passed_kept : AreKept marks (slice_set marks (key_of graph o) (suc t))
+    passed_kept = kept_more table graph marks (key_of graph o) t unmarked
+
+    passed_mark : mark_of graph (slice_set marks (key_of graph o) (suc t)) o ≡ suc t
+    passed_mark = get_or-set_same marks (key_of graph o) (suc t) 0 keyed
+
+    passed_noted : AreNoted table graph (slice_set marks (key_of graph o) (suc t)) notes.seconds
+    passed_noted = noted_kept table graph marks (slice_set marks (key_of graph o) (suc t)) notes.seconds passed_kept going.noted.noted
+
+    passed_told : IsToldIn table graph (slice_set marks (key_of graph o) (suc t)) o t steps notes notes
+    passed_told = (meeting_first table graph (slice_set marks (key_of graph o) (suc t)) notes o t steps passed_valid passed_noted
+        (whole_notes marks types o notes going.noted)).told
+
+    passed_scanning : IsScanning table graph (slice_set marks (key_of graph o) (suc t)) (noted_in notes.seconds) (take o types ++ t ∷ []) (o + 1) steps
+    passed_scanning = scanning_more table graph (slice_set marks (key_of graph o) (suc t)) (slice_set marks (key_of graph o) (suc t)) (noted_in notes.seconds) (noted_in notes.seconds)
+        (take o types) o t steps steps inside
+        (scanning_kept table graph marks (slice_set marks (key_of graph o) (suc t)) (noted_in notes.seconds) (noted_in notes.seconds) (take o types) o steps steps (omega arith)
+        going.scanning passed_valid passed_kept (λ p among. among))
+        passed_valid (λ key some. refl) (λ p among. among) passed_mark (hidden_fits table graph o t inside hidden.1)
+        (λ j i a less at_j asked. absurd (none-some (i, a) (ap (λ needs. slice_get needs j) (sym (hidden_typed table graph o t inside hidden.1)) ∙ at_j)))
+        (omega arith)
+
+    pub passed : IsGoing table graph (slice_set marks (key_of graph o) (suc t)) (slice_set types o t) notes (o + 1) steps
+    passed = record {
+      scanning = subst (λ ts. IsScanning table graph (slice_set marks (key_of graph o) (suc t)) (noted_in notes.seconds) ts (o + 1) steps)
+          (sym (take_more_set types o t (omega (arith, inside, many)))) passed_scanning;
+      noted = notes_turned marks (slice_set marks (key_of graph o) (suc t)) types o t steps passed_kept passed_valid (omega (arith, inside, many)) passed_mark
+          (hidden_fits table graph o t inside hidden.1) notes notes going.noted going.scanning passed_noted passed_told;
+    }

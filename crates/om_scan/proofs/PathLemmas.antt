@@ -1,16 +1,21 @@
 -- Paths to the objects that a scan marks.
-use Rattle.std.proofs.Common.{ℕ, ◌<◌, ◌≡◌, ◌∙◌, ⊎_elim, ◌++◌, List, [], ◌∷◌, length, Some, refl, ap, arith}
-use Rattle.std.specs.Prelude.{slice_get, option_map, option_and_then, IsTrue}
-use Rattle.om_model.proofs.Options.{slice_get-Contains}
+use Rattle.std.proofs.Common.{ℕ, ◌<◌, ◌≡◌, ◌∙◌, ⊎_elim, ◌++◌, Bool, true, false, List, [], ◌∷◌, length, Some, refl, sym, ap, subst, arith}
+use Rattle.std.specs.Prelude.{slice_get, option_map, option_and_then, IsTrue, IsSome}
+use Rattle.std.proofs.lemmas.Option.{none-some}
+use Rattle.om_model.proofs.Options.{slice_get_there, slice_get-Contains}
 use Rattle.om_model.specs.Graph.{IsGraph}
 use Rattle.om_model.specs.declared.value.Val.{Val}
 use Rattle.om_model.specs.declared.value.Val.TheVariants as vals
 use Rattle.om_model.specs.declared.value.Obj.{Obj}
 use Rattle.om_model.proofs.Numbers.{less_same_more}
+use Rattle.om_model.specs.declared.value.Obj.TheVariants as objects
+use Rattle.om_types.specs.declared.shape.ShapeOf.TheVariants as shapes
+use Rattle.om_types.specs.Fitting.{object_fields, fields_of, or_none}
 use Rattle.om_types.specs.Fault.{type_of_field, step}
 use Rattle.om_types.specs.Table.{Table, table_shapes, node_or_none, is_asked_in}
 use Rattle.om_types.proofs.AskedLemmas.{need_typed, typed_needed}
 use Rattle.om_types.proofs.FaultLemmas.{named_is_needed}
+use Rattle.om_types.proofs.HiddenLemmas.{hidden_is}
 use Rattle.om_typing.proofs.NeedLemmas.{needed_is_named}
 use Rattle.om_typing.proofs.PathLemmas.{value_at-push}
 use Rattle.om_table.proofs.FieldLemmas.{fields_once}
@@ -31,6 +36,15 @@ same_from_key graph o p valid here there same = ⊎_elim
     (λ more. let grows = place_grows graph p o valid more there in absurd (omega (arith, grows, same)))
     others)
     (less_same_more o p)
+
+any_object : (object : Obj) → object_fields {T = ℕ} shapes.Anything object ≡ Some []
+any_object (objects.Block tag values) = refl
+any_object (objects.Bytes bytes) = refl
+any_object (objects.Double bits) = refl
+any_object (objects.Doubles all) = refl
+any_object (objects.I32 z) = refl
+any_object (objects.I64 z) = refl
+any_object (objects.Native z) = refl
 
 module _ (table : Table) (graph : List Obj) where
   -- the number of a field of which something is asked names its type
@@ -58,3 +72,24 @@ module _ (table : Table) (graph : List Obj) where
       ap (λ x. option_and_then (λ y. option_map (λ u. (y, u)) (type_of_field (object_needs table graph o t) i)) x) field
       ∙ ap (λ u. option_map (λ b. (vals.Ref p, b)) u) named in
       (led.0 ++ i ∷ [], value_at-push (table_shapes table) graph led.0 root 0 i (vals.Ref o, t) (vals.Ref p, a) led.1 stepped)
+
+  -- an object has no fields that have types where nothing is asked, and fits
+  pub hidden_fields : (o t : ℕ) → o < length graph → is_asked_in table t ≡ false
+      → fields_of graph (vals.Ref o) (node_or_none (slice_get table.nodes t)) ≡ Some []
+  hidden_fields o t inside hidden =
+      let there = slice_get_there graph o inside in
+      ap (fields_of graph (vals.Ref o)) (hidden_is (node_or_none (slice_get table.nodes t)) hidden)
+      ∙ ap (option_and_then (object_fields {T = ℕ} shapes.Anything)) there.1 ∙ any_object there.0
+
+  pub hidden_typed : (o t : ℕ) → o < length graph → is_asked_in table t ≡ false → object_typed table graph o t ≡ []
+  hidden_typed o t inside hidden = ap or_none (hidden_fields o t inside hidden)
+
+  pub hidden_fits : (o t : ℕ) → o < length graph → is_asked_in table t ≡ false → (table_shapes table).fits graph (vals.Ref o) t
+  hidden_fits o t inside hidden = subst IsSome (sym (hidden_fields o t inside hidden)) refl
+
+  -- what has fields that have types is asked about
+  pub typed_asked : (o t k : ℕ) (need : ℕ × ℕ) → o < length graph → slice_get (object_typed table graph o t) k ≡ Some need → IsTrue (is_asked_in table t)
+  typed_asked o t k need inside at_k = by (is_asked_in table t) refl where
+    by : (asked : Bool) → is_asked_in table t ≡ asked → IsTrue (is_asked_in table t)
+    by true is = is
+    by false is = absurd (none-some need (ap (λ needs. slice_get needs k) (sym (hidden_typed o t inside is)) ∙ at_k))

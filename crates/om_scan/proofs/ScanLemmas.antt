@@ -19,7 +19,7 @@ use Rattle.om_heap.specs.Heap as heap
 use Rattle.om_heap.specs.Heap.{field_at}
 use Rattle.om_type_table.specs.Made.{IsLawful}
 use Rattle.om_scan.specs.declared.straight.Scanned.TheVariants as answers
-use Rattle.om_scan.specs.Paths.{HasPath, HavePaths}
+use Rattle.om_scan.specs.Paths.{HasPath, IsLed, HavePaths}
 use Rattle.om_scan.specs.Taken.{size_of}
 use Rattle.om_scan.specs.declared.seconds.Seconds.{Seconds}
 use Rattle.om_scan.specs.Seconds.{noted_in}
@@ -87,7 +87,7 @@ module _ (table : Table) (graph : List Obj) where
       let zeros = marks_none table graph n keys in
       let inside : key < length {A = ℕ} (replicate n 0) = subst (λ k. k < length {A = ℕ} (replicate n 0)) (sym is) (zeros.keyed 0 some) in
       record {
-        valid = subst (AreMarks table graph) (sym made) (marks_more table graph (replicate n 0) key 0 zeros inside rooted (λ o here same.
+        valid = subst (AreMarks table graph) (sym made) (marks_more table graph (replicate n 0) key 0 zeros inside rooted (λ o here same asked.
             subst (λ p. HasPath table graph (vals.Ref 0) p 0) (sym (same_from_key graph o 0 is_graph here some (same ∙ is))) (root_path table graph 0)));
         root = ap (λ ms. mark_of graph ms 0) made ∙ ap (slice_index (slice_set (replicate n 0) key 1)) (sym is) ∙ get_or-set_same (replicate n 0) key 1 0 inside;
         many = refl;
@@ -255,7 +255,7 @@ module _ (table : Table) (graph : List Obj) where
           record { inside = second.inside; within = second.within; first = second.first; typed = met_type o second.first second.inside second.marked; other = second.other };
     }
 
-    pub types_paths : (o t : ℕ) → slice_get types o ≡ Some t → HasPath table graph (vals.Ref 0) o t
+    pub types_paths : (o t : ℕ) → slice_get types o ≡ Some t → IsLed table graph o t
     types_paths o t at_o = scanning.valid.paths o t (inside_of o t at_o) (scanning.taken o t at_o).marked
 
     pub all_few : 1 + steps ≤ most_steps table graph

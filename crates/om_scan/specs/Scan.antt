@@ -12,7 +12,7 @@ use Rattle.om_scan.specs.declared.notes.Unmet.{Unmet}
 use Rattle.om_scan.specs.declared.seconds.Seconds.{Seconds}
 use Rattle.om_scan.specs.declared.straight.Stop.{Stop}
 use Rattle.om_scan.specs.declared.straight.Stop.TheVariants as stops
-use Rattle.om_scan.specs.Paths.{HasPath}
+use Rattle.om_scan.specs.Paths.{HasPath, IsLed}
 use Rattle.om_scan.specs.Seconds.{noted_in, AreSeconds, IsNoting}
 use Rattle.om_scan.specs.Scanned.{object_typed, cost_of}
 
@@ -23,12 +23,12 @@ abbrev pub mark_of : List Obj → List ℕ → ℕ → ℕ
 mark_of graph marks o = slice_index marks (key_of graph o)
 
 -- There is one for each object, and each is 0 or one more than a type, at which some path leads to
--- the object.
+-- the object, where something is asked of the type's values.
 pub record AreMarks (table : Table) (graph : List Obj) (marks : List ℕ) : Type 0 where
   pub keyed : (o : ℕ) → o < length graph → key_of graph o < length marks
   pub small : (key : ℕ) → slice_index marks key ≤ length table.nodes
   pub paths : (o t : ℕ) → o < length graph → mark_of graph marks o ≡ suc t
-      → HasPath table graph (vals.Ref 0) o t
+      → IsLed table graph o t
 
 -- none that is there changes
 abbrev pub AreKept : List ℕ → List ℕ → Type 0

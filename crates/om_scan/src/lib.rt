@@ -4,6 +4,7 @@
 mod cells;
 mod fitting;
 mod notes;
+mod passed;
 mod rows;
 mod seconds;
 mod steps;

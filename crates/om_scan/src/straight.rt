@@ -1,6 +1,6 @@
 //! The types of the objects in the order of their numbers.
 
-ghost use Rattle.std.specs.Prelude.{ℕ, ◌≡◌, ◌≢◌, ◌<◌, ◌≤◌, ◌+◌, ◌%◌, ◌^◌, ◌↔◌, [], length, take, slice_get, IsTrue, Some, Ok, IfOk, OnOk, MatchOption};
+ghost use Rattle.std.specs.Prelude.{ℕ, ◌≡◌, ◌≢◌, ◌<◌, ◌≤◌, ◌+◌, ◌%◌, ◌^◌, ◌↔◌, [], length, take, slice_get, IsTrue, Some, Ok, IfOk, IfSome, OnOk, MatchOption};
 ghost use Rattle.std.specs.Bool.{OnTrue, OnFalse};
 ghost use Rattle.om_model.specs.Graph.{IsValue, IsGraph};
 ghost use Rattle.om_model.specs.declared.value.Val.{Val};
@@ -11,14 +11,15 @@ ghost use Rattle.om_fits.specs.Needs.{needs_in};
 ghost use Rattle.om_type_table.specs.Made.{table_of, IsLawful};
 ghost use Rattle.om_scan.specs.FittingRows.{AreRows};
 ghost use Rattle.om_scan.specs.Taken.{types_in};
-ghost use Rattle.om_scan.specs.Paths.{HasPath, HavePaths};
+ghost use Rattle.om_scan.specs.Paths.{HasPath, IsHidden, IsLed, HavePaths};
 ghost use Rattle.om_scan.specs.Scanned.{object_typed, Tells, AreTaken, AreCounted, cost_of, left_of};
 ghost use Rattle.om_scan.specs.Seconds.{noted_in, AreSeconds};
-ghost use Rattle.om_scan.specs.Scan.{AreMarks, AreKept, IsMet, IsOther, AreMet, IsUnmet, AreNoted, AreStillNoted, IsNotedAt, first_or, first_of, Continues, IsUnfit, IsWhole, IsToldIn, IsInRow, IsStoppedAt, IsGoing, IsStopped, IsScanning, Stops, IsTurned};
+ghost use Rattle.om_scan.specs.Scan.{mark_of, AreMarks, AreKept, IsMet, IsOther, AreMet, IsUnmet, AreNoted, AreStillNoted, IsNotedAt, first_or, first_of, Continues, IsUnfit, IsWhole, IsToldIn, IsInRow, IsStoppedAt, IsGoing, IsStopped, IsScanning, Stops, IsTurned};
 
 use crate::cells::Cells;
 use crate::fitting::fits_type;
 use crate::notes::{First, Notes, Unmet};
+use crate::passed::hidden_type;
 use crate::seconds::Seconds;
 use crate::steps::Steps;
 use crate::taken::{Taken, Unfit};
@@ -66,10 +67,11 @@ enum Stop {
 }
 
 /// Tries the objects in the order of their numbers, the first at type 0, which it fits, and each
-/// other at the type at which it was met first. Where each is met before its turn and all fits, the
-/// answer is the type of each, with what was met at unequal types too; where not, what was taken
-/// until then, or until the first that was met at an unequal type. A step is counted for each
-/// object taken, and for each need tested.
+/// other at the type at which it was met first. One that is not met before its turn is passed: it is
+/// told at a type of whose values nothing is asked, if the table has one. Where all is met or passed
+/// and fits, the answer is the type of each, with what was met at unequal types too; where not, what
+/// was taken until then, or until the first that was met at an unequal type. A step is counted for
+/// each object taken that is not passed, and for each need tested.
 pub fn scan(
     alloc: Global,
     heap: &Heap,
@@ -92,9 +94,10 @@ pub fn scan(
     let mut types = Cells::new(alloc, heap.count() as usize, most)?;
     let mut notes = Notes::none(alloc);
     let mut taken = Steps::new();
+    let hidden = hidden_type(heap, table);
     for o in 0..heap.count() {
         if let Some(stop) = take_object(
-            heap, table, rows, &mut marks, &mut notes, &mut types, o, &mut taken,
+            heap, table, rows, &mut marks, &mut notes, &mut types, o, hidden, &mut taken,
         )? {
             let (first, before) = stopped(heap, table, &marks, &notes, types, o, stop, taken);
             steps.raise_by(before);
@@ -255,8 +258,9 @@ fn stop_at(
     }
 }
 
-/// Takes object o at the type that it is marked with. Where it is not marked, does not fit or a
-/// need is not met, it is not taken, and that is the answer.
+/// Takes object o at the type that it is marked with; one that is not marked is passed. Where it is
+/// not marked and cannot be passed, does not fit or a need is not met, it is not taken, and that is
+/// the answer.
 #[inline(always)]
 fn take_object(
     heap: &Heap,
@@ -266,6 +270,7 @@ fn take_object(
     notes: &mut Notes,
     types: &mut Cells,
     o: u64,
+    hidden: Option<usize>,
     taken: &mut Steps,
 ) -> Result<Option<Stop>, Memory>
     requires graph { IsGraph heap.now }
@@ -276,6 +281,7 @@ fn take_object(
     requires going { IsGoing (table_of table.now) heap.now marks.old types.old notes.old o
         taken.old }
     requires root { (table_shapes (table_of table.now)).fits heap.now (vals.Ref 0) 0 }
+    requires hidden { IfSome hidden (IsHidden (table_of table.now)) }
     ensures many { OnOk result (length types.new ≡ length heap.now) }
     ensures turned { IfOk result
         (IsTurned (table_of table.now) heap.now marks.new types.new notes.new o taken.new) }
@@ -283,7 +289,7 @@ fn take_object(
     let word = heap.word(Val::Ref(o));
     let mark = marks.get(heap.key(word));
     if mark == 0 {
-        return Ok(Some(Stop::Unmarked));
+        return pass_object(heap, table, marks, notes, types, o, hidden, taken);
     }
     let ty = mark as usize - 1;
     if !fits_mark(heap, table, rows, o, word, ty) {
@@ -299,6 +305,41 @@ fn take_object(
     }
     taken.raise();
     taken.raise_by(many);
+    Ok(None)
+}
+
+/// Passes object o, which is not marked: it is told at a type of whose values nothing is asked, and
+/// no step is counted. A later need at another type finds it marked with that type, and is noted.
+#[inline(never)]
+fn pass_object(
+    heap: &Heap,
+    _table: &TypeTable,
+    marks: &mut Cells,
+    _notes: &Notes,
+    types: &mut Cells,
+    o: u64,
+    hidden: Option<usize>,
+    _taken: &Steps,
+) -> Result<Option<Stop>, Memory>
+    requires graph { IsGraph heap.now }
+    requires object { o < length heap.now }
+    requires many { length types.old ≡ length heap.now }
+    requires going { IsGoing (table_of _table.now) heap.now marks.old types.old _notes.now o
+        _taken.now }
+    requires unmarked { mark_of heap.now marks.old o ≡ 0 }
+    requires hidden { IfSome hidden (IsHidden (table_of _table.now)) }
+    ensures many { OnOk result (length types.new ≡ length heap.now) }
+    ensures turned { IfOk result
+        (IsTurned (table_of _table.now) heap.now marks.new types.new _notes.now o _taken.now) }
+{
+    let Some(ty) = hidden else {
+        return Ok(Some(Stop::Unmarked));
+    };
+    let Some(mark) = (ty as u64).checked_add(1) else {
+        return Err(Memory);
+    };
+    marks.set(heap.key(heap.word(Val::Ref(o))), mark)?;
+    types.set(o as usize, ty as u64)?;
     Ok(None)
 }
 
@@ -344,7 +385,7 @@ fn meet_all(
     requires marks { AreMarks (table_of table.now) heap.now marks.old }
     requires noted { AreNoted (table_of table.now) heap.now marks.old notes.old.seconds }
     requires whole { IsWhole notes.old }
-    requires path { HasPath (table_of table.now) heap.now (vals.Ref 0) o ty }
+    requires path { IsLed (table_of table.now) heap.now o ty }
     ensures marks { OnOk result (AreMarks (table_of table.now) heap.now marks.new) }
     ensures kept { OnOk result (AreKept marks.old marks.new) }
     ensures noted { OnOk result
@@ -400,7 +441,7 @@ fn meet_each(
     requires marks { AreMarks (table_of table.now) heap.now marks.old }
     requires noted { AreNoted (table_of table.now) heap.now marks.old notes.old.seconds }
     requires whole { IsWhole notes.old }
-    requires path { HasPath (table_of table.now) heap.now (vals.Ref 0) o ty }
+    requires path { IsLed (table_of table.now) heap.now o ty }
     ensures marks { OnOk result (AreMarks (table_of table.now) heap.now marks.new) }
     ensures kept { OnOk result (AreKept marks.old marks.new) }
     ensures noted { OnOk result
@@ -463,7 +504,7 @@ fn meet_need(
     requires small { field + 1 < 2 ^ 64 }
     requires marks { AreMarks (table_of table.now) heap.now marks.old }
     requires noted { AreNoted (table_of table.now) heap.now marks.old notes.old.seconds }
-    requires path { HasPath (table_of table.now) heap.now (vals.Ref 0) o ty }
+    requires path { IsLed (table_of table.now) heap.now o ty }
     ensures next { IfOk result
         (λ met. OnTrue met
         (Continues (table_of table.now) heap.now marks.old marks.new notes.old notes.new o ty

@@ -9,3 +9,6 @@ returns-in-Scanned c =
 
 pub returns-in-Settled : goal.returns-in-Settled
 returns-in-Settled c = c.len-in-Settled.ensures ∙ sym (ap (λ pairs. length (pairs_in pairs)) c.in-Settled.is)
+
+pub returns-in-Listed : goal.returns-in-Listed
+returns-in-Listed c = c.len-in-Listed.ensures ∙ c.in-Listed.pairs.ok.0 ∙ sym (ap (λ pairs. length (pairs_in pairs)) c.in-Listed.is)

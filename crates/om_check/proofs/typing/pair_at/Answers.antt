@@ -26,3 +26,9 @@ returns-in-Scanned c =
 
 pub returns-in-Settled : goal.returns-in-Settled
 returns-in-Settled c = ap (λ pairs. slice_get (pairs_in pairs) c.args.k) c.in-Settled.is ∙ c.get-in-Settled.ensures
+
+pub returns-in-Listed : goal.returns-in-Listed
+returns-in-Listed c = ap (λ pairs. slice_get (pairs_in pairs) c.args.k) c.in-Listed.is ∙ c.listed_at.ensures
+
+pub listed_at-requires : goal.listed_at-requires
+listed_at-requires c = subst (λ n. c.args.k < n) (ap (λ pairs. length (pairs_in pairs)) c.in-Listed.is) c.requires

@@ -40,6 +40,6 @@ returns-then-mark-eq0-clause-marks c =
     let inside = subst (λ k. k < length c.args.marks.now) (sym key) (c.requires.marks.keyed r.0 r.1) in
     let asked = shape_asked c.args.table.now.nodes c.args.ty c.shape.result.now c.shape.ensures (sym c.is_asked.ensures ∙ c.if-not-is_asked.false) in
     subst (AreMarks (table_of c.args.table.now) graph) (sym (c.in_ok-set.ensures ∙ ap (slice_set c.args.marks.now c.key-key.result) new))
-    (marks_more (table_of c.args.table.now) graph c.args.marks.now c.key-key.result c.args.ty c.requires.marks inside c.requires.node (λ o here same.
+    (marks_more (table_of c.args.table.now) graph c.args.marks.now c.key-key.result c.args.ty c.requires.marks inside c.requires.node (λ o here same wanted.
     let is = same_from_key graph o r.0 c.requires.graph here r.1 (same ∙ key) in
     c.requires.paths asked o here (r.2 ∙ ap (λ n. word_of graph (vals.Ref n)) (sym is))))

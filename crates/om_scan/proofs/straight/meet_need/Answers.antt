@@ -13,7 +13,7 @@ use Rattle.om_fits.proofs.RowLemmas.{is_reference}
 use Rattle.om_scan.specs.Scan.{first_of, IsMet, IsOther}
 use Rattle.om_scan.proofs.FieldLemmas.{field_valid}
 use Rattle.om_scan.proofs.NeedLemmas.{need_field, need_node, shape_asked, shape_hidden}
-use Rattle.om_scan.proofs.PathLemmas.{need_path}
+use Rattle.om_scan.proofs.PathLemmas.{need_path, typed_asked}
 use Rattle.om_scan.proofs.MarkLemmas.{meeting_more, meeting_kept, meeting_noted, word_unfit}
 use Rattle.om_scan.proofs.straight.meet_need.Goals as goal
 
@@ -35,7 +35,7 @@ meet-requires-clause-paths c = λ asked p inside is.
     let short = need_field (table_of c.args.table.now) graph c.args.o c.args.ty c.args.place c.args.field c.args.needed c.requires.object c.requires.need in
     let valid = field_valid graph c.args.o c.args.field c.requires.object short c.requires.graph in
     let same = word_of-inj graph (field_at graph c.args.o c.args.field) (vals.Ref p) c.requires.graph valid inside (sym c.requires.word ∙ is) in
-    need_path (table_of c.args.table.now) graph (vals.Ref 0) c.args.o c.args.ty c.args.place c.args.field c.args.needed p c.requires.object c.requires.path c.requires.need asked same
+    need_path (table_of c.args.table.now) graph (vals.Ref 0) c.args.o c.args.ty c.args.place c.args.field c.args.needed p c.requires.object (c.requires.path (typed_asked (table_of c.args.table.now) c.args.heap.now c.args.o c.args.ty c.args.place (c.args.field, c.args.needed) c.requires.object c.requires.need)) c.requires.need asked same
 
 pub returns-then-branch-clause-next : goal.returns-then-branch-clause-next
 returns-then-branch-clause-next c = λ old before meeting.
@@ -86,7 +86,7 @@ returns-clause-next c = λ old before meeting.
     let noted = c.in_ok-note.ensures.noted in
     let asked = shape_asked c.args.table.now.nodes c.args.needed c.shape.result.now c.shape.ensures (sym c.is_asked.ensures ∙ c.if-not-is_asked.false) in
     let same : v ≡ vals.Ref noted.0 = word_of-inj graph v (vals.Ref noted.0) c.requires.graph valid noted.1 (sym c.requires.word ∙ noted.2) in
-    let path = need_path t graph (vals.Ref 0) c.args.o c.args.ty c.args.place i c.args.needed noted.0 c.requires.object c.requires.path c.requires.need asked same in
+    let path = need_path t graph (vals.Ref 0) c.args.o c.args.ty c.args.place i c.args.needed noted.0 c.requires.object (c.requires.path (typed_asked (table_of c.args.table.now) c.args.heap.now c.args.o c.args.ty c.args.place (c.args.field, c.args.needed) c.requires.object c.requires.need)) c.requires.need asked same in
     let other = subst (λ test. OnFalse test (c.args.word % 8 ≡ 0 → (w : Val) → IsValue (length graph) w → c.args.word ≡ word_of graph w → IsOther t graph c.meet.new.marks w c.args.needed))
     c.if-branch.false c.in_ok-meet.ensures.other in
     meeting_noted t graph old c.args.marks.now c.meet.new.marks before c.args.notes.now c.note.new.notes c.args.o c.args.ty c.args.place i c.args.needed c.args.taken.now noted.0

@@ -22,13 +22,9 @@ known_needs-requires-clause-fits c =
     subst (λ n. IsSome (fields_of c.args.heap.now (vals.Ref c.args.o) (node_or_none n))) c.shape.ensures
     (c.fits_mark.ensures.0 c.if-not-fits_mark.false)
 
-pub returns-then-mark-eq0-clause-turned : goal.returns-then-mark-eq0-clause-turned
-returns-then-mark-eq0-clause-turned c = record {
-  scanning = c.requires.going.scanning;
-  noted = notes_within (table_of c.args.table.now) c.args.heap.now c.args.marks.now c.args.types.now c.args.o (c.args.o + 1) c.args.notes.now (omega arith) c.requires.going.noted;
-  stops = tt;
-  row = tt;
-}
+pub pass_object-requires-clause-unmarked : goal.pass_object-requires-clause-unmarked
+pass_object-requires-clause-unmarked c =
+    ap (slice_index c.args.marks.now) (sym (c.key.ensures c.args.o c.requires.object c.word-word.ensures)) ∙ sym c.get-mark.ensures ∙ c.if-mark-eq0.true
 
 pub returns-then-not-fits_mark-clause-turned : goal.returns-then-not-fits_mark-clause-turned
 returns-then-not-fits_mark-clause-turned c =

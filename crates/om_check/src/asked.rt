@@ -1,0 +1,133 @@
+//! The typing that a scan tells: the pairs to which paths lead.
+
+ghost use Rattle.std.specs.Prelude.{ℕ, ◌≡◌, ◌<◌, [], ◌∷◌, ◌++◌, length, IsTrue, IfOk, OnOk, Contains};
+ghost use Rattle.om_types.specs.Fitting.{numbered_from};
+ghost use Rattle.om_types.specs.Table.{is_asked_in};
+ghost use Rattle.om_type_table.specs.Made.{table_of};
+ghost use Rattle.om_scan.specs.Scanned.{pairs_with};
+ghost use Rattle.om_scan.specs.Seconds.{noted_in};
+ghost use Rattle.om_check.specs.Asked.{asked_pairs, AreAsked, AreWithin, AreReached};
+
+use crate::typing::Typing;
+use om_fits::is_asked;
+use om_model::Memory;
+use om_scan::{Cells, Seconds};
+use om_type_table::TypeTable;
+use std::alloc::Global;
+
+/// Each object at its type, but for those at types of whose values nothing is asked.
+pub fn told_typing(alloc: Global, table: &TypeTable, types: Cells) -> Result<Typing, Memory>
+    requires { AreWithin (table_of table.now) types }
+    ensures { IfOk result (AreReached (table_of table.now) types (numbered_from 0 types)) }
+{
+    if are_asked(table, &types) {
+        return Ok(Typing::scanned(types));
+    }
+    let pairs = pairs_asked(alloc, table, &types)?;
+    Ok(Typing::listed(pairs))
+}
+
+/// The same, and then the objects that were noted.
+pub fn settled_typing(
+    alloc: Global,
+    table: &TypeTable,
+    types: Cells,
+    seconds: Seconds,
+) -> Result<Typing, Memory>
+    requires within { AreWithin (table_of table.now) types }
+    requires noted { (o t : ℕ) → Contains (noted_in seconds) (o, t)
+        → t < length table.now.nodes }
+    ensures { IfOk result (AreReached (table_of table.now) types (pairs_with types seconds)) }
+{
+    if are_asked(table, &types) {
+        return Typing::settled(types, seconds);
+    }
+    let mut pairs = pairs_asked(alloc, table, &types)?;
+    put_noted(&mut pairs, table, &seconds)?;
+    Ok(Typing::listed(pairs))
+}
+
+/// Whether something is asked of the values of each of these types.
+fn are_asked(table: &TypeTable, types: &Cells) -> bool
+    requires { AreWithin (table_of table.now) types.now }
+    ensures { IsTrue result → AreAsked (table_of table.now) types.now }
+{
+    if all_asked(table, types.len()) {
+        return true;
+    }
+    for o in 0..types.len() {
+        if !is_asked(table.shape(types.get(o) as usize)) {
+            return false;
+        }
+    }
+    true
+}
+
+/// Whether something is asked of the values of each type of the table; not tried where the types
+/// are more than the objects.
+fn all_asked(table: &TypeTable, objects: usize) -> bool
+    ensures { IsTrue result → (t : ℕ) → t < length table.now.nodes
+        → IsTrue (is_asked_in (table_of table.now) t) }
+{
+    let types = table.nodes.len();
+    if objects < types {
+        return false;
+    }
+    for i in 0..types {
+        if !is_asked(table.shape(i)) {
+            return false;
+        }
+    }
+    true
+}
+
+/// Each object at its type, but for those at types of whose values nothing is asked.
+fn pairs_asked(alloc: Global, table: &TypeTable, types: &Cells) -> Result<Vec<(u64, usize)>, Memory>
+    requires { AreWithin (table_of table.now) types.now }
+    ensures { IfOk result (λ pairs.
+        pairs.items ≡ asked_pairs (table_of table.now) (numbered_from 0 types.now)) }
+{
+    let mut pairs = Vec::new(alloc);
+    for o in 0..types.len() {
+        let ty = types.get(o) as usize;
+        put_if_asked(&mut pairs, table, o as u64, ty)?;
+    }
+    Ok(pairs)
+}
+
+/// Puts the objects that were noted at the end, but for those at such types.
+fn put_noted(
+    pairs: &mut Vec<(u64, usize)>,
+    table: &TypeTable,
+    seconds: &Seconds,
+) -> Result<(), Memory>
+    requires { (o t : ℕ) → Contains (noted_in seconds.now) (o, t) → t < length table.now.nodes }
+    ensures { OnOk result
+        (pairs.new.items
+        ≡ pairs.old.items ++ asked_pairs (table_of table.now) (noted_in seconds.now)) }
+{
+    for k in 0..seconds.len() {
+        let (object, ty) = seconds.get(k);
+        put_if_asked(pairs, table, object, ty)?;
+    }
+    Ok(())
+}
+
+/// Puts an object at a type at the end, if something is asked of the type's values.
+fn put_if_asked(
+    pairs: &mut Vec<(u64, usize)>,
+    table: &TypeTable,
+    object: u64,
+    ty: usize,
+) -> Result<(), Memory>
+    requires { ty < length table.now.nodes }
+    ensures { OnOk result
+        (pairs.new.items
+        ≡ pairs.old.items ++ asked_pairs (table_of table.now) ((object, ty) ∷ [])) }
+{
+    if !is_asked(table.shape(ty)) {
+        return Ok(());
+    }
+    pairs.push((object, ty))?;
+    Ok(())
+}

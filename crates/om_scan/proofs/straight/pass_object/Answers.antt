@@ -1,0 +1,24 @@
+use Rattle.std.proofs.Common.{◌+◌, ◌≡◌, ◌∙◌, suc, sym, ap, subst, arith}
+use Rattle.std.specs.Prelude.{slice_set, IfSome}
+use Rattle.om_heap.specs.Heap.{key_of}
+use Rattle.om_type_table.specs.Made.{table_of}
+use Rattle.om_scan.specs.Paths.{IsHidden}
+use Rattle.om_scan.specs.Scan.{IsGoing}
+use Rattle.om_scan.proofs.NoteLemmas.{passed}
+use Rattle.om_scan.proofs.straight.pass_object.Goals as goal
+
+pub returns-clause-turned : goal.returns-clause-turned
+returns-clause-turned c =
+    let t = table_of c.args._table.now in
+    let graph = c.args.heap.now in
+    let ty = c.in-Some.ty in
+    let hidden = subst (λ found. IfSome found (IsHidden t)) c.in-Some.is c.requires.hidden in
+    let key : c.key.result ≡ key_of graph c.args.o = c.key.ensures c.args.o c.requires.object c.word.ensures in
+    let mark : c.in-Some-checked_add.mark ≡ suc ty = omega (arith, c.in-Some-checked_add.ensures) in
+    subst (λ marks. IsGoing t graph marks c.set-2.new.self c.args._notes.now (c.args.o + 1) c.args._taken.now)
+    (sym (c.in_ok-set.ensures ∙ ap (λ k. slice_set c.args.marks.now k c.in-Some-checked_add.mark) key
+    ∙ ap (slice_set c.args.marks.now (key_of graph c.args.o)) mark))
+    (subst (λ types. IsGoing t graph (slice_set c.args.marks.now (key_of graph c.args.o) (suc ty)) types c.args._notes.now (c.args.o + 1) c.args._taken.now)
+    (sym c.in_ok-set-2.ensures)
+    (passed t graph c.args.marks.now c.args.types.now c.args._notes.now c.args.o ty c.args._taken.now c.requires.object c.requires.many hidden
+    c.requires.unmarked c.requires.going))
