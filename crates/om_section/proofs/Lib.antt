@@ -6,6 +6,7 @@ pub mod LineLemmas
 pub mod FaultLemmas
 pub mod HeadLemmas
 pub mod ReadLemmas
+pub mod StemLemmas
 pub mod RunLemmas
 pub mod PutLemmas
 pub mod SinkLemmas

@@ -18,6 +18,17 @@ pub record IsPast (pairs : List (ℕ × ℕ)) (text : List ℕ) (longer : List (
   pub few : many + length rest ≤ length text
   pub spelled : text ≡ text_of (map pair_line added) ++ rest
 
+-- none was read
+pub none_past : (pairs : List (ℕ × ℕ)) (text : List ℕ) → All AreNumbers pairs → IsPast pairs text pairs 0 text
+none_past pairs text numbers = record {
+  added = [];
+  is = sym (append-nil pairs);
+  numbers = numbers;
+  counted = refl;
+  few = omega arith;
+  spelled = refl;
+}
+
 module _ (pairs : List (ℕ × ℕ)) (text : List ℕ) (longer : List (ℕ × ℕ)) (many : ℕ) (rest : List ℕ) (past : IsPast pairs text longer many rest) where
   pub one_past :
       (pair : ℕ × ℕ) (behind : List ℕ) (next : List (ℕ × ℕ)) → IsFirstPair rest pair behind → next ≡ longer ++ pair ∷ []

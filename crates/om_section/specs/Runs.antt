@@ -1,6 +1,9 @@
 -- Lines of pairs that stand one after another.
-use Rattle.std.specs.Prelude.{ℕ, ◌≡◌, ◌≤◌, List, ◌∷◌, ◌++◌, length, map, drop, All}
+use Rattle.std.specs.Prelude.{ℕ, ◌*◌, ◌^◌, ◌≡◌, ◌<◌, ◌≤◌, List, ◌∷◌, ◌++◌, length, map, drop, All}
+use Rattle.std.specs.Prelude.{codes, decimal}
+use Rattle.std.specs.Int.{w64, from_le_bytes}
 use Rattle.om_section.specs.declared.read.Reading.{Reading}
+use Rattle.om_section.specs.Numbers.{IsNumber}
 use Rattle.om_section.specs.Format.{pair_line, text_of}
 use Rattle.om_section.specs.Reading.{AreNumbers, lines_read, IsReading}
 
@@ -8,6 +11,25 @@ use Rattle.om_section.specs.Reading.{AreNumbers, lines_read, IsReading}
 pub record IsFirstPair (text : List ℕ) (pair : ℕ × ℕ) (rest : List ℕ) : Type 0 where
   pub numbers : AreNumbers pair
   pub spelled : text ≡ pair_line pair ++ 10 ∷ rest
+
+-- they begin with the number of a type and the end of its line
+pub record IsPairEnd (text : List ℕ) (type : ℕ) (rest : List ℕ) : Type 0 where
+  pub number : IsNumber type
+  pub spelled : text ≡ decimal type ++ 10 ∷ rest
+
+-- the lines of pairs begin so whose objects are ten times a number and a digit
+pub record IsStem (bytes : List ℕ) (tens : ℕ) : Type 0 where
+  pub many : 8 ≤ length bytes
+  pub few : length bytes ≤ 16
+  pub number : ℕ
+  pub some : 0 < number
+  pub small : number < 10 ^ 17
+  pub times : tens ≡ 10 * number
+  pub spelled : bytes ≡ codes "pair " ++ decimal number
+
+-- eight bytes as a word, the least significant first
+unfoldable pub word_of : List ℕ → ℕ
+word_of bytes = from_le_bytes w64 bytes
 
 -- they begin with so many lines, and these have so many bytes
 pub record BeginsWithLines (text : List ℕ) (lines : List (List ℕ)) (many taken : ℕ)

@@ -12,6 +12,7 @@ mod read;
 mod runs;
 mod section;
 mod sink;
+mod stems;
 
 pub use laws::{put_sections_are_certificates, texts_are_one};
 pub use number::number_of;

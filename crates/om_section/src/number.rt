@@ -1,7 +1,7 @@
 //! Numbers of a certificate.
 
-ghost use Rattle.std.specs.Prelude.{MatchOption};
-ghost use Rattle.om_section.specs.Numbers.{IsNumberText, IsNoNumberText};
+ghost use Rattle.std.specs.Prelude.{IfSome, MatchOption};
+ghost use Rattle.om_section.specs.Numbers.{IsNumberText, IsNoNumberText, BeginsWithNumber};
 
 /// The number whose text these bytes are: decimal digits without a leading zero, of a number
 /// below 2^63.
@@ -22,4 +22,25 @@ pub fn number_of(digits: &[u8]) -> Option<u64>
         n = 10 * n + u64::from(digits[i] - b'0');
     }
     if n < 1 << 63 { Some(n) } else { None }
+}
+
+/// A number of at most 18 digits that the bytes begin with, and what stands behind it. Of a longer
+/// one nothing is said.
+#[inline(always)]
+pub fn first_number(text: &[u8]) -> Option<(u64, &[u8])>
+    ensures { IfSome result (λ p. BeginsWithNumber text.now p.0 p.1.now) }
+{
+    let mut n = 0;
+    let mut i = 0;
+    while i < text.len() && i < 18 && text[i].is_ascii_digit() {
+        n = 10 * n + u64::from(text[i] - b'0');
+        i += 1;
+    }
+    if i == 0 {
+        return None;
+    }
+    if text[0] == b'0' && i > 1 {
+        return None;
+    }
+    Some((n, &text[i..]))
 }

@@ -2,45 +2,34 @@
 
 ghost use Rattle.std.specs.Prelude.{All, IfOk, IfSome};
 ghost use Rattle.om_section.specs.Reading.{AreNumbers};
-ghost use Rattle.om_section.specs.Runs.{IsFirstPair, HasMorePairs};
-ghost use Rattle.om_section.specs.Numbers.{BeginsWithNumber};
+ghost use Rattle.om_section.specs.Runs.{IsFirstPair, HasMorePairs, IsStem};
 
 use crate::cuts::after;
+use crate::number::first_number;
 use crate::section::Pairs;
+use crate::stems::{first_alike, first_end, stem_of};
 use om_model::Memory;
 
-/// A number of at most 18 digits that the bytes begin with, and what stands behind it. Of a longer
-/// one nothing is said.
+/// A pair whose line the bytes begin with, and what stands behind the line; then the stem of lines
+/// like it. Where nothing is said they may begin with one all the same.
 #[inline(always)]
-fn first_number(text: &[u8]) -> Option<(u64, &[u8])>
-    ensures { IfSome result (λ p. BeginsWithNumber text.now p.0 p.1.now) }
+fn first_pair<'a>(
+    text: &'a [u8],
+    stem: &'a [u8],
+    tens: u64,
+) -> Option<((u64, u64), &'a [u8], &'a [u8], u64)>
+    requires { IsStem stem.now tens }
+    ensures { IfSome result
+        (λ p. IsFirstPair text.now p.0 p.1.now × IsStem p.2.now p.3) }
 {
-    let mut n = 0;
-    let mut i = 0;
-    while i < text.len() && i < 18 && text[i].is_ascii_digit() {
-        n = 10 * n + u64::from(text[i] - b'0');
-        i += 1;
+    if let Some((pair, rest)) = first_alike(text, stem, tens) {
+        return Some((pair, rest, stem, tens));
     }
-    if i == 0 {
-        return None;
-    }
-    if text[0] == b'0' && i > 1 {
-        return None;
-    }
-    Some((n, &text[i..]))
-}
-
-/// A pair whose line the bytes begin with, and what stands behind the line. Where nothing is said
-/// they may begin with one all the same.
-#[inline(always)]
-fn first_pair(text: &[u8]) -> Option<((u64, u64), &[u8])>
-    ensures { IfSome result (λ p. IsFirstPair text.now p.0 p.1.now) }
-{
     let numbers = after(text, b"pair ")?;
     let (object, space) = first_number(numbers)?;
-    let (ty, feed) = first_number(after(space, b" ")?)?;
-    let rest = after(feed, b"\n")?;
-    Some(((object, ty), rest))
+    let (ty, rest) = first_end(after(space, b" ")?)?;
+    let (like, at) = stem_of(text, object, space, stem, tens);
+    Some(((object, ty), rest, like, at))
 }
 
 /// The pairs with those whose lines the bytes begin with, as long as they increase; how many these
@@ -52,13 +41,17 @@ pub fn with_pairs(pairs: Pairs, text: &[u8]) -> Result<(Pairs, usize, usize), Me
     let mut longer = pairs;
     let mut lines = 0;
     let mut rest = text;
-    while let Some((pair, behind)) = first_pair(rest) {
+    let mut stem = b"pair 1000".as_slice();
+    let mut tens = 10_000;
+    while let Some((pair, behind, like, at)) = first_pair(rest, stem, tens) {
         if !longer.is_above(pair.0, pair.1) {
             return Ok((longer, lines, text.len() - rest.len()));
         }
         longer.push(pair.0, pair.1)?;
         lines += 1;
         rest = behind;
+        stem = like;
+        tens = at;
     }
     Ok((longer, lines, text.len() - rest.len()))
 }

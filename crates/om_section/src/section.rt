@@ -53,6 +53,7 @@ impl Pairs {
     }
 
     /// Whether a pair is larger than all that are there.
+    #[inline(always)]
     pub fn is_above(&self, object: u64, ty: u64) -> bool
         ensures { IsTrue result ↔ IsAbove self.now (object, ty) }
     {
@@ -61,6 +62,7 @@ impl Pairs {
 
     /// Puts a pair at the end that is larger than all before it. After `Memory` nothing has
     /// changed.
+    #[inline(always)]
     pub fn push(&mut self, object: u64, ty: u64) -> Result<(), Memory>
         requires { IsAbove self.old (object, ty) }
         ensures ok { OnOk result (self.new ≡ self.old ++ (object, ty) ∷ []) }
@@ -72,6 +74,7 @@ impl Pairs {
 }
 
 /// Whether a pair is smaller than another one.
+#[inline(always)]
 fn is_smaller(one: (u64, u64), object: u64, ty: u64) -> bool
     ensures { IsTrue result ↔ IsSmaller one (object, ty) }
 {
@@ -83,6 +86,7 @@ fn is_smaller(one: (u64, u64), object: u64, ty: u64) -> bool
 }
 
 /// Whether pairs that increase are all smaller than this one: the last of them is.
+#[inline(always)]
 fn is_last_below(pairs: &[(u64, u64)], object: u64, ty: u64) -> bool
     requires { AreIncreasing pairs.now }
     ensures { IsTrue result ↔ IsAbove pairs.now (object, ty) }

@@ -1,9 +1,13 @@
 use Rattle.std.proofs.Common.{length}
+use Rattle.om_section.specs.Runs.{IsStem}
 use Rattle.om_section.proofs.RunLemmas.{IsPast}
 use Rattle.om_section.proofs.runs.with_pairs.Given as goal
 
 abbrev pub invariant-loop-pair : goal.invariant-loop-pair
-invariant-loop-pair l = IsPast l.fn.pairs l.text l.longer l.lines l.rest
+invariant-loop-pair l = record {
+  past : IsPast l.fn.pairs l.text l.longer l.lines l.rest;
+  stem : IsStem l.stem l.tens;
+}
 
 abbrev pub decreases-loop-pair : goal.decreases-loop-pair
 decreases-loop-pair l = length l.rest

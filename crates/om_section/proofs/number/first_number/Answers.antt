@@ -1,7 +1,7 @@
 use Rattle.std.proofs.Common.{◌≡◌, ◌≤◌, get_or, arith, refl}
 use Rattle.om_section.proofs.NumberLemmas.{first_more, first_small, number_begins}
-use Rattle.om_section.proofs.runs.first_number.Goals as goal
-use Rattle.om_section.proofs.runs.first_number.Goals.{else-text-eq48-via-then-text-eq48+else-i-gt1, else-text-eq48-via-else-text-eq48}
+use Rattle.om_section.proofs.number.first_number.Goals as goal
+use Rattle.om_section.proofs.number.first_number.Goals.{else-text-eq48-via-then-text-eq48+else-i-gt1, else-text-eq48-via-else-text-eq48}
 
 pub overflow_mul-n : goal.overflow_mul-n
 overflow_mul-n c =

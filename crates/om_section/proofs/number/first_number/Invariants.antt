@@ -1,6 +1,6 @@
 use Rattle.std.proofs.Common.{◌≡◌, ◌≤◌, ◌-◌, take, length}
 use Rattle.std.specs.Str.Parse.{AllDigits, digits_value}
-use Rattle.om_section.proofs.runs.first_number.Given as goal
+use Rattle.om_section.proofs.number.first_number.Given as goal
 
 -- the first bytes are digits, and this is their number
 abbrev pub invariant-loop-i : goal.invariant-loop-i

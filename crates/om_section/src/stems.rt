@@ -1,0 +1,91 @@
+//! Lines of pairs whose objects differ in the last digit alone: the bytes before it are compared
+//! and not read.
+
+ghost use Rattle.std.specs.Prelude.{◌≡◌, ◌+◌, ◌≤◌, ◌++◌, length, take, drop, IfSome, codes, decimal};
+ghost use Rattle.std.specs.Bool.{OnTrue};
+ghost use Rattle.om_section.specs.Numbers.{IsNumber};
+ghost use Rattle.om_section.specs.Runs.{word_of, IsPairEnd, IsFirstPair, IsStem};
+
+use crate::cuts::after;
+use crate::number::first_number;
+
+/// The eight bytes from a place on, as a word.
+#[inline(always)]
+fn word_from(bytes: &[u8], place: usize) -> u64
+    requires { place + 8 ≤ length bytes.now }
+    ensures { result ≡ word_of (take 8 (drop place bytes.now)) }
+{
+    let mut word = [0u8; 8];
+    word.copy_from_slice(&bytes[place..place + 8]);
+    u64::from_le_bytes(word)
+}
+
+/// Whether bytes begin with others, of which there are 8 to 16. Two words tell it, which overlap.
+#[inline(always)]
+fn begins_with(text: &[u8], front: &[u8]) -> bool
+    requires many { 8 ≤ length front.now }
+    requires few { length front.now ≤ 16 }
+    requires within { length front.now ≤ length text.now }
+    ensures { OnTrue result (take (length front.now) text.now ≡ front.now) }
+{
+    let end = front.len() - 8;
+    if word_from(text, 0) != word_from(front, 0) {
+        return false;
+    }
+    if word_from(text, end) != word_from(front, end) {
+        return false;
+    }
+    true
+}
+
+/// The type with which the line of a pair ends, and what stands behind the line.
+#[inline(always)]
+pub fn first_end(text: &[u8]) -> Option<(u64, &[u8])>
+    ensures { IfSome result (λ p. IsPairEnd text.now p.0 p.1.now) }
+{
+    if text.len() > 1 && text[0].is_ascii_digit() && text[1] == b'\n' {
+        return Some((u64::from(text[0] - b'0'), &text[2..]));
+    }
+    let (ty, feed) = first_number(text)?;
+    let rest = after(feed, b"\n")?;
+    Some((ty, rest))
+}
+
+/// A pair whose line begins with the stem, and what stands behind the line.
+#[inline(always)]
+pub fn first_alike<'a>(text: &'a [u8], stem: &[u8], tens: u64) -> Option<((u64, u64), &'a [u8])>
+    requires { IsStem stem.now tens }
+    ensures { IfSome result (λ p. IsFirstPair text.now p.0 p.1.now) }
+{
+    let len = stem.len();
+    if text.len() < len + 4 || !begins_with(text, stem) {
+        return None;
+    }
+    if !text[len].is_ascii_digit() || text[len + 1] != b' ' {
+        return None;
+    }
+    let (ty, rest) = first_end(&text[len + 2..])?;
+    Some(((tens + u64::from(text[len] - b'0'), ty), rest))
+}
+
+/// The stem of a line, whose object is told with what stands behind it; or the stem before, where
+/// the object is too small or too large.
+#[inline(always)]
+pub fn stem_of<'a>(
+    text: &'a [u8],
+    object: u64,
+    behind: &[u8],
+    stem: &'a [u8],
+    tens: u64,
+) -> (&'a [u8], u64)
+    requires before { IsStem stem.now tens }
+    requires number { IsNumber object }
+    requires line { text.now ≡ codes "pair " ++ (decimal object ++ behind.now) }
+    ensures { IsStem result.0.now result.1 }
+{
+    let end = text.len() - behind.len();
+    if end < 9 || end > 17 || object < 10 || object >= 100_000_000_000_000_000 {
+        return (stem, tens);
+    }
+    (&text[..end - 1], object - object % 10)
+}
