@@ -1,7 +1,8 @@
 -- What tells that all pairs are right.
-use Rattle.std.proofs.Common.{ℕ, ◌<◌, ◌≤◌, ◌+◌, ◌%◌, ◌≡◌, ◌∙◌, ⊎_elim, inl, Bool, true, false, List, length, Some, refl, sym, subst, arith}
+use Rattle.std.proofs.Common.{ℕ, ◌<◌, ◌≤◌, ◌+◌, ◌%◌, ◌≡◌, ◌∙◌, ⊎_elim, inl, Bool, true, false, List, length, Some, refl, sym, ap, subst, arith}
 use Rattle.std.specs.Prelude.{Contains, slice_get, IsTrue, ◌↔◌}
 use Rattle.std.specs.Bool.{OnTrue}
+use Rattle.std.proofs.lemmas.Bool.{false≢true}
 use Rattle.std.proofs.lemmas.Option.{same_Some, slice_get_within}
 use Rattle.om_model.proofs.Lists.{Contains-place as place_in}
 use Rattle.om_model.proofs.Numbers.{less_same_more}
@@ -11,8 +12,10 @@ use Rattle.om_model.specs.declared.value.Val.TheVariants as vals
 use Rattle.om_model.specs.declared.value.Obj.{Obj}
 use Rattle.om_heap.specs.Heap.{word_of}
 use Rattle.om_heap.proofs.ReadLemmas.{word_of-inj}
+use Rattle.om_types.specs.declared.shape.ShapeOf.{ShapeOf}
+use Rattle.om_types.specs.Fitting.{is_mutable}
 use Rattle.om_types.specs.Lawful.{AreLawful, Everything}
-use Rattle.om_types.specs.Table.{Table, table_shapes, is_asked_in}
+use Rattle.om_types.specs.Table.{Table, table_shapes, node_or_none, is_asked_in}
 use Rattle.om_cert.specs.declared.right.Worded.{Worded}
 use Rattle.om_cert.specs.Verified.{IsThere}
 use Rattle.om_cert.specs.Testing.{StandsAt, HoldsAll, AreAllThere, AreRight, IsRight, IsRightAt}
@@ -48,10 +51,23 @@ module _ (table : Table) (graph : List Obj) (pairs : List (ℕ × ℕ)) where
   worded_there i pair there is =
       let k = place_in pairs (pair.object, pair.ty) is.among in there k.0 (pair.object, pair.ty) k.1
 
+  pub pair_fits :
+      (i : ℕ) (pair : Worded) (fits : Bool) → AreAllThere table graph pairs → IsWorded graph pairs i pair
+      → ((v : Val) → IsValue (length graph) v → pair.word ≡ word_of graph v → IsTrue fits ↔ (table_shapes table).fits graph v pair.ty)
+      → IsTrue fits → (table_shapes table).fits graph (vals.Ref pair.object) pair.ty
+  pair_fits i pair fits there is tells yes' = (tells (vals.Ref pair.object) (worded_there i pair there is).0 is.named).0 yes'
+
   pub worded_stands : (i : ℕ) (pair : Worded) → AreAllThere table graph pairs → IsWorded graph pairs i pair → StandsAt table graph pairs pair.word pair.ty
   worded_stands i pair there is =
       let k = place_in pairs (pair.object, pair.ty) is.among in
       stands_at table pairs graph pair.word pair.object pair.ty pair.ty is.among (there k.0 (pair.object, pair.ty) k.1).0 is.named refl
+
+  -- an object that cannot be changed is at one type where it is mutable
+  pub fixed_is_at_one_type :
+      (o t : ℕ) (shape : ShapeOf ℕ) → slice_get table.nodes t ≡ Some shape → is_mutable shape (slice_get graph o) ≡ false
+      → (u : ℕ) → Contains pairs (o, u) → (table_shapes table).mutable graph o t → (table_shapes table).equal t u
+  fixed_is_at_one_type o t shape at_type fixed u among mutable =
+      absurd (false≢true (sym fixed ∙ (ap (λ n. is_mutable (node_or_none n) (slice_get graph o)) (sym at_type) ∙ mutable.1)))
 
   -- where a pair fits, and the rest is known if all pairs do
   pub right_with_all :

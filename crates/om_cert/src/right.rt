@@ -134,45 +134,13 @@ fn is_right(
     let shape = table.shape(own.ty);
     match shape {
         ShapeOf::Sum(_, blocks) if is_one_constant(blocks.as_slice()) => {
-            is_fixed_right(heap, table, rows, pairs, i, own, near, shape)
+            holds_needs(heap, table, rows, pairs, i, own, near, shape)
         }
-        ShapeOf::Product(false, _) => {
-            is_fixed_right(heap, table, rows, pairs, i, own, near, shape)
-        }
-        ShapeOf::Bytes(false) => is_fixed_right(heap, table, rows, pairs, i, own, near, shape),
-        ShapeOf::Double => is_fixed_right(heap, table, rows, pairs, i, own, near, shape),
+        ShapeOf::Product(false, _) => holds_needs(heap, table, rows, pairs, i, own, near, shape),
+        ShapeOf::Bytes(false) => holds_needs(heap, table, rows, pairs, i, own, near, shape),
+        ShapeOf::Double => holds_needs(heap, table, rows, pairs, i, own, near, shape),
         _ => is_any_right(heap, table, rows, pairs, i, own, near, shape),
     }
-}
-
-/// The same of a pair that fits, and whose object cannot be changed. It is compiled anew for each
-/// kind of shape.
-#[inline(always)]
-fn is_fixed_right(
-    heap: &Heap,
-    table: &TypeTable,
-    rows: &[Row],
-    pairs: &[(u64, u64)],
-    i: usize,
-    own: Worded,
-    near: Worded,
-    shape: &ShapeOf<usize>,
-) -> bool
-    requires graph { IsGraph heap.now }
-    requires rows { AreRows table.now.nodes rows.now }
-    requires in_range { i < length pairs.now }
-    requires lawful { IsLawful (table_of table.now) }
-    requires increasing { AreIncreasing pairs.now }
-    requires there { AreAllThere (table_of table.now) heap.now pairs.now }
-    requires own { IsWorded heap.now pairs.now i own }
-    requires near { StandsAt (table_of table.now) heap.now pairs.now near.word near.ty }
-    requires shape { slice_get table.now.nodes own.ty ≡ Some shape.now }
-    requires fits { (table_shapes (table_of table.now)).fits heap.now (vals.Ref own.object)
-        own.ty }
-    requires fixed { fitting.is_mutable shape.now (slice_get heap.now own.object) ≡ false }
-    ensures { OnTrue result (IsRightWithAll (table_of table.now) heap.now pairs.now i) }
-{
-    holds_needs(heap, table, rows, pairs, i, own, near, shape)
 }
 
 /// The same of any pair that fits.
@@ -206,7 +174,8 @@ fn is_any_right(
     holds_needs(heap, table, rows, pairs, i, own, near, shape)
 }
 
-/// The same of a pair that fits, and is at one type where it is mutable.
+/// The same of a pair that fits, and is at one type where it is mutable. It is compiled anew for
+/// each kind of shape whose objects cannot be changed.
 #[inline(always)]
 fn holds_needs(
     heap: &Heap,
