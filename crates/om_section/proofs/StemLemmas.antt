@@ -1,73 +1,82 @@
 -- Lines of pairs whose objects differ in the last digit alone.
-use Rattle.std.proofs.Common.{ℕ, ◌≡◌, ◌∙◌, ◌<◌, ◌≤◌, ◌+◌, ◌-◌, ◌*◌, ◌/◌, ◌%◌, ◌^◌, List, [], ◌∷◌, ◌++◌, length, take, drop, get_or, refl, sym, ap, inl, inr, arith, length-append, length-drop, append_assoc}
+use Rattle.std.proofs.Common.{zero, suc, add-zero, ℕ, ◌≡◌, ◌∙◌, ◌<◌, ◌≤◌, ◌+◌, ◌-◌, ◌*◌, ◌/◌, ◌%◌, ◌^◌, List, [], ◌∷◌, ◌++◌, length, take, drop, get_or, refl, sym, ap, inl, inr, arith, length-append, append_assoc}
 use Rattle.std.specs.Prelude.{codes, decimal}
 use Rattle.std.proofs.lemmas.Bool.{cases_lt}
 use Rattle.std.proofs.lemmas.Fmt.{decimal_digit, decimal_step}
-use Rattle.std.proofs.lemmas.List.{length-take-le, get_or-take, get_or-drop, get_or_past, take-append-drop, take_rest, take_at, drop_more, same_lists}
+use Rattle.std.proofs.lemmas.List.{length-take-le, get_or-take, get_or_default, take-append-drop, take_rest, take_at, drop_more, same_lists}
 use Rattle.std.proofs.lemmas.Nat.{le_bytes_8}
 use Rattle.om_section.specs.Numbers.{IsNumber}
-use Rattle.om_section.specs.Runs.{word_of, IsPairEnd, IsFirstPair, IsStem}
+use Rattle.om_section.specs.Runs.{eight_from, word_of, IsPairEnd, IsFirstPair, IsStem}
 
 -- ---- words
 
 abbrev pub AreBytes : List ℕ → Type 0
 AreBytes bytes = (k : ℕ) → get_or bytes k 0 < 256
 
-eight_of : (bytes : List ℕ) (place : ℕ) → place + 8 ≤ length bytes → length (take 8 (drop place bytes)) ≡ 8
-eight_of bytes place within = length-take-le 8 (drop place bytes) (let long = length-drop place bytes in omega (arith, long, within))
+eight_bytes : (bytes : List ℕ) (place : ℕ) → AreBytes bytes → AreBytes (eight_from bytes place)
+eight_bytes bytes place valid zero = valid place
+eight_bytes bytes place valid (suc zero) = valid (place + 1)
+eight_bytes bytes place valid (suc (suc zero)) = valid (place + 2)
+eight_bytes bytes place valid (suc (suc (suc zero))) = valid (place + 3)
+eight_bytes bytes place valid (suc (suc (suc (suc zero)))) = valid (place + 4)
+eight_bytes bytes place valid (suc (suc (suc (suc (suc zero))))) = valid (place + 5)
+eight_bytes bytes place valid (suc (suc (suc (suc (suc (suc zero)))))) = valid (place + 6)
+eight_bytes bytes place valid (suc (suc (suc (suc (suc (suc (suc zero))))))) = valid (place + 7)
+eight_bytes bytes place valid (suc (suc (suc (suc (suc (suc (suc (suc k)))))))) = omega arith
 
-part_of : (bytes : List ℕ) (place : ℕ) → place + 8 ≤ length bytes → AreBytes bytes → AreBytes (take 8 (drop place bytes))
-part_of bytes place within valid k = elim (cases_lt k 8) [
-  | inl inside ↦
-      let same = get_or-take 8 (drop place bytes) k 0 inside ∙ get_or-drop place bytes k 0 in
-      let less = valid (place + k) in omega (arith, same, less)
-  | inr past ↦
-      let long = eight_of bytes place within in
-      let none = get_or_past (take 8 (drop place bytes)) k 0 (omega (arith, long, past)) in omega (arith, none)
-]
+at_eight : (bytes : List ℕ) (place j : ℕ) → j < 8 → get_or (eight_from bytes place) j 0 ≡ get_or bytes (place + j) 0
+at_eight bytes place zero less = ap (λ (n : ℕ). get_or bytes n 0) (sym (add-zero place))
+at_eight bytes place (suc zero) less = refl
+at_eight bytes place (suc (suc zero)) less = refl
+at_eight bytes place (suc (suc (suc zero))) less = refl
+at_eight bytes place (suc (suc (suc (suc zero)))) less = refl
+at_eight bytes place (suc (suc (suc (suc (suc zero))))) less = refl
+at_eight bytes place (suc (suc (suc (suc (suc (suc zero)))))) less = refl
+at_eight bytes place (suc (suc (suc (suc (suc (suc (suc zero))))))) less = refl
+at_eight bytes place (suc (suc (suc (suc (suc (suc (suc (suc k)))))))) less = absurd (omega (arith, less))
 
 -- bytes with one word are the same
-words_tell : (one other : List ℕ) → length one ≡ 8 → length other ≡ 8 → AreBytes one → AreBytes other → word_of one ≡ word_of other → one ≡ other
+words_tell :
+    (one other : List ℕ) (place : ℕ) → AreBytes one → AreBytes other → word_of one place ≡ word_of other place
+    → eight_from one place ≡ eight_from other place
 unfolding word_of
-words_tell one other long wide valid sound same =
-    sym (le_bytes_8 one (word_of one) long valid refl) ∙ le_bytes_8 other (word_of one) wide sound same
+words_tell one other place valid sound same =
+    sym (le_bytes_8 (eight_from one place) (word_of one place) refl (eight_bytes one place valid) refl)
+    ∙ le_bytes_8 (eight_from other place) (word_of one place) refl (eight_bytes other place sound) same
 
 -- so it is of each byte among eight
 byte_told :
-    (one other : List ℕ) (place k d : ℕ) → place + 8 ≤ length one → place + 8 ≤ length other → AreBytes one → AreBytes other
-    → word_of (take 8 (drop place one)) ≡ word_of (take 8 (drop place other)) → place ≤ k → k < place + 8 → get_or one k d ≡ get_or other k d
-byte_told one other place k d within inside valid sound same low high =
-    let whole : take 8 (drop place one) ≡ take 8 (drop place other) =
-    words_tell (take 8 (drop place one)) (take 8 (drop place other)) (eight_of one place within) (eight_of other place inside)
-    (part_of one place within valid) (part_of other place inside sound) same in
+    (one other : List ℕ) (place k : ℕ) → AreBytes one → AreBytes other → word_of one place ≡ word_of other place → place ≤ k → k < place + 8
+    → get_or one k 0 ≡ get_or other k 0
+byte_told one other place k valid sound same low high =
     let at : place + (k - place) ≡ k = omega (arith, low) in
     let less : k - place < 8 = omega (arith, low, high) in
-    sym (is_at one at less) ∙ (ap (λ (z : List ℕ). get_or z (k - place) d) whole ∙ is_at other at less) where
-      is_at : (bytes : List ℕ) → place + (k - place) ≡ k → k - place < 8 → get_or (take 8 (drop place bytes)) (k - place) d ≡ get_or bytes k d
-      is_at bytes at less =
-          get_or-take 8 (drop place bytes) (k - place) d less
-          ∙ (get_or-drop place bytes (k - place) d ∙ ap (λ (n : ℕ). get_or bytes n d) at)
+    sym (is_at one at less)
+    ∙ (ap (λ (z : List ℕ). get_or z (k - place) 0) (words_tell one other place valid sound same) ∙ is_at other at less) where
+      is_at : (bytes : List ℕ) → place + (k - place) ≡ k → k - place < 8 → get_or (eight_from bytes place) (k - place) 0 ≡ get_or bytes k 0
+      is_at bytes at less = at_eight bytes place (k - place) less ∙ ap (λ (n : ℕ). get_or bytes n 0) at
 
 -- two words that cover bytes tell that others begin with them
 pub front_told :
     (text front : List ℕ) → 8 ≤ length front → length front ≤ 16 → length front ≤ length text → AreBytes text → AreBytes front
-    → word_of (take 8 (drop 0 text)) ≡ word_of (take 8 (drop 0 front))
-    → word_of (take 8 (drop (length front - 8) text)) ≡ word_of (take 8 (drop (length front - 8) front))
+    → word_of text 0 ≡ word_of front 0 → word_of text (length front - 8) ≡ word_of front (length front - 8)
     → take (length front) text ≡ front
 front_told text front many few within valid sound first last =
     same_lists (take (length front) text) front long
-    (λ k d inside. get_or-take (length front) text k d (omega (arith, long, inside)) ∙ by_half k d (omega (arith, long, inside))) where
+    (λ k d inside. get_or-take (length front) text k d (omega (arith, long, inside)) ∙ at_all k d (omega (arith, long, inside))) where
       long : length (take (length front) text) ≡ length front
       long = length-take-le (length front) text within
 
-      by_half : (k d : ℕ) → k < length front → get_or text k d ≡ get_or front k d
-      by_half k d inside = elim (cases_lt k 8) [
-        | inl near ↦
-            byte_told text front 0 k d (omega (arith, many, within)) (omega (arith, many)) valid sound first (omega arith) (omega (arith, near))
+      by_half : (k : ℕ) → k < length front → get_or text k 0 ≡ get_or front k 0
+      by_half k inside = elim (cases_lt k 8) [
+        | inl near ↦ byte_told text front 0 k valid sound first (omega arith) (omega (arith, near))
         | inr far ↦
-            byte_told text front (length front - 8) k d (omega (arith, many, within)) (omega (arith, many)) valid sound last
-            (omega (arith, few, far)) (omega (arith, inside, many))
+            byte_told text front (length front - 8) k valid sound last (omega (arith, few, far)) (omega (arith, inside, many))
       ]
+
+      at_all : (k d : ℕ) → k < length front → get_or text k d ≡ get_or front k d
+      at_all k d inside =
+          get_or_default text k d 0 (omega (arith, inside, within)) ∙ (by_half k inside ∙ get_or_default front k 0 d inside)
 
 -- ---- lines with a stem
 

@@ -1,6 +1,6 @@
 -- Lines of pairs that stand one after another.
-use Rattle.std.specs.Prelude.{ℕ, ◌*◌, ◌^◌, ◌≡◌, ◌<◌, ◌≤◌, List, ◌∷◌, ◌++◌, length, map, drop, All}
-use Rattle.std.specs.Prelude.{codes, decimal}
+use Rattle.std.specs.Prelude.{ℕ, ◌+◌, ◌*◌, ◌^◌, ◌≡◌, ◌<◌, ◌≤◌, List, [], ◌∷◌, ◌++◌, length, map, drop}
+use Rattle.std.specs.Prelude.{All, slice_index, codes, decimal}
 use Rattle.std.specs.Int.{w64, from_le_bytes}
 use Rattle.om_section.specs.declared.read.Reading.{Reading}
 use Rattle.om_section.specs.Numbers.{IsNumber}
@@ -27,9 +27,16 @@ pub record IsStem (bytes : List ℕ) (tens : ℕ) : Type 0 where
   pub times : tens ≡ 10 * number
   pub spelled : bytes ≡ codes "pair " ++ decimal number
 
--- eight bytes as a word, the least significant first
-unfoldable pub word_of : List ℕ → ℕ
-word_of bytes = from_le_bytes w64 bytes
+-- the eight bytes from a place on
+abbrev pub eight_from : List ℕ → ℕ → List ℕ
+eight_from bytes place =
+    slice_index bytes place ∷ slice_index bytes (place + 1) ∷ slice_index bytes (place + 2)
+    ∷ slice_index bytes (place + 3) ∷ slice_index bytes (place + 4) ∷ slice_index bytes (place + 5)
+    ∷ slice_index bytes (place + 6) ∷ slice_index bytes (place + 7) ∷ []
+
+-- the same as a word, the least significant first
+unfoldable pub word_of : List ℕ → ℕ → ℕ
+word_of bytes place = from_le_bytes w64 (eight_from bytes place)
 
 -- they begin with so many lines, and these have so many bytes
 pub record BeginsWithLines (text : List ℕ) (lines : List (List ℕ)) (many taken : ℕ)

@@ -1,7 +1,7 @@
 //! Lines of pairs whose objects differ in the last digit alone: the bytes before it are compared
 //! and not read.
 
-ghost use Rattle.std.specs.Prelude.{◌≡◌, ◌+◌, ◌≤◌, ◌++◌, length, take, drop, IfSome, codes, decimal};
+ghost use Rattle.std.specs.Prelude.{◌≡◌, ◌+◌, ◌≤◌, ◌++◌, length, take, IfSome, codes, decimal};
 ghost use Rattle.std.specs.Bool.{OnTrue};
 ghost use Rattle.om_section.specs.Numbers.{IsNumber};
 ghost use Rattle.om_section.specs.Runs.{word_of, IsPairEnd, IsFirstPair, IsStem};
@@ -13,11 +13,18 @@ use crate::number::first_number;
 #[inline(always)]
 fn word_from(bytes: &[u8], place: usize) -> u64
     requires { place + 8 ≤ length bytes.now }
-    ensures { result ≡ word_of (take 8 (drop place bytes.now)) }
+    ensures { result ≡ word_of bytes.now place }
 {
-    let mut word = [0u8; 8];
-    word.copy_from_slice(&bytes[place..place + 8]);
-    u64::from_le_bytes(word)
+    u64::from_le_bytes([
+        bytes[place],
+        bytes[place + 1],
+        bytes[place + 2],
+        bytes[place + 3],
+        bytes[place + 4],
+        bytes[place + 5],
+        bytes[place + 6],
+        bytes[place + 7],
+    ])
 }
 
 /// Whether bytes begin with others, of which there are 8 to 16. Two words tell it, which overlap.
