@@ -1,11 +1,9 @@
 -- What is put of a clash is its text.
-use Rattle.std.proofs.Common.{ℕ, ◌≡◌, ◌∙◌, List, ◌++◌, Some, refl, ap, sym, subst}
-use Rattle.std.specs.Prelude.{codes}
+use Rattle.std.proofs.Common.{ℕ, ◌≡◌, ◌∙◌, List, ◌++◌, Some, refl, ap, sym}
 use Rattle.std.proofs.lemmas.List.{append_assoc}
 use Rattle.std.proofs.lemmas.Option.{same_Some}
 use Rattle.om_model.specs.declared.value.Val.{Val}
 use Rattle.om_model.specs.declared.value.Obj.{Obj}
-use Rattle.om_model.specs.PathText.{path_text}
 use Rattle.om_types.specs.declared.fault.Fault.TheVariants.{Clash}
 use Rattle.om_types.specs.Fault.{value_at, IsClash}
 use Rattle.om_types.specs.Table.{table_shapes}

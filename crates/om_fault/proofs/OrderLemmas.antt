@@ -1,8 +1,8 @@
 -- Which of two paths of one length comes first.
-use Rattle.std.proofs.Common.{ℕ, zero, suc, ◌<◌, ◌≡◌, ◌≢◌, ◌⊎◌, ⊎_elim, inl, inr, List, [], ◌∷◌, length}
+use Rattle.std.proofs.Common.{ℕ, zero, suc, ◌<◌, ◌≡◌, ⊎_elim, inl, inr, List, [], ◌∷◌, length}
 use Rattle.std.proofs.Common.{get_or, arith}
 use Rattle.std.specs.Prelude.{◌↔◌}
-use Rattle.om_types.specs.Fault.{IsLexicallyBefore, IsBefore}
+use Rattle.om_types.specs.Fault.{IsLexicallyBefore}
 
 -- they first differ at this place
 pub lexical_at :

@@ -13,9 +13,9 @@ use Rattle.om_types.specs.Fault.{value_at}
 use Rattle.om_types.specs.Table.{table_shapes}
 use Rattle.om_types.specs.Ty.{Ty}
 use Rattle.om_types.specs.TypeText.{type_text}
-use Rattle.om_types.specs.VerdictText.{kind_text, misfit_text, clash_text, IsFaultText}
+use Rattle.om_types.specs.VerdictText.{kind_text, IsFaultText}
 use Rattle.om_equal.proofs.SimulationLemmas.{SamePlace, place_same}
-use Rattle.om_equal.proofs.TableLemmas.{Of, table_says}
+use Rattle.om_equal.proofs.TableLemmas.{table_says}
 use Rattle.om_table.proofs.DecideLemmas.{root_is_first}
 use Rattle.om_type_table.specs.declared.table.TypeTable.{TypeTable}
 use Rattle.om_type_table.specs.Made.{types_of, table_of, IsTypeTable}

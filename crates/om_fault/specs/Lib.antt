@@ -1,3 +1,4 @@
 pub mod Laws
 pub mod Text
 pub mod Shared
+pub mod Near

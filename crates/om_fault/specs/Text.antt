@@ -9,7 +9,7 @@ use Rattle.om_types.specs.declared.fault.Fault.{Fault}
 use Rattle.om_types.specs.Table.{table_shapes}
 use Rattle.om_types.specs.Ty.{Ty}
 use Rattle.om_types.specs.TypeText.{type_text}
-use Rattle.om_types.specs.VerdictText.{IsFaultText}
+use Rattle.om_types.specs.VerdictText.{IsFaultText, kind_text}
 use Rattle.om_type_table.specs.declared.table.TypeTable.{TypeTable}
 use Rattle.om_type_table.specs.Made.{types_of, table_of}
 
@@ -36,6 +36,11 @@ text_of_kind (kinds.Doubles len) = codes "float array of " ++ decimal len
 text_of_kind (kinds.Custom (customs.I32 z)) = codes "int32"
 text_of_kind (kinds.Custom (customs.I64 z)) = codes "int64"
 text_of_kind (kinds.Custom (customs.Native z)) = codes "nativeint"
+
+-- which type was expected, by its number, and what was found
+abbrev pub found_text : TypeTable → List Obj → Val → ℕ → List ℕ
+found_text table graph v number =
+    codes ": expected " ++ text_at table number ++ codes ", found " ++ kind_text graph v
 
 -- a text is put after another: that of a fault
 abbrev pub PutsFault : TypeTable → List Obj → Val → Fault → List ℕ → List ℕ → Type 0

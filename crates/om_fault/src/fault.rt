@@ -105,7 +105,7 @@ fn may_change(heap: &Heap, object: u64, table: &TypeTable, at: usize) -> bool
 }
 
 /// Whether a value fits a type.
-fn fits(heap: &Heap, value: Val, table: &TypeTable, at: usize) -> bool
+pub fn fits(heap: &Heap, value: Val, table: &TypeTable, at: usize) -> bool
     requires value { IsValue (length heap.now) value }
     requires number { at < length table.now.nodes }
     ensures { IsTrue result ↔ (table_shapes (table_of table.now)).fits heap.now value at }

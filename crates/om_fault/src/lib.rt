@@ -4,11 +4,13 @@
 
 mod fault;
 pub mod laws;
+mod near;
 mod order;
 mod put;
 mod steps;
 mod text;
 
 pub use fault::is_fault;
+pub use near::{Near, Way, find_near};
 pub use steps::{step, walk};
-pub use text::{fault_text, put_fault};
+pub use text::{fault_text, put_fault, put_near};

@@ -5,8 +5,10 @@ ghost use Rattle.std.specs.Fmt.{signed_decimal};
 ghost use Rattle.om_model.specs.Graph.{IsValue};
 ghost use Rattle.om_model.specs.PathText.{path_text};
 ghost use Rattle.om_types.specs.VerdictText.{kind_text};
+ghost use Rattle.om_fault.specs.Near.{path_in};
 ghost use Rattle.om_fault.specs.Text.{step_text, text_of_kind};
 
+use crate::near::Way;
 use itoa::Buffer;
 use om_heap::{Heap, Kind};
 use om_model::Memory;
@@ -67,6 +69,25 @@ pub fn put_path(text: &mut Vec<u8>, path: &Path) -> Result<(), Memory>
         put_step(text, path.step(i))?;
     }
     Ok(())
+}
+
+/// Puts the path of a way.
+pub fn put_way(text: &mut Vec<u8>, way: Way) -> Result<(), Memory>
+    ensures { OnOk result (text.new.items ≡ text.old.items ++ path_text (path_in way)) }
+{
+    match way {
+        Way::Root => put(text, b"."),
+        Way::Field(i) => put_step(text, i),
+        Way::Part(i, j) => put_two(text, i, j),
+    }
+}
+
+/// Puts two steps of a path.
+fn put_two(text: &mut Vec<u8>, i: u64, j: u64) -> Result<(), Memory>
+    ensures { OnOk result (text.new.items ≡ text.old.items ++ (step_text i ++ step_text j)) }
+{
+    put_step(text, i)?;
+    put_step(text, j)
 }
 
 /// Puts a step of a path.

@@ -84,7 +84,7 @@ fn field_type(heap: &Heap, value: Val, table: &TypeTable, at: usize, i: u64) -> 
 }
 
 /// Field i of what a value refers to.
-fn field(heap: &Heap, value: Val, i: u64) -> Option<Val>
+pub fn field(heap: &Heap, value: Val, i: u64) -> Option<Val>
     requires { IsValue (length heap.now) value }
     ensures is { result ≡ field_of heap.now value i }
     ensures valid { IfSome result (λ v. IsValue (length heap.now) v) }

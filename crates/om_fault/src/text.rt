@@ -1,21 +1,24 @@
 //! The text of a fault.
 
-ghost use Rattle.std.specs.Prelude.{◌≡◌, ◌<◌, ◌++◌, length, All, IfOk, OnOk};
+ghost use Rattle.std.specs.Prelude.{◌≡◌, ◌<◌, ◌++◌, length, All, Some, slice_get, IfOk, OnOk};
 ghost use Rattle.om_model.specs.Graph.{IsValue};
 ghost use Rattle.om_types.specs.Fault.{IsFault, IsMisfit, IsClash};
 ghost use Rattle.om_types.specs.Table.{table_shapes};
-ghost use Rattle.om_types.specs.VerdictText.{IsFaultText};
+ghost use Rattle.om_types.specs.VerdictText.{IsFaultText, misfit_text};
 ghost use Rattle.om_types.specs.declared.fault.Fault.TheVariants as faults;
 ghost use Rattle.om_type_table.specs.Made.{table_of, IsLawful};
-ghost use Rattle.om_fault.specs.Text.{text_at, PutsFault};
+ghost use Rattle.om_fault.specs.Near.{path_in};
+ghost use Rattle.om_fault.specs.Text.{text_at, found_text, PutsFault};
 
-use crate::put::{put, put_kind, put_path};
+use crate::near::Near;
+use crate::put::{put, put_kind, put_path, put_way};
 use crate::steps::walk;
 use om_heap::Heap;
 use om_model::Memory;
 use om_model::list::List;
 use om_model::path::Path;
 use om_model::value::Val;
+use om_store::TypeNode;
 use om_type_table::TypeTable;
 use om_types::fault::Fault;
 use std::alloc::Global;
@@ -89,6 +92,45 @@ fn put_misfit(
         unreachable!()
     };
     put_path(text, path)?;
+    put_found(text, alloc, heap, table, expected, found)
+}
+
+/// Puts where a value near the root does not fit.
+pub fn put_near(
+    text: &mut Vec<u8>,
+    alloc: Global,
+    heap: &Heap,
+    table: &TypeTable,
+    near: Near,
+) -> Result<(), Memory>
+    requires value { IsValue (length heap.now) near.value }
+    requires number { near.at < length table.now.nodes }
+    requires within { All (λ i. i < length table.now.store) table.now.stored }
+    requires same_length { length table.now.stored ≡ length table.now.nodes }
+    ensures { OnOk result
+        (text.new.items
+        ≡ text.old.items
+        ++ misfit_text (text_at table.now) heap.now (path_in near.way) near.value near.at) }
+{
+    put_way(text, near.way)?;
+    put_found(text, alloc, heap, table, near.at, near.value)
+}
+
+/// Puts which type was expected, and what was found.
+fn put_found(
+    text: &mut Vec<u8>,
+    alloc: Global,
+    heap: &Heap,
+    table: &TypeTable,
+    expected: usize,
+    found: Val,
+) -> Result<(), Memory>
+    requires value { IsValue (length heap.now) found }
+    requires number { expected < length table.now.stored }
+    requires within { All (λ i. i < length table.now.store) table.now.stored }
+    ensures { OnOk result
+        (text.new.items ≡ text.old.items ++ found_text table.now heap.now found expected) }
+{
     put(text, b": expected ")?;
     put_type(text, alloc, table, expected)?;
     put(text, b", found ")?;
@@ -131,8 +173,33 @@ fn put_clash(
     put(text, b" share a mutable object")
 }
 
-/// Puts a type.
+/// The number of a type in the store.
+fn stored(table: &TypeTable, number: usize) -> usize
+    requires { number < length table.now.stored }
+    ensures { slice_get table.now.stored number ≡ Some result }
+{
+    table.stored.as_slice()[number]
+}
+
+/// Puts a type. A name without arguments is put as it is stored.
 fn put_type(
+    text: &mut Vec<u8>,
+    alloc: Global,
+    table: &TypeTable,
+    number: usize,
+) -> Result<(), Memory>
+    requires within { All (λ i. i < length table.now.store) table.now.stored }
+    requires number { number < length table.now.stored }
+    ensures { OnOk result (text.new.items ≡ text.old.items ++ text_at table.now number) }
+{
+    match table.store.node(stored(table, number)) {
+        TypeNode::Named(name) => put(text, name),
+        _ => put_any_type(text, alloc, table, number),
+    }
+}
+
+/// Puts a type of any form.
+fn put_any_type(
     text: &mut Vec<u8>,
     alloc: Global,
     table: &TypeTable,

@@ -1,4 +1,4 @@
-use Rattle.std.proofs.Common.{◌≡◌, ◌∙◌, true, false, sym, ap}
+use Rattle.std.proofs.Common.{◌∙◌, true, false, sym, ap}
 use Rattle.om_types.specs.Fitting.{is_asked}
 use Rattle.om_types.specs.Table.{node_or_none}
 use Rattle.om_type_table.specs.Made.{table_of}

@@ -1,0 +1,34 @@
+use Rattle.om_fits.specs.Needs.{needs_in}
+use Rattle.om_type_table.specs.Made.{table_of}
+use Rattle.om_fault.proofs.NearLemmas.{near_root, near_field, typed_are, fits_by}
+use Rattle.om_fault.proofs.near.find_near.Goals as goal
+
+pub returns-in_default : goal.returns-in_default
+returns-in_default c =
+    near_root (table_of c.args.table.now) c.args.heap.now c.args.root c.shape.result.now c.shape.ensures c.in_default.ensures
+    c.requires.value c.requires.lawful
+
+pub unfit_field-requires-clause-needs : goal.unfit_field-requires-clause-needs
+unfit_field-requires-clause-needs c =
+    typed_are (table_of c.args.table.now) c.args.heap.now c.args.root 0 c.shape.result.now c.shape.ensures
+    (needs_in c.in-Some.needs) c.in-Some.ensures
+
+pub returns-in-Some-unfit_field : goal.returns-in-Some-unfit_field
+returns-in-Some-unfit_field c =
+    near_field (table_of c.args.table.now) c.args.heap.now c.args.root c.in-Some-unfit_field.unfit
+    (fits_by (table_of c.args.table.now) c.args.heap.now c.args.root 0 c.shape.result.now c.shape.ensures
+    (needs_in c.in-Some.needs) c.in-Some.ensures)
+    c.in-Some-unfit_field.ensures
+
+pub near_part-requires-clause-needs : goal.near_part-requires-clause-needs
+near_part-requires-clause-needs c =
+    typed_are (table_of c.args.table.now) c.args.heap.now c.args.root 0 c.shape.result.now c.shape.ensures
+    (needs_in c.in-Some.needs) c.in-Some.ensures
+
+pub near_part-requires-clause-fits : goal.near_part-requires-clause-fits
+near_part-requires-clause-fits c =
+    fits_by (table_of c.args.table.now) c.args.heap.now c.args.root 0 c.shape.result.now c.shape.ensures
+    (needs_in c.in-Some.needs) c.in-Some.ensures
+
+pub near_part-requires-clause-fields : goal.near_part-requires-clause-fields
+near_part-requires-clause-fields c = c.in-None.ensures

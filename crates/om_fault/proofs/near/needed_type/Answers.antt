@@ -1,0 +1,20 @@
+use Rattle.std.proofs.Common.{◌∙◌, true, false, sym, ap}
+use Rattle.om_types.specs.Fitting.{is_asked}
+use Rattle.om_types.specs.Table.{node_or_none}
+use Rattle.om_type_table.specs.Made.{table_of}
+use Rattle.om_fault.proofs.StepLemmas.{none_needed, needed_by}
+use Rattle.om_fault.proofs.near.needed_type.Goals as goal
+
+pub returns-in_default-clause-is : goal.returns-in_default-clause-is
+returns-in_default-clause-is c =
+    none_needed (table_of c.args.table.now) c.args.heap.now c.args.value c.args.at c.args.i (sym c.in_default.is ∙ c.type_in.ensures.is)
+
+pub returns-then-is_asked-clause-is : goal.returns-then-is_asked-clause-is
+returns-then-is_asked-clause-is c =
+    needed_by (table_of c.args.table.now) c.args.heap.now c.args.value c.args.at c.args.i c.in-Some.ty true (sym c.in-Some.is ∙ c.type_in.ensures.is)
+    (ap (λ n. is_asked (node_or_none n)) c.shape.ensures ∙ sym c.is_asked.ensures ∙ c.if-is_asked.true)
+
+pub returns-else-is_asked-clause-is : goal.returns-else-is_asked-clause-is
+returns-else-is_asked-clause-is c =
+    needed_by (table_of c.args.table.now) c.args.heap.now c.args.value c.args.at c.args.i c.in-Some.ty false (sym c.in-Some.is ∙ c.type_in.ensures.is)
+    (ap (λ n. is_asked (node_or_none n)) c.shape.ensures ∙ sym c.is_asked.ensures ∙ c.if-is_asked.false)

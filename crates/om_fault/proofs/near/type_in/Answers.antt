@@ -1,0 +1,15 @@
+use Rattle.std.proofs.Common.{◌∙◌, ap}
+use Rattle.om_model.proofs.Options.{slice_get_there}
+use Rattle.om_types.specs.Fault.{type_of_field}
+use Rattle.om_type_table.specs.Made.{table_of}
+use Rattle.om_fault.proofs.NearLemmas.{types_below}
+use Rattle.om_fault.proofs.near.type_in.Goals as goal
+
+pub returns-clause-is : goal.returns-clause-is
+returns-clause-is c = c.type_of.ensures ∙ ap (λ fields. type_of_field fields c.args.i) c.requires.needs
+
+pub returns-clause-number : goal.returns-clause-number
+returns-clause-number c =
+    let node = slice_get_there c.args._table.now.nodes c.args._at c.requires.number in
+    types_below (table_of c.args._table.now) c.args._heap.now c.args._value c.args._at node.0 node.1 c.requires.lawful c.args.i
+    c.type_of.result (c.type_of.ensures ∙ ap (λ fields. type_of_field fields c.args.i) c.requires.needs)

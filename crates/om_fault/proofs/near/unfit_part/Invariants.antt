@@ -1,0 +1,10 @@
+use Rattle.om_types.specs.Fault.{IsMisfit}
+use Rattle.om_types.specs.Table.{table_shapes}
+use Rattle.om_type_table.specs.Made.{table_of}
+use Rattle.om_fault.proofs.NearLemmas.{NoneBelow}
+use Rattle.om_fault.proofs.near.unfit_part.Given as goal
+
+-- no field so far has a misfit
+abbrev pub invariant-loop-i : goal.invariant-loop-i
+invariant-loop-i l =
+    NoneBelow (IsMisfit (table_shapes (table_of l.table)) l.heap l.value l.at) 1 l.i

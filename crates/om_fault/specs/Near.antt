@@ -1,0 +1,49 @@
+-- A misfit near the root.
+use Rattle.std.specs.Prelude.{ℕ, ◌≡◌, ◌<◌, List, [], ◌∷◌, length, Some}
+use Rattle.om_model.specs.declared.value.Val.{Val}
+use Rattle.om_model.specs.declared.value.Obj.{Obj}
+use Rattle.om_model.specs.Graph.{IsValue}
+use Rattle.om_heap.specs.declared.kind.Kind.{Kind}
+use Rattle.om_heap.specs.declared.kind.Kind.TheVariants as kinds
+use Rattle.om_types.specs.declared.fault.Fault.TheVariants.{Misfit}
+use Rattle.om_types.specs.Fault.{IsLexicallyBefore, value_at}
+use Rattle.om_types.specs.LeastFault.{IsLeastFault}
+use Rattle.om_types.specs.Table.{Table, table_shapes}
+use Rattle.om_fault.specs.declared.near.Way.{Way}
+use Rattle.om_fault.specs.declared.near.Way.TheVariants as ways
+use Rattle.om_fault.specs.declared.near.Near.{Near}
+
+-- how many fields an object of a kind has
+abbrev pub fields_of_kind : Kind → ℕ
+fields_of_kind (kinds.Block tag size) = size
+fields_of_kind kind = 0
+
+-- of the paths of one length none is such a one; or the path is one, and the least of its length
+module _ (Is : List ℕ → Type 0) where
+  abbrev pub NoneOf : ℕ → Type 0
+  NoneOf n = (path : List ℕ) → length path ≡ n → ¬ Is path
+
+  pub record IsFirstOf (path : List ℕ) : Type 0 where
+    pub is : Is path
+    pub first :
+        (other : List ℕ) → length other ≡ length path → IsLexicallyBefore other path
+        → ¬ Is other
+
+-- the path leads to this value, and to the type of this number
+pub record IsThere
+    (table : Table) (graph : List Obj) (v : Val) (t : ℕ) (path : List ℕ) (value : Val) (at : ℕ)
+    : Type 0 where
+  pub leads : value_at (table_shapes table) graph v t path ≡ Some (value, at)
+  pub valid : IsValue (length graph) value
+  pub node : at < length table.nodes
+
+-- the path of a way
+abbrev pub path_in : Way → List ℕ
+path_in ways.Root = []
+path_in (ways.Field i) = i ∷ []
+path_in (ways.Part i j) = i ∷ j ∷ []
+
+-- the least fault is a misfit, and this is there
+pub record IsNear (table : Table) (graph : List Obj) (root : Val) (near : Near) : Type 0 where
+  pub least : IsLeastFault (table_shapes table) graph root 0 (Misfit (path_in near.way))
+  pub there : IsThere table graph root 0 (path_in near.way) near.value near.at
