@@ -7,13 +7,15 @@ use Rattle.std.proofs.lemmas.List.Folds.{list_any-append}
 use Rattle.om_model.specs.declared.value.Val.{Val}
 use Rattle.om_model.specs.declared.value.Obj.{Obj}
 use Rattle.om_type_table.specs.declared.table.TypeTable.{TypeTable}
-use Rattle.om_show.specs.Pieces.{Piece, First, Again, has, firsts, agains, labelled, number_in, label_text, piece_text}
+use Rattle.om_show.specs.Pieces.{Piece, First, has, firsts, agains, labelled, number_in, label_text, piece_text}
 use Rattle.om_show.proofs.PieceLemmas.{agains-append, firsts-append}
 use Rattle.om_print.specs.declared.walk.Step.{Step}
 use Rattle.om_print.specs.declared.walk.Step.TheVariants as steps
 use Rattle.om_print.specs.declared.walk.Walk.{Walk}
 use Rattle.om_print.specs.Labels.{agains_of, marks_after, IsMarkable, AreCounted}
+use Rattle.om_print.specs.Levels.{levels_of}
 use Rattle.om_print.specs.Walking.{pieces_left, left_of, step_pieces, IsStep, IsWalk, Goes}
+use Rattle.om_print.proofs.LevelLemmas.{no_levels}
 use Rattle.om_print.proofs.MarkLemmas.{mark_set, no_marks}
 
 -- ---- numbers
@@ -75,7 +77,7 @@ module _ (table : TypeTable) (graph : List Obj) where
   some_piece (steps.Leaf o t) = omega arith
   some_piece (steps.Opening o frame) = omega arith
   some_piece (steps.Before frame i) = omega arith
-  some_piece (steps.Closing frame) = omega arith
+  some_piece (steps.Closing end) = omega arith
 
   pub fewer_left : (left : List Piece) (order : List ℕ) (step : Step) (new : Walk) → Goes table graph left order step new → length (pieces_left table graph new) < length left
   fewer_left left order step new goes =
@@ -89,7 +91,7 @@ module _ (table : TypeTable) (graph : List Obj) where
   markable n (steps.Leaf o t) many is = tt
   markable n (steps.Opening o frame) many is = tt
   markable n (steps.Before frame i) many is = tt
-  markable n (steps.Closing frame) many is = tt
+  markable n (steps.Closing end) many is = tt
 
   pub step_agains : (step : Step) → agains (step_pieces table graph step) ≡ agains_of step
   step_agains (steps.Integer z t) = refl
@@ -99,7 +101,7 @@ module _ (table : TypeTable) (graph : List Obj) where
   step_agains (steps.Leaf o t) = refl
   step_agains (steps.Opening o frame) = refl
   step_agains (steps.Before frame i) = refl
-  step_agains (steps.Closing frame) = refl
+  step_agains (steps.Closing end) = refl
 
   marks_more : (step : Step) (marks : List Bool) (x : ℕ) → IsMarkable (length marks) step → get_or (marks_after step marks) x false ≡ (has (agains_of step) x || get_or marks x false)
   marks_more (steps.Integer z t) marks x inside = refl
@@ -112,7 +114,7 @@ module _ (table : TypeTable) (graph : List Obj) where
   marks_more (steps.Leaf o t) marks x inside = refl
   marks_more (steps.Opening o frame) marks x inside = refl
   marks_more (steps.Before frame i) marks x inside = refl
-  marks_more (steps.Closing frame) marks x inside = refl
+  marks_more (steps.Closing end) marks x inside = refl
 
   marks_length : (step : Step) (marks : List Bool) → length (marks_after step marks) ≡ length marks
   marks_length (steps.Integer z t) marks = refl
@@ -122,7 +124,7 @@ module _ (table : TypeTable) (graph : List Obj) where
   marks_length (steps.Leaf o t) marks = refl
   marks_length (steps.Opening o frame) marks = refl
   marks_length (steps.Before frame i) marks = refl
-  marks_length (steps.Closing frame) marks = refl
+  marks_length (steps.Closing end) marks = refl
 
   -- ---- which objects are met again
 
@@ -148,16 +150,16 @@ module _ (table : TypeTable) (graph : List Obj) where
 
   -- ---- at the start
 
-  pub first_left : (walk : Walk) (v : Val) (t : ℕ) → walk.value ≡ Some (v, t) → walk.stack.items ≡ [] → walk.order ≡ []
+  pub first_left : (walk : Walk) (v : Val) (t : ℕ) → walk.value ≡ Some (v, t) → walk.stack.items ≡ [] → walk.ends.items ≡ [] → walk.order ≡ []
       → pieces_left table graph walk ≡ left_of table graph [] (Some (v, t)) []
-  first_left walk v t value blocks order =
-      ap (λ bs. left_of table graph bs walk.value walk.order) blocks ∙ ap (λ x. left_of table graph [] x walk.order) value
+  first_left walk v t value blocks ends order =
+      ap (λ ls. left_of table graph ls walk.value walk.order) (no_levels walk blocks ends) ∙ ap (λ x. left_of table graph [] x walk.order) value
       ∙ ap (λ os. left_of table graph [] (Some (v, t)) os) order
 
-  pub counted_none : (walk : Walk) (v : Val) (t : ℕ) (again : List Bool) → IsWalk table graph walk → walk.value ≡ Some (v, t) → walk.stack.items ≡ [] → walk.order ≡ []
+  pub counted_none : (walk : Walk) (v : Val) (t : ℕ) (again : List Bool) → IsWalk table graph walk → walk.value ≡ Some (v, t) → walk.stack.items ≡ [] → walk.ends.items ≡ [] → walk.order ≡ []
       → again ≡ replicate (length graph) false → AreCounted table graph (left_of table graph [] (Some (v, t)) []) walk again
-  counted_none walk v t again is value blocks order marks =
-      let left = first_left walk v t value blocks order in record {
+  counted_none walk v t again is value blocks ends order marks =
+      let left = first_left walk v t value blocks ends order in record {
         is_walk = is;
         many = ap length marks ∙ length-replicate (length graph) false;
         met_again = λ x.
@@ -167,8 +169,8 @@ module _ (table : TypeTable) (graph : List Obj) where
       }
 
   -- where no value comes next, that is what is left
-  pub none_next : (walk : Walk) → walk.value ≡ None → left_of table graph walk.stack.items None walk.order ≡ pieces_left table graph walk
-  none_next walk none = ap (λ value. left_of table graph walk.stack.items value walk.order) (sym none)
+  pub none_next : (walk : Walk) → walk.value ≡ None → left_of table graph (levels_of walk) None walk.order ≡ pieces_left table graph walk
+  none_next walk none = ap (λ value. left_of table graph (levels_of walk) value walk.order) (sym none)
 
   -- at the end they are those of the pieces with labels
   pub counted_all : (all : List Piece) (walk : Walk) (again : List Bool) (order : List ℕ) → AreCounted table graph all walk again → pieces_left table graph walk ≡ [] → order ≡ walk.order

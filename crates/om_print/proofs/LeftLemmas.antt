@@ -1,7 +1,7 @@
 -- What is left of a walk, step by step.
-use Rattle.std.proofs.Common.{ℕ, zero, suc, ◌≡◌, ◌+◌, ◌-◌, ◌<◌, ◌≤◌, ◌∙◌, List, [], ◌∷◌, ◌++◌, length, drop, reverse, refl, sym, ap, arith, append_assoc, Some, None}
+use Rattle.std.proofs.Common.{ℕ, zero, suc, ◌≡◌, ◌+◌, ◌-◌, ◌<◌, ◌≤◌, ◌∙◌, List, [], ◌∷◌, ◌++◌, length, drop, reverse, refl, sym, ap, arith, append_assoc, Option, Some, None}
 use Rattle.std.specs.Prelude.{slice_get}
-use Rattle.std.proofs.lemmas.List.{length-append}
+use Rattle.std.proofs.lemmas.List.{length-append, drop_all}
 use Rattle.std.proofs.lemmas.Option.{none-some, same_Some}
 use Rattle.om_model.specs.declared.value.Val.{Val}
 use Rattle.om_model.specs.declared.value.Val.TheVariants as vals
@@ -15,28 +15,29 @@ use Rattle.om_show.specs.Pieces.{Piece, Text}
 use Rattle.om_show.specs.Shown.{Met, met, led_by, parts_from, pieces_of}
 use Rattle.om_show.specs.Tables.{shape_in, names_in}
 use Rattle.om_print.specs.declared.block.OpenBlock.{OpenBlock}
-use Rattle.om_print.specs.Walking.{needs_left, meet, parts_left, after_inner, left_of}
+use Rattle.om_print.specs.Levels.{Level, Open, end_text, IsLastEnd, with_next, level_after}
+use Rattle.om_print.specs.Walking.{needs_left, meet, parts_left, parts_after, level_left, after_inner, left_of}
 
 module _ (table : TypeTable) (graph : List Obj) where
-  -- ---- the blocks that are open
+  -- ---- the levels
 
   -- what comes first inside comes first
-  front : (n : ℕ) (blocks : List OpenBlock) (p : List Piece) (m : Met) → after_inner table graph n blocks (led_by p m) ≡ led_by p (after_inner table graph n blocks m)
+  front : (n : ℕ) (levels : List Level) (p : List Piece) (m : Met) → after_inner table graph n levels (led_by p m) ≡ led_by p (after_inner table graph n levels m)
   front n [] p m = refl
-  front zero (block ∷ blocks) p m = refl
-  front (suc n) (block ∷ blocks) p m =
-      let k = after_inner table graph n blocks m in
-      ap (λ (x : Met). led_by x.pieces (parts_left table graph n block x.seen)) (front n blocks p m)
-      ∙ ap (λ ps. met ps (parts_left table graph n block k.seen).seen) (append_assoc p k.pieces (parts_left table graph n block k.seen).pieces)
+  front zero (level ∷ levels) p m = refl
+  front (suc n) (level ∷ levels) p m =
+      let k = after_inner table graph n levels m in
+      ap (λ (x : Met). led_by x.pieces (level_left table graph n level x.seen)) (front n levels p m)
+      ∙ ap (λ ps. met ps (level_left table graph n level k.seen).seen) (append_assoc p k.pieces (level_left table graph n level k.seen).pieces)
 
   -- the innermost one comes before the others
-  innermost : (n k : ℕ) (blocks : List OpenBlock) (block : OpenBlock) (m : Met) → n ≡ length blocks + suc k
-      → after_inner table graph n (blocks ++ block ∷ []) m ≡ after_inner table graph n blocks (led_by m.pieces (parts_left table graph k block m.seen))
-  innermost zero k blocks block m is = absurd (omega arith)
-  innermost (suc n) k [] block m is =
-      let e : n ≡ k = omega arith in ap (λ i. led_by m.pieces (parts_left table graph i block m.seen)) e
-  innermost (suc n) k (outer ∷ blocks) block m is =
-      ap (λ (x : Met). led_by x.pieces (parts_left table graph n outer x.seen)) (innermost n k blocks block m (omega arith))
+  innermost : (n k : ℕ) (levels : List Level) (level : Level) (m : Met) → n ≡ length levels + suc k
+      → after_inner table graph n (levels ++ level ∷ []) m ≡ after_inner table graph n levels (led_by m.pieces (level_left table graph k level m.seen))
+  innermost zero k levels level m is = absurd (omega arith)
+  innermost (suc n) k [] level m is =
+      let e : n ≡ k = omega arith in ap (λ i. led_by m.pieces (level_left table graph i level m.seen)) e
+  innermost (suc n) k (outer ∷ levels) level m is =
+      ap (λ (x : Met). led_by x.pieces (level_left table graph n outer x.seen)) (innermost n k levels level m (omega arith))
 
   -- ---- values
 
@@ -44,80 +45,96 @@ module _ (table : TypeTable) (graph : List Obj) where
   room d few = omega arith
 
   -- a value that opens no block
-  pub value_left : (blocks : List OpenBlock) (v : Val) (t : ℕ) (order later : List ℕ) (p : List Piece) → length blocks ≤ length graph
-      → meet table graph (suc (length graph - length blocks)) (reverse order) v t ≡ led_by p (met [] (reverse later))
-      → left_of table graph blocks (Some (v, t)) order ≡ p ++ left_of table graph blocks None later
+  pub value_left : (levels : List Level) (v : Val) (t : ℕ) (order later : List ℕ) (p : List Piece) → length levels ≤ length graph
+      → meet table graph (suc (length graph - length levels)) (reverse order) v t ≡ led_by p (met [] (reverse later))
+      → left_of table graph levels (Some (v, t)) order ≡ p ++ left_of table graph levels None later
   unfolding left_of
-  value_left blocks v t order later p few is =
-      ap (λ n. (after_inner table graph (length graph + 1) blocks (meet table graph n (reverse order) v t)).pieces) (room (length blocks) few)
-      ∙ ap (λ m. (after_inner table graph (length graph + 1) blocks m).pieces) is
-      ∙ ap (λ (m : Met). m.pieces) (front (length graph + 1) blocks p (met [] (reverse later)))
+  value_left levels v t order later p few is =
+      ap (λ n. (after_inner table graph (length graph + 1) levels (meet table graph n (reverse order) v t)).pieces) (room (length levels) few)
+      ∙ ap (λ m. (after_inner table graph (length graph + 1) levels m).pieces) is
+      ∙ ap (λ (m : Met). m.pieces) (front (length graph + 1) levels p (met [] (reverse later)))
 
   -- one that opens a block
-  pub block_left : (blocks : List OpenBlock) (block : OpenBlock) (v : Val) (t : ℕ) (order later : List ℕ) (p : List Piece) → length blocks ≤ length graph
-      → meet table graph (suc (length graph - length blocks)) (reverse order) v t ≡ led_by p (parts_left table graph (length graph - length blocks) block (reverse later))
-      → left_of table graph blocks (Some (v, t)) order ≡ p ++ left_of table graph (blocks ++ block ∷ []) None later
+  pub block_left : (levels : List Level) (block : OpenBlock) (v : Val) (t : ℕ) (order later : List ℕ) (p : List Piece) → length levels ≤ length graph
+      → meet table graph (suc (length graph - length levels)) (reverse order) v t ≡ led_by p (parts_left table graph (length graph - length levels) block (reverse later))
+      → left_of table graph levels (Some (v, t)) order ≡ p ++ left_of table graph (levels ++ Open block ∷ []) None later
   unfolding left_of
-  block_left blocks block v t order later p few is =
+  block_left levels block v t order later p few is =
       let n = length graph + 1 in
-      let k = length graph - length blocks in
-      ap (λ i. (after_inner table graph n blocks (meet table graph i (reverse order) v t)).pieces) (room (length blocks) few)
-      ∙ ap (λ m. (after_inner table graph n blocks m).pieces) is
-      ∙ ap (λ (m : Met). m.pieces) (front n blocks p (parts_left table graph k block (reverse later)))
-      ∙ ap (λ (m : Met). p ++ m.pieces) (sym (innermost n k blocks block (met [] (reverse later)) (omega arith)))
+      let k = length graph - length levels in
+      ap (λ i. (after_inner table graph n levels (meet table graph i (reverse order) v t)).pieces) (room (length levels) few)
+      ∙ ap (λ m. (after_inner table graph n levels m).pieces) is
+      ∙ ap (λ (m : Met). m.pieces) (front n levels p (parts_left table graph k block (reverse later)))
+      ∙ ap (λ (m : Met). p ++ m.pieces) (sym (innermost n k levels (Open block) (met [] (reverse later)) (omega arith)))
 
   -- ---- parts
 
-  no_parts : (n : ℕ) (block : OpenBlock) (seen : List ℕ) → needs_left block ≡ [] → parts_left table graph n block seen ≡ met (Text (frame_in block.frame).closing ∷ []) seen
-  no_parts n block seen none = rw none refl
+  -- of a level only its end may be left
+  abbrev pub IsAt : Level → ℕ → Type 0
+  IsAt level end = (n : ℕ) (seen : List ℕ) → level_left table graph n level seen ≡ met (Text (end_text end) ∷ []) seen
 
-  pub closing_left : (blocks : List OpenBlock) (block : OpenBlock) (order : List ℕ) → length blocks ≤ length graph → needs_left block ≡ []
-      → left_of table graph (blocks ++ block ∷ []) None order ≡ Text (frame_in block.frame).closing ∷ left_of table graph blocks None order
+  pub no_parts : (block : OpenBlock) (end : ℕ) → length (needs_in block.needs) ≤ block.next → end_text end ≡ (frame_in block.frame).closing → IsAt (Open block) end
+  no_parts block end past ends n seen =
+      let none : needs_left block ≡ [] = drop_all block.next (needs_in block.needs) past in
+      ap (λ needs. parts_from (shape_in table) (names_in table) graph (meet table graph n) (frame_in block.frame) (vals.Ref block.object) block.next needs seen) none
+      ∙ ap (λ (t : List ℕ). met (Text t ∷ []) seen) (sym ends)
+
+  pub closing_left : (levels : List Level) (level : Level) (end : ℕ) (order : List ℕ) → length levels ≤ length graph → IsAt level end
+      → left_of table graph (levels ++ level ∷ []) None order ≡ Text (end_text end) ∷ left_of table graph levels None order
   unfolding left_of
-  closing_left blocks block order few none =
+  closing_left levels level end order few is_at =
       let n = length graph + 1 in
-      let k = length graph - length blocks in
-      ap (λ (m : Met). m.pieces) (innermost n k blocks block (met [] (reverse order)) (omega arith))
-      ∙ ap (λ m. (after_inner table graph n blocks m).pieces) (no_parts k block (reverse order) none)
-      ∙ ap (λ (m : Met). m.pieces) (front n blocks (Text (frame_in block.frame).closing ∷ []) (met [] (reverse order)))
+      let k = length graph - length levels in
+      ap (λ (m : Met). m.pieces) (innermost n k levels level (met [] (reverse order)) (omega arith))
+      ∙ ap (λ m. (after_inner table graph n levels m).pieces) (is_at k (reverse order))
+      ∙ ap (λ (m : Met). m.pieces) (front n levels (Text (end_text end) ∷ []) (met [] (reverse order)))
+
+  -- it is what a block is after its next part
+  abbrev pub IsAfter : OpenBlock → Level → Type 0
+  IsAfter block level = (n : ℕ) (seen : List ℕ) → level_left table graph n level seen ≡ parts_after table graph n block seen
+
+  pub is_after : (block : OpenBlock) (end : Option ℕ) → IsLastEnd block end → IsAfter block (level_after (with_next block (block.next + 1)) end)
+  is_after block None is n seen =
+      let later : block.next + 1 ≡ suc block.next = omega arith in
+      ap (λ next. parts_from (shape_in table) (names_in table) graph (meet table graph n) (frame_in block.frame) (vals.Ref block.object) next (drop next (needs_in block.needs)) seen) later
+  is_after block (Some end) is n seen =
+      let none : drop (suc block.next) (needs_in block.needs) ≡ [] = drop_all (suc block.next) (needs_in block.needs) (omega (arith, is.0)) in
+      ap (λ (t : List ℕ). met (Text t ∷ []) seen) is.1
+      ∙ ap (λ needs. parts_from (shape_in table) (names_in table) graph (meet table graph n) (frame_in block.frame) (vals.Ref block.object) (suc block.next) needs seen) (sym none)
 
   -- what remains after one more part is met
-  part_next : (n : ℕ) (block next : OpenBlock) (seen : List ℕ) (i t : ℕ) (w : Val) → slice_get (needs_in block.needs) block.next ≡ Some (i, t) → typed_field graph block.object i ≡ Some w
-      → next.object ≡ block.object → next.frame ≡ block.frame → next.needs ≡ block.needs → next.next ≡ block.next + 1
+  part_next : (n : ℕ) (block : OpenBlock) (next : Level) (seen : List ℕ) (i t : ℕ) (w : Val) → slice_get (needs_in block.needs) block.next ≡ Some (i, t) → typed_field graph block.object i ≡ Some w → IsAfter block next
       → parts_left table graph n block seen
-      ≡ led_by (Text (before_part (frame_in block.frame) block.next) ∷ []) (led_by (meet table graph n seen w t).pieces (parts_left table graph n next (meet table graph n seen w t).seen))
-  part_next n block next seen i t w at_next field object frame needs number =
+      ≡ led_by (Text (before_part (frame_in block.frame) block.next) ∷ []) (led_by (meet table graph n seen w t).pieces (level_left table graph n next (meet table graph n seen w t).seen))
+  part_next n block next seen i t w at_next field after =
       let split : needs_left block ≡ (i, t) ∷ drop (suc block.next) (needs_in block.needs) = drop_at (needs_in block.needs) block.next (i, t) at_next in
-      let later : next.next ≡ suc block.next = omega (arith, number) in
       let m = meet table graph n seen w t in
-      let parts : Met = parts_from (shape_in table) (names_in table) graph (meet table graph n) (frame_in block.frame) (vals.Ref block.object) (suc block.next) (drop (suc block.next) (needs_in block.needs)) m.seen in
-      rw (split, field, object, frame, needs, later) (refl {a = led_by (Text (before_part (frame_in block.frame) block.next) ∷ m.pieces) parts}) where
+      rw (split, field) (ap (λ (x : Met). led_by (Text (before_part (frame_in block.frame) block.next) ∷ m.pieces) x) (sym (after n m.seen))) where
         drop_at : {X : Type 0} (xs : List X) (k : ℕ) (x : X) → slice_get xs k ≡ Some x → drop k xs ≡ x ∷ drop (suc k) xs
         drop_at [] k x is = absurd (none-some x is)
         drop_at (y ∷ xs) zero x is = ap (λ z. z ∷ xs) (same_Some y x is)
         drop_at (y ∷ xs) (suc k) x is = drop_at xs k x is
 
-  pub before_left : (blocks : List OpenBlock) (block next : OpenBlock) (order : List ℕ) (i t : ℕ) (w : Val) → length blocks < length graph
-      → slice_get (needs_in block.needs) block.next ≡ Some (i, t) → typed_field graph block.object i ≡ Some w
-      → next.object ≡ block.object → next.frame ≡ block.frame → next.needs ≡ block.needs → next.next ≡ block.next + 1
-      → left_of table graph (blocks ++ block ∷ []) None order ≡ Text (before_part (frame_in block.frame) block.next) ∷ left_of table graph (blocks ++ next ∷ []) (Some (w, t)) order
+  pub before_left : (levels : List Level) (block : OpenBlock) (next : Level) (order : List ℕ) (i t : ℕ) (w : Val) → length levels < length graph
+      → slice_get (needs_in block.needs) block.next ≡ Some (i, t) → typed_field graph block.object i ≡ Some w → IsAfter block next
+      → left_of table graph (levels ++ Open block ∷ []) None order ≡ Text (before_part (frame_in block.frame) block.next) ∷ left_of table graph (levels ++ next ∷ []) (Some (w, t)) order
   unfolding left_of
-  before_left blocks block next order i t w few at_next field object frame needs number =
+  before_left levels block next order i t w few at_next field after =
       let n = length graph + 1 in
-      let k = length graph - length blocks in
+      let k = length graph - length levels in
       let seen = reverse order in
       let p : List Piece = Text (before_part (frame_in block.frame) block.next) ∷ [] in
       let m = meet table graph k seen w t in
-      let inner : length graph + 1 - length (blocks ++ next ∷ []) ≡ k = omega (arith, length-append blocks (next ∷ [])) in
-      ap (λ (x : Met). x.pieces) (innermost n k blocks block (met [] seen) (omega arith))
-      ∙ ap (λ x. (after_inner table graph n blocks x).pieces) (part_next k block next seen i t w at_next field object frame needs number)
-      ∙ ap (λ (x : Met). x.pieces) (front n blocks p (led_by m.pieces (parts_left table graph k next m.seen)))
-      ∙ ap (λ (x : Met). p ++ x.pieces) (sym (innermost n k blocks next m (omega arith)))
-      ∙ ap (λ j. p ++ (after_inner table graph n (blocks ++ next ∷ []) (meet table graph j seen w t)).pieces) (sym inner)
+      let inner : length graph + 1 - length (levels ++ next ∷ []) ≡ k = omega (arith, length-append levels (next ∷ [])) in
+      ap (λ (x : Met). x.pieces) (innermost n k levels (Open block) (met [] seen) (omega arith))
+      ∙ ap (λ x. (after_inner table graph n levels x).pieces) (part_next k block next seen i t w at_next field after)
+      ∙ ap (λ (x : Met). x.pieces) (front n levels p (led_by m.pieces (level_left table graph k next m.seen)))
+      ∙ ap (λ (x : Met). p ++ x.pieces) (sym (innermost n k levels next m (omega arith)))
+      ∙ ap (λ j. p ++ (after_inner table graph n (levels ++ next ∷ []) (meet table graph j seen w t)).pieces) (sym inner)
 
-  pub none_left : (blocks : List OpenBlock) (order : List ℕ) → blocks ≡ [] → left_of table graph blocks None order ≡ []
+  pub none_left : (levels : List Level) (order : List ℕ) → levels ≡ [] → left_of table graph levels None order ≡ []
   unfolding left_of
-  none_left blocks order none = rw none refl
+  none_left levels order none = rw none refl
 
   -- ---- the whole
 

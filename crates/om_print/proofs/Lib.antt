@@ -1,6 +1,7 @@
 pub mod DumpLemmas
 pub mod LabelLemmas
 pub mod LeftLemmas
+pub mod LevelLemmas
 pub mod MarkLemmas
 pub mod PlainLemmas
 pub mod RowLemmas

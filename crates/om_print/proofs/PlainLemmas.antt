@@ -10,6 +10,8 @@ use Rattle.om_model.specs.Graph.{IsValue}
 use Rattle.om_type_table.specs.declared.table.TypeTable.{TypeTable}
 use Rattle.om_type_table.specs.Made.{table_of}
 use Rattle.om_show.specs.Pieces.{Piece, firsts, agains, has, labelled, piece_text, text_of}
+use Rattle.om_show.specs.Shown.{pieces_of}
+use Rattle.om_show.specs.Tables.{shape_in, names_in}
 use Rattle.om_show.proofs.PieceLemmas.{agains-append, firsts-append}
 use Rattle.om_print.specs.Typed.{IsTypedAt}
 use Rattle.om_print.specs.declared.walk.Step.{Step}
@@ -17,6 +19,8 @@ use Rattle.om_print.specs.declared.walk.Walk.{Walk}
 use Rattle.om_print.specs.Labels.{agains_of, AreCounted}
 use Rattle.om_print.specs.Walking.{pieces_left, left_of, step_pieces, IsWalk, Goes}
 use Rattle.om_print.specs.Plain.{IsPutOn}
+use Rattle.om_print.proofs.LeftLemmas.{start_left}
+use Rattle.om_print.proofs.LevelLemmas.{same_levels, same_nested}
 use Rattle.om_print.proofs.MarkLemmas.{no_marks}
 use Rattle.om_print.proofs.LabelLemmas.{step_agains, append_associative, some_piece, first_left}
 
@@ -74,6 +78,7 @@ module _ (table : TypeTable) (graph : List Obj) where
   -- the same walk, but for the value that comes next
   pub record IsSame (walk new : Walk) : Type 0 where
     pub blocks : new.stack.items ≡ walk.stack.items
+    pub ends : new.ends.items ≡ walk.ends.items
     pub marks : new.marks.items ≡ walk.marks.items
     pub order : new.order ≡ walk.order
 
@@ -82,11 +87,12 @@ module _ (table : TypeTable) (graph : List Obj) where
     is_graph = is.is_graph;
     value = value;
     blocks = rw same.blocks is.blocks;
+    nested = same_nested walk new same.blocks same.ends is.nested;
     many = ap length same.marks ∙ is.many;
     marked = rw (same.marks, same.order) is.marked;
     counted = rw (same.marks, same.order) is.counted;
     inside = rw same.order is.inside;
-    depth = rw (same.blocks, same.order) is.depth;
+    depth = rw (same_levels walk new same.blocks same.ends, same.order) is.depth;
   }
 
   -- fewer are left after a step and more
@@ -103,10 +109,10 @@ module _ (table : TypeTable) (graph : List Obj) where
       )
 
   -- what was met and what is left are all, and none was met again
-  pub counted_put : (walk new : Walk) (v : Val) (t : ℕ) (again : List Bool) (old text : List ℕ) → walk.value ≡ Some (v, t) → walk.stack.items ≡ [] → walk.order ≡ [] → again ≡ replicate (length graph) false
+  pub counted_put : (walk new : Walk) (v : Val) (t : ℕ) (again : List Bool) (old text : List ℕ) → walk.value ≡ Some (v, t) → walk.stack.items ≡ [] → walk.ends.items ≡ [] → walk.order ≡ [] → again ≡ replicate (length graph) false
       → IsPutOn table graph (pieces_left table graph walk) walk.order old text new → AreCounted table graph (left_of table graph [] (Some (v, t)) []) new again
-  counted_put walk new v t again old text value blocks order marks put =
-      let left = first_left table graph walk v t value blocks order in
+  counted_put walk new v t again old text value blocks ends order marks put =
+      let left = first_left table graph walk v t value blocks ends order in
       let all = left_of table graph [] (Some (v, t)) [] in
       let later = pieces_left table graph new in
       let split : all ≡ put.now ++ later = sym left ∙ put.pieces in record {
@@ -118,6 +124,51 @@ module _ (table : TypeTable) (graph : List Obj) where
         met_first =
             ap firsts split ∙ firsts-append put.now later ∙ ap (λ os. os ++ firsts later) (sym (put.order ∙ ap (λ os. os ++ firsts put.now) order));
       }
+
+  -- ---- what is compared
+
+  -- the text begins with what is put so far
+  pub record IsTold (v : Val) (t : ℕ) (text rest : List ℕ) (walk : Walk) : Type 0 where
+    pub front : List ℕ
+    pub split : text ≡ front ++ rest
+    pub put : IsPutOn table graph (left_of table graph [] (Some (v, t)) []) [] [] front walk
+
+  pub told_start : (walk : Walk) (v : Val) (t : ℕ) (text : List ℕ) → IsWalk table graph walk → walk.value ≡ Some (v, t) → walk.stack.items ≡ [] → walk.ends.items ≡ [] → walk.order ≡ [] → IsTold v t text text walk
+  told_start walk v t text is value blocks ends order = record {
+    front = [];
+    split = refl;
+    put = record {
+      now = [];
+      pieces = sym (first_left table graph walk v t value blocks ends order);
+      order = order;
+      fresh = refl;
+      put = refl;
+      walk = is;
+    };
+  }
+
+  pub told_more : (walk new : Walk) (v : Val) (t : ℕ) (text rest more old few : List ℕ) → IsTold v t text rest walk → old ≡ [] → IsPutOn table graph (pieces_left table graph walk) walk.order old few new
+      → rest ≡ few ++ more → IsTold v t text more new
+  told_more walk new v t text rest more old few told none put follows =
+      let whole : few ≡ flat_map (piece_text []) put.now = put.put ∙ ap (λ (bs : List ℕ). bs ++ flat_map (piece_text []) put.now) none in
+      let next : IsPutOn table graph (pieces_left table graph walk) walk.order told.front (told.front ++ few) new =
+      record { now = put.now; pieces = put.pieces; order = put.order; fresh = put.fresh; put = ap (λ (bs : List ℕ). told.front ++ bs) whole; walk = put.walk } in record {
+        front = told.front ++ few;
+        split = told.split ∙ ap (λ (bs : List ℕ). told.front ++ bs) follows ∙ sym (append_assoc told.front few more);
+        put = put_then (left_of table graph [] (Some (v, t)) []) [] [] told.front (told.front ++ few) walk new told.put next;
+      }
+
+  pub told_whole : (walk : Walk) (v : Val) (t : ℕ) (text rest : List ℕ) → IsTold v t text rest walk → pieces_left table graph walk ≡ [] → rest ≡ [] → text_of (pieces_of (shape_in table) (names_in table) graph v t) ≡ text
+  told_whole walk v t text rest told none nothing =
+      let pieces = pieces_of (shape_in table) (names_in table) graph v t in
+      let now = told.put.now in
+      let whole : pieces ≡ now = sym (start_left table graph v t) ∙ told.put.pieces ∙ ap (λ (ps : List Piece). now ++ ps) none ∙ append-nil now in
+      ap (λ (os : List ℕ). flat_map (piece_text os) pieces) (no_labels pieces (ap agains whole ∙ told.put.fresh))
+      ∙ ap (flat_map (piece_text [])) whole
+      ∙ sym told.put.put
+      ∙ sym (append-nil told.front)
+      ∙ ap (λ (bs : List ℕ). told.front ++ bs) (sym nothing)
+      ∙ sym told.split
 
   -- the whole text, where nothing is left
   pub whole_put : (walk new : Walk) (old text : List ℕ) (all pieces : List Piece) → all ≡ pieces → pieces_left table graph walk ≡ all → pieces_left table graph new ≡ []

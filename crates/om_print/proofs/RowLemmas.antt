@@ -1,5 +1,5 @@
 -- Numbers in a row, one more at a time.
-use Rattle.std.proofs.Common.{ℕ, suc, ◌≡◌, ◌+◌, ◌-◌, ◌≤◌, ◌∙◌, List, [], ◌∷◌, ◌++◌, ap, sym, arith, append-nil}
+use Rattle.std.proofs.Common.{ℕ, suc, ◌≡◌, ◌+◌, ◌-◌, ◌≤◌, ◌∙◌, [], ◌∷◌, ◌++◌, ap, arith}
 use Rattle.om_print.specs.Row.{row}
 
 pub row_more : (first next : ℕ) → first ≤ next → row first (next + 1 - first) ≡ row first (next - first) ++ next ∷ []

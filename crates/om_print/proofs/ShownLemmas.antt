@@ -2,7 +2,6 @@
 use Rattle.std.proofs.Common.{ℕ, ◌≡◌, ◌∙◌, List, [], ◌∷◌, ◌++◌, length, take, refl, sym, ap, append_assoc, append-nil}
 use Rattle.std.specs.List.{flat_map}
 use Rattle.std.proofs.lemmas.Grind.{flat_map-append}
-use Rattle.om_print.specs.Put.{IsGrown}
 use Rattle.om_show.specs.Pieces.{Piece, piece_text, labelled, text_of}
 
 pub text_more : (objects : List ℕ) (left now later : List Piece) (text new all : List ℕ) → left ≡ now ++ later → new ≡ text ++ flat_map (piece_text objects) now

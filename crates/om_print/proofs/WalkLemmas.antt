@@ -1,7 +1,7 @@
 -- One step of a walk.
-use Rattle.std.proofs.Common.{ℕ, suc, ◌≡◌, ◌+◌, ◌-◌, ◌<◌, ◌≤◌, ◌∙◌, true, false, cond, List, [], ◌∷◌, ◌++◌, length, drop, reverse, get_or, set, replicate, refl, sym, ap, subst, arith, append-nil, Some, None, ℤ, pos, length-set}
-use Rattle.std.specs.Prelude.{All, Contains, IsTrue, Bool, slice_get, codes}
-use Rattle.std.proofs.lemmas.List.{length-append, length-replicate, length-map, drop_all}
+use Rattle.std.proofs.Common.{ℕ, suc, ◌≡◌, ◌+◌, ◌-◌, ◌<◌, ◌≤◌, ◌∙◌, true, false, cond, List, [], ◌∷◌, ◌++◌, length, drop, reverse, get_or, set, replicate, refl, sym, ap, subst, arith, append-nil, Option, Some, None, ℤ, pos, length-set}
+use Rattle.std.specs.Prelude.{All, Contains, IsTrue, Bool, slice_get, option_to_list, codes}
+use Rattle.std.proofs.lemmas.List.{length-append, length-replicate, length-map}
 use Rattle.std.proofs.lemmas.List.Elements.{All-nil, All-push, All-pop, All-contains}
 use Rattle.std.proofs.lemmas.Option.{slice_get-get_or}
 use Rattle.om_model.specs.declared.value.Val.{Val}
@@ -28,8 +28,10 @@ use Rattle.om_print.specs.declared.block.OpenBlock.{OpenBlock}
 use Rattle.om_print.specs.declared.walk.Step.{Step}
 use Rattle.om_print.specs.declared.walk.Step.TheVariants as steps
 use Rattle.om_print.specs.declared.walk.Walk.{Walk}
+use Rattle.om_print.specs.Levels.{Level, Open, Ended, end_text, levels_from, levels_of, last_outside, AreNested, IsLastEnd, with_next, blocks_after, level_after}
 use Rattle.om_print.specs.Walking.{how_many, meet, parts_left, left_of, step_pieces, IsStep, IsPart, IsOpen, IsBegun, IsWalk, Goes}
-use Rattle.om_print.proofs.LeftLemmas.{value_left, block_left, closing_left, before_left}
+use Rattle.om_print.proofs.LevelLemmas.{level_opened, nested_push, same_levels, same_nested, no_levels, no_nested, end_level, IsInnermost, closed_levels, passed_levels}
+use Rattle.om_print.proofs.LeftLemmas.{value_left, block_left, closing_left, before_left, IsAt, no_parts, is_after}
 use Rattle.om_print.proofs.MarkLemmas.{reversed_more, marked_more, how_many_none, how_many_within, how_many_set, no_marks}
 use Rattle.om_print.proofs.TypedLemmas.{integer_fits, there, named_below, hidden_at, part_typed}
 
@@ -37,19 +39,19 @@ pub field_word_at : (graph : List Obj) (words : List ℕ) (i : ℕ) → All (IsF
 field_word_at graph words i valid inside = All-contains (IsFieldWord graph) words (get_or words i 0) valid (slice_get-Contains words i (get_or words i 0) (slice_get-get_or words i 0 inside))
 
 module _ (table : TypeTable) (graph : List Obj) where
-  -- open blocks are met, and there are no more of those than objects
-  pub few_blocks : (walk : Walk) → IsWalk table graph walk → length walk.stack.items ≤ length graph
-  few_blocks walk is = omega (arith, is.depth, is.counted, is.many, how_many_within walk.marks.items)
+  -- the blocks of all levels are met, and there are no more of those than objects
+  pub few_levels : (walk : Walk) → IsWalk table graph walk → length (levels_of walk) ≤ length graph
+  few_levels walk is = omega (arith, is.depth, is.counted, is.many, how_many_within walk.marks.items)
 
   -- the step of a value that opens no block
-  pub value_goes : (walk new : Walk) (v : Val) (t : ℕ) (step : Step) → IsWalk table graph walk → new.stack.items ≡ walk.stack.items → new.value ≡ None
-      → meet table graph (suc (length graph - length walk.stack.items)) (reverse walk.order) v t ≡ led_by (step_pieces table graph step) (met [] (reverse new.order))
+  pub value_goes : (walk new : Walk) (v : Val) (t : ℕ) (step : Step) → IsWalk table graph walk → levels_of new ≡ levels_of walk → new.value ≡ None
+      → meet table graph (suc (length graph - length (levels_of walk))) (reverse walk.order) v t ≡ led_by (step_pieces table graph step) (met [] (reverse new.order))
       → new.order ≡ walk.order ++ firsts (step_pieces table graph step) → IsStep table graph step → IsWalk table graph new
-      → Goes table graph (left_of table graph walk.stack.items (Some (v, t)) walk.order) walk.order step new
-  value_goes walk new v t step is blocks none meets order valid is_new = record {
-    pieces = value_left table graph walk.stack.items v t walk.order new.order (step_pieces table graph step) (few_blocks walk is) meets
-        ∙ ap (λ bs. step_pieces table graph step ++ left_of table graph bs None new.order) (sym blocks)
-        ∙ ap (λ value. step_pieces table graph step ++ left_of table graph new.stack.items value new.order) (sym none);
+      → Goes table graph (left_of table graph (levels_of walk) (Some (v, t)) walk.order) walk.order step new
+  value_goes walk new v t step is levels none meets order valid is_new = record {
+    pieces = value_left table graph (levels_of walk) v t walk.order new.order (step_pieces table graph step) (few_levels walk is) meets
+        ∙ ap (λ ls. step_pieces table graph step ++ left_of table graph ls None new.order) (sym levels)
+        ∙ ap (λ value. step_pieces table graph step ++ left_of table graph (levels_of new) value new.order) (sym none);
     order = order;
     valid = valid;
     walk = is_new;
@@ -58,9 +60,9 @@ module _ (table : TypeTable) (graph : List Obj) where
   -- ---- values of which nothing is asked
 
   pub hidden_goes : (walk : Walk) (v : Val) (t : ℕ) → IsWalk table graph walk → walk.value ≡ None → is_asked (shape_in table t) ≡ false
-      → Goes table graph (left_of table graph walk.stack.items (Some (v, t)) walk.order) walk.order steps.Hidden walk
+      → Goes table graph (left_of table graph (levels_of walk) (Some (v, t)) walk.order) walk.order steps.Hidden walk
   hidden_goes walk v t is none hidden =
-      let k = length graph - length walk.stack.items in
+      let k = length graph - length (levels_of walk) in
       let seen = reverse walk.order in
       let meets : meet table graph (suc k) seen v t ≡ met (Text hidden_text ∷ []) seen =
       ap (λ b. cond b (asked_met (shape_in table) (names_in table) graph (meet table graph k) seen v t) (met (Text hidden_text ∷ []) seen)) hidden in
@@ -73,20 +75,20 @@ module _ (table : TypeTable) (graph : List Obj) where
   -- ---- values that are no objects, and objects that are met again
 
   pub integer_goes : (walk : Walk) (v : Val) (z : ℤ) (t : ℕ) → v ≡ vals.Int z → IsWalk table graph walk → walk.value ≡ None → IsTypedAt (table_of table) graph v t → IsTrue (is_asked (shape_in table t))
-      → Goes table graph (left_of table graph walk.stack.items (Some (v, t)) walk.order) walk.order (steps.Integer z t) walk
+      → Goes table graph (left_of table graph (levels_of walk) (Some (v, t)) walk.order) walk.order (steps.Integer z t) walk
   integer_goes walk v z t v_is is none typed asked =
-      let meets : meet table graph (suc (length graph - length walk.stack.items)) (reverse walk.order) v t ≡ met (Text (int_text (shape_in table t) (names_in table t) z) ∷ []) (reverse walk.order) =
-      meet_asked (length graph - length walk.stack.items) (reverse walk.order) v t asked
-      ∙ ap (λ x. asked_met (shape_in table) (names_in table) graph (meet table graph (length graph - length walk.stack.items)) (reverse walk.order) x t) v_is in
+      let meets : meet table graph (suc (length graph - length (levels_of walk))) (reverse walk.order) v t ≡ met (Text (int_text (shape_in table t) (names_in table t) z) ∷ []) (reverse walk.order) =
+      meet_asked (length graph - length (levels_of walk)) (reverse walk.order) v t asked
+      ∙ ap (λ x. asked_met (shape_in table) (names_in table) graph (meet table graph (length graph - length (levels_of walk))) (reverse walk.order) x t) v_is in
       value_goes walk walk v t (steps.Integer z t) is refl none meets (sym (append-nil walk.order))
       (typed.number, integer_fits (table_of table) graph z t (subst (λ x. IsTypedAt (table_of table) graph x t) v_is typed)) is
 
   pub atom_goes : (walk : Walk) (v : Val) (tag t : ℕ) → v ≡ vals.Atom tag → IsWalk table graph walk → walk.value ≡ None → IsTrue (is_asked (shape_in table t))
-      → Goes table graph (left_of table graph walk.stack.items (Some (v, t)) walk.order) walk.order steps.Empty walk
+      → Goes table graph (left_of table graph (levels_of walk) (Some (v, t)) walk.order) walk.order steps.Empty walk
   atom_goes walk v tag t v_is is none asked =
-      let meets : meet table graph (suc (length graph - length walk.stack.items)) (reverse walk.order) v t ≡ met (Text (codes "[||]") ∷ []) (reverse walk.order) =
-      meet_asked (length graph - length walk.stack.items) (reverse walk.order) v t asked
-      ∙ ap (λ x. asked_met (shape_in table) (names_in table) graph (meet table graph (length graph - length walk.stack.items)) (reverse walk.order) x t) v_is in
+      let meets : meet table graph (suc (length graph - length (levels_of walk))) (reverse walk.order) v t ≡ met (Text (codes "[||]") ∷ []) (reverse walk.order) =
+      meet_asked (length graph - length (levels_of walk)) (reverse walk.order) v t asked
+      ∙ ap (λ x. asked_met (shape_in table) (names_in table) graph (meet table graph (length graph - length (levels_of walk))) (reverse walk.order) x t) v_is in
       value_goes walk walk v t steps.Empty is refl none meets (sym (append-nil walk.order)) tt is
 
   -- what is met where an object is met first
@@ -100,9 +102,9 @@ module _ (table : TypeTable) (graph : List Obj) where
   met_unmarked k seen o t asked unmarked = meet_asked k seen (vals.Ref o) t asked ∙ ap (λ b. cond b (met (Again o ∷ []) seen) (first_met k seen o t)) unmarked
 
   pub again_goes : (walk : Walk) (v : Val) (o t : ℕ) → v ≡ vals.Ref o → IsWalk table graph walk → walk.value ≡ None → o < length graph → get_or walk.marks.items o false ≡ true → IsTrue (is_asked (shape_in table t))
-      → Goes table graph (left_of table graph walk.stack.items (Some (v, t)) walk.order) walk.order (steps.Again o) walk
+      → Goes table graph (left_of table graph (levels_of walk) (Some (v, t)) walk.order) walk.order (steps.Again o) walk
   again_goes walk v o t v_is is none inside marked asked =
-      let k = length graph - length walk.stack.items in
+      let k = length graph - length (levels_of walk) in
       let seen = reverse walk.order in
       let meets : meet table graph (suc k) seen v t ≡ met (Again o ∷ []) seen =
       ap (λ x. meet table graph (suc k) seen x t) v_is ∙ met_marked k seen o t asked (sym (is.marked o) ∙ marked) in
@@ -113,6 +115,7 @@ module _ (table : TypeTable) (graph : List Obj) where
   pub record IsMarked (walk new : Walk) (o : ℕ) : Type 0 where
     pub value : new.value ≡ None
     pub blocks : new.stack.items ≡ walk.stack.items
+    pub ends : new.ends.items ≡ walk.ends.items
     pub marks : new.marks.items ≡ set walk.marks.items o true
     pub order : new.order ≡ walk.order ++ o ∷ []
 
@@ -123,11 +126,12 @@ module _ (table : TypeTable) (graph : List Obj) where
         is_graph = is.is_graph;
         value = rw marked.value tt;
         blocks = subst (All (IsOpen table graph)) (sym marked.blocks) is.blocks;
+        nested = same_nested walk new marked.blocks marked.ends is.nested;
         many = ap length marked.marks ∙ length-set walk.marks.items o true ∙ is.many;
         marked = rw (marked.marks, marked.order) (marked_more walk.marks.items walk.order o there is.marked);
         counted = ap how_many marked.marks ∙ how_many_set walk.marks.items o there unmet ∙ ap suc is.counted ∙ sym (ap length marked.order ∙ one_more);
         inside = subst (All (λ x. x < length graph)) (sym marked.order) (All-push (λ x. x < length graph) walk.order o is.inside inside);
-        depth = omega (arith, is.depth, ap length marked.blocks, ap length marked.order, one_more);
+        depth = omega (arith, is.depth, ap length (same_levels walk new marked.blocks marked.ends), ap length marked.order, one_more);
       }
 
   leaf_met : (meets : List ℕ → Val → ℕ → Met) (seen : List ℕ) (o t : ℕ) (object : Obj) → ((tag : ℕ) (values : List Val) → object ≡ objects.Block tag values → ⊥)
@@ -145,9 +149,9 @@ module _ (table : TypeTable) (graph : List Obj) where
 
   pub leaf_goes : (walk new : Walk) (o t : ℕ) → IsWalk table graph walk → o < length graph → t < length table.nodes → get_or walk.marks.items o false ≡ false → IsMarked walk new o
       → ((tag : ℕ) (values : List Val) → object_at graph o ≡ objects.Block tag values → ⊥) → IsTrue (is_asked (shape_in table t))
-      → Goes table graph (left_of table graph walk.stack.items (Some (vals.Ref o, t)) walk.order) walk.order (steps.Leaf o t) new
+      → Goes table graph (left_of table graph (levels_of walk) (Some (vals.Ref o, t)) walk.order) walk.order (steps.Leaf o t) new
   leaf_goes walk new o t is inside number unmet marked no_block asked =
-      let k = length graph - length walk.stack.items in
+      let k = length graph - length (levels_of walk) in
       let seen = reverse walk.order in
       let p : List Piece = First o ∷ Text (object_text (shape_in table t) (names_in table t) (object_at graph o)) ∷ [] in
       let later : reverse new.order ≡ o ∷ seen = ap reverse marked.order ∙ reversed_more walk.order o in
@@ -156,11 +160,11 @@ module _ (table : TypeTable) (graph : List Obj) where
       ∙ ap (object_met (shape_in table) (names_in table) graph (meet table graph k) (o ∷ seen) o t) (object_there o inside)
       ∙ leaf_met (meet table graph k) (o ∷ seen) o t (object_at graph o) no_block
       ∙ ap (met p) (sym later) in
-      value_goes walk new (vals.Ref o) t (steps.Leaf o t) is marked.blocks marked.value meets marked.order (inside, number) (marked_walk walk new o is inside unmet marked)
+      value_goes walk new (vals.Ref o) t (steps.Leaf o t) is (same_levels walk new marked.blocks marked.ends) marked.value meets marked.order (inside, number) (marked_walk walk new o is inside unmet marked)
 
-  opening_met : (k : ℕ) (seen : List ℕ) (o t tag : ℕ) (block : OpenBlock) → o < length graph → object_at graph o ≡ objects.Block tag (fields_of (object_at graph o)) → IsBegun table graph o t tag block
+  opening_met : (k : ℕ) (seen : List ℕ) (o t tag : ℕ) (outside : ℕ) (block : OpenBlock) → o < length graph → object_at graph o ≡ objects.Block tag (fields_of (object_at graph o)) → IsBegun table graph o t tag outside block
       → first_met k seen o t ≡ led_by (First o ∷ Text (frame_in block.frame).opening ∷ []) (parts_left table graph k block (o ∷ seen))
-  opening_met k seen o t tag block inside is begun =
+  opening_met k seen o t tag outside block inside is begun =
       let S = shape_in table in
       let N = names_in table in
       let frame = frame_of (S t) (N t) tag (fields_of (object_at graph o)) in
@@ -173,59 +177,65 @@ module _ (table : TypeTable) (graph : List Obj) where
       ∙ ap (P (frame_in block.frame) block.object block.next) (sym begun.needs)
 
   pub opening_goes : (walk marked new : Walk) (block : OpenBlock) (o t tag : ℕ) → IsWalk table graph walk → o < length graph → get_or walk.marks.items o false ≡ false → IsMarked walk marked o
-      → object_at graph o ≡ objects.Block tag (fields_of (object_at graph o)) → IsBegun table graph o t tag block
-      → new.value ≡ None → new.marks.items ≡ marked.marks.items → new.order ≡ marked.order → new.stack.items ≡ marked.stack.items ++ block ∷ [] → IsTrue (is_asked (shape_in table t))
-      → Goes table graph (left_of table graph walk.stack.items (Some (vals.Ref o, t)) walk.order) walk.order (steps.Opening o block.frame) new
-  opening_goes walk marked new block o t tag is inside unmet is_marked is_block begun value marks order blocks asked =
-      let k = length graph - length walk.stack.items in
+      → object_at graph o ≡ objects.Block tag (fields_of (object_at graph o)) → IsBegun table graph o t tag (length marked.ends.items) block
+      → new.value ≡ None → new.marks.items ≡ marked.marks.items → new.order ≡ marked.order → new.stack.items ≡ marked.stack.items ++ block ∷ [] → new.ends.items ≡ marked.ends.items → IsTrue (is_asked (shape_in table t))
+      → Goes table graph (left_of table graph (levels_of walk) (Some (vals.Ref o, t)) walk.order) walk.order (steps.Opening o block.frame) new
+  opening_goes walk marked new block o t tag is inside unmet is_marked is_block begun value marks order blocks ends asked =
+      let k = length graph - length (levels_of walk) in
       let seen = reverse walk.order in
       let p : List Piece = First o ∷ Text (frame_in block.frame).opening ∷ [] in
       let all : new.order ≡ walk.order ++ o ∷ [] = order ∙ is_marked.order in
       let later : reverse new.order ≡ o ∷ seen = ap reverse all ∙ reversed_more walk.order o in
       let meets : meet table graph (suc k) seen (vals.Ref o) t ≡ led_by p (parts_left table graph k block (reverse new.order)) =
-      met_unmarked k seen o t asked (sym (is.marked o) ∙ unmet) ∙ opening_met k seen o t tag block inside is_block begun ∙ ap (λ s. led_by p (parts_left table graph k block s)) (sym later) in
+      met_unmarked k seen o t asked (sym (is.marked o) ∙ unmet) ∙ opening_met k seen o t tag (length marked.ends.items) block inside is_block begun ∙ ap (λ s. led_by p (parts_left table graph k block s)) (sym later) in
       let m = marked_walk walk marked o is inside unmet is_marked in
-      let deeper : new.stack.items ≡ walk.stack.items ++ block ∷ [] = blocks ∙ ap (λ bs. bs ++ block ∷ []) is_marked.blocks in record {
-        pieces = block_left table graph walk.stack.items block (vals.Ref o) t walk.order new.order p (few_blocks walk is) meets
-            ∙ ap (λ bs. p ++ left_of table graph bs None new.order) (sym deeper)
-            ∙ ap (λ x. p ++ left_of table graph new.stack.items x new.order) (sym value);
+      let deeper : levels_of new ≡ levels_of walk ++ Open block ∷ [] =
+      ap (λ (bs : List OpenBlock). levels_from 0 bs new.ends.items) blocks ∙ ap (levels_from 0 (marked.stack.items ++ block ∷ [])) ends
+      ∙ level_opened 0 marked.stack.items block marked.ends.items begun.outside
+      ∙ ap (λ (ls : List Level). ls ++ Open block ∷ []) (same_levels walk marked is_marked.blocks is_marked.ends) in
+      let among : AreNested 0 (marked.stack.items ++ block ∷ []) (length marked.ends.items) =
+      nested_push 0 marked.stack.items block (length marked.ends.items) (length marked.ends.items) m.nested (omega (arith, begun.outside)) (omega (arith, begun.outside)) in record {
+        pieces = block_left table graph (levels_of walk) block (vals.Ref o) t walk.order new.order p (few_levels walk is) meets
+            ∙ ap (λ ls. p ++ left_of table graph ls None new.order) (sym deeper)
+            ∙ ap (λ x. p ++ left_of table graph (levels_of new) x new.order) (sym value);
         order = all;
         valid = inside;
         walk = record {
           is_graph = is.is_graph;
           value = rw value tt;
           blocks = subst (All (IsOpen table graph)) (sym blocks) (All-push (IsOpen table graph) marked.stack.items block m.blocks begun.is_open);
+          nested = subst (λ (bs : List OpenBlock). AreNested 0 bs (length new.ends.items)) (sym blocks) (subst (λ (es : List ℕ). AreNested 0 (marked.stack.items ++ block ∷ []) (length es)) (sym ends) among);
           many = ap length marks ∙ m.many;
           marked = rw (marks, order) m.marked;
           counted = ap how_many marks ∙ m.counted ∙ sym (ap length order);
           inside = subst (All (λ x. x < length graph)) (sym order) m.inside;
-          depth = omega (arith, is.depth, ap length deeper, length-append walk.stack.items (block ∷ []), ap length all, length-append walk.order (o ∷ []));
+          depth = omega (arith, is.depth, ap length deeper, length-append (levels_of walk) (Open block ∷ []), ap length all, length-append walk.order (o ∷ []));
         };
       }
 
   -- ---- where no value comes next
 
-  -- a block less
-  pub record IsClosed (walk new : Walk) (block : OpenBlock) : Type 0 where
+  -- a level less, of which only this end was left
+  pub record IsClosed (walk new : Walk) (level : Level) (end : ℕ) : Type 0 where
     pub value : new.value ≡ None
-    pub blocks : walk.stack.items ≡ new.stack.items ++ block ∷ []
+    pub levels : levels_of walk ≡ levels_of new ++ level ∷ []
+    pub is_at : IsAt table graph level end
+    pub blocks : All (IsOpen table graph) new.stack.items
+    pub nested : AreNested 0 new.stack.items (length new.ends.items)
     pub marks : new.marks.items ≡ walk.marks.items
     pub order : new.order ≡ walk.order
 
-  pub block_open : (walk : Walk) (outer : List OpenBlock) (block : OpenBlock) → IsWalk table graph walk → walk.stack.items ≡ outer ++ block ∷ [] → All (IsOpen table graph) outer × IsOpen table graph block
-  block_open walk outer block is blocks = All-pop (IsOpen table graph) walk.stack.items outer (Some block) blocks is.blocks
+  one_less : (walk : Walk) (outer : List Level) (level : Level) → IsWalk table graph walk → levels_of walk ≡ outer ++ level ∷ [] → length outer < length graph
+  one_less walk outer level is levels = omega (arith, few_levels walk is, ap length levels, length-append outer (level ∷ []))
 
-  one_less : (walk : Walk) (outer : List OpenBlock) (block : OpenBlock) → IsWalk table graph walk → walk.stack.items ≡ outer ++ block ∷ [] → length outer < length graph
-  one_less walk outer block is blocks = omega (arith, few_blocks walk is, ap length blocks, length-append outer (block ∷ []))
-
-  pub closing_goes : (walk new : Walk) (block : OpenBlock) → IsWalk table graph walk → IsClosed walk new block → length (needs_in block.needs) ≤ block.next
-      → Goes table graph (left_of table graph walk.stack.items None walk.order) walk.order (steps.Closing block.frame) new
-  closing_goes walk new block is closed past =
-      let outer = new.stack.items in
-      let p : List Piece = Text (frame_in block.frame).closing ∷ [] in
-      let less = one_less walk outer block is closed.blocks in record {
-        pieces = ap (λ bs. left_of table graph bs None walk.order) closed.blocks
-            ∙ closing_left table graph outer block walk.order (omega arith) (drop_all block.next (needs_in block.needs) past)
+  pub closing_goes : (walk new : Walk) (level : Level) (end : ℕ) → IsWalk table graph walk → IsClosed walk new level end
+      → Goes table graph (left_of table graph (levels_of walk) None walk.order) walk.order (steps.Closing end) new
+  closing_goes walk new level end is closed =
+      let outer = levels_of new in
+      let p : List Piece = Text (end_text end) ∷ [] in
+      let less = one_less walk outer level is closed.levels in record {
+        pieces = ap (λ ls. left_of table graph ls None walk.order) closed.levels
+            ∙ closing_left table graph outer level end walk.order (omega (arith, less)) closed.is_at
             ∙ ap (λ o. p ++ left_of table graph outer None o) (sym closed.order)
             ∙ ap (λ x. p ++ left_of table graph outer x new.order) (sym closed.value);
         order = closed.order ∙ sym (append-nil walk.order);
@@ -233,14 +243,50 @@ module _ (table : TypeTable) (graph : List Obj) where
         walk = record {
           is_graph = is.is_graph;
           value = rw closed.value tt;
-          blocks = (block_open walk outer block is closed.blocks).0;
+          blocks = closed.blocks;
+          nested = closed.nested;
           many = ap length closed.marks ∙ is.many;
           marked = rw (closed.marks, closed.order) is.marked;
           counted = ap how_many closed.marks ∙ is.counted ∙ sym (ap length closed.order);
           inside = subst (All (λ x. x < length graph)) (sym closed.order) is.inside;
-          depth = omega (arith, is.depth, ap length closed.blocks, length-append outer (block ∷ []), ap length closed.order);
+          depth = omega (arith, is.depth, ap length closed.levels, length-append outer (level ∷ []), ap length closed.order);
         };
       }
+
+  -- the end that is the innermost level
+  pub end_goes : (walk new : Walk) (end : ℕ) → IsWalk table graph walk → last_outside 0 walk.stack.items < length walk.ends.items → new.value ≡ None → new.stack.items ≡ walk.stack.items
+      → walk.ends.items ≡ new.ends.items ++ end ∷ [] → new.marks.items ≡ walk.marks.items → new.order ≡ walk.order
+      → Goes table graph (left_of table graph (levels_of walk) None walk.order) walk.order (steps.Closing end) new
+  end_goes walk new end is some value blocks ends marks order =
+      let both = end_level walk new end is.nested some blocks ends in
+      closing_goes walk new (Ended end) end is (record {
+        value = value;
+        levels = both.0;
+        is_at = λ n seen. refl;
+        blocks = subst (All (IsOpen table graph)) (sym blocks) is.blocks;
+        nested = both.1;
+        marks = marks;
+        order = order;
+      })
+
+  pub block_open : (walk : Walk) (outer : List OpenBlock) (block : OpenBlock) → IsWalk table graph walk → walk.stack.items ≡ outer ++ block ∷ [] → All (IsOpen table graph) outer × IsOpen table graph block
+  block_open walk outer block is blocks = All-pop (IsOpen table graph) walk.stack.items outer (Some block) blocks is.blocks
+
+  -- the end of the innermost block, of which no part is left
+  pub block_goes : (walk new : Walk) (outer : List OpenBlock) (block : OpenBlock) (end : ℕ) → IsWalk table graph walk → IsInnermost walk outer block → length (needs_in block.needs) ≤ block.next
+      → end_text end ≡ (frame_in block.frame).closing → new.value ≡ None → new.stack.items ≡ outer → new.ends.items ≡ walk.ends.items → new.marks.items ≡ walk.marks.items → new.order ≡ walk.order
+      → Goes table graph (left_of table graph (levels_of walk) None walk.order) walk.order (steps.Closing end) new
+  block_goes walk new outer block end is inner past closing value blocks ends marks order =
+      let both = closed_levels walk new outer block inner blocks ends in
+      closing_goes walk new (Open block) end is (record {
+        value = value;
+        levels = both.0;
+        is_at = no_parts table graph block end past closing;
+        blocks = subst (All (IsOpen table graph)) (sym blocks) (block_open walk outer block is inner.blocks).0;
+        nested = both.1;
+        marks = marks;
+        order = order;
+      })
 
   valid_fields : (n : ℕ) (object : Obj) → IsObject n object → All (IsValue n) (fields_of object)
   valid_fields n (objects.Block tag values) valid = valid.2
@@ -303,64 +349,65 @@ module _ (table : TypeTable) (graph : List Obj) where
   words_many block is = ap length is.words ∙ length-map (fields_of (object_at graph block.object)) (word_of graph)
 
   -- the next part of the innermost block comes next
-  pub record IsAdvanced (walk new : Walk) (outer : List OpenBlock) (block next : OpenBlock) (i t : ℕ) (v : Val) : Type 0 where
+  pub record IsAdvanced (walk new : Walk) (outer : List OpenBlock) (block : OpenBlock) (i t : ℕ) (v : Val) (end : Option ℕ) : Type 0 where
     pub value : new.value ≡ Some (v, t)
-    pub blocks : new.stack.items ≡ outer ++ next ∷ []
+    pub blocks : new.stack.items ≡ blocks_after outer (with_next block (block.next + 1)) end
+    pub ends : new.ends.items ≡ walk.ends.items ++ option_to_list end
     pub marks : new.marks.items ≡ walk.marks.items
     pub order : new.order ≡ walk.order
     pub need : slice_get (needs_in block.needs) block.next ≡ Some (i, t)
     pub part : v ≡ field_at graph block.object i
-    pub object : next.object ≡ block.object
-    pub fields : next.fields ≡ block.fields
-    pub frame : next.frame ≡ block.frame
-    pub needs : next.needs ≡ block.needs
-    pub number : next.next ≡ block.next + 1
+    pub last : IsLastEnd block end
 
-  pub still_open : (block next : OpenBlock) → IsOpen table graph block → next.object ≡ block.object → next.fields ≡ block.fields → next.needs ≡ block.needs → IsOpen table graph next
-  still_open block next is object fields needs = record {
-    inside = rw object is.inside;
-    words = rw (object, fields) is.words;
-    valid = rw fields is.valid;
-    parts = λ k i t at_k. rw object (is.parts k i t (ap (λ n. slice_get (needs_in n) k) (sym needs) ∙ at_k));
-  }
+  still_open : (block : OpenBlock) (next : ℕ) → IsOpen table graph block → IsOpen table graph (with_next block next)
+  still_open block next is = record { inside = is.inside; words = is.words; valid = is.valid; parts = is.parts }
 
-  pub part_goes : (walk new : Walk) (outer : List OpenBlock) (block next : OpenBlock) (i t : ℕ) (v : Val) → IsWalk table graph walk → walk.stack.items ≡ outer ++ block ∷ [] → IsValue (length graph) v
-      → IsAdvanced walk new outer block next i t v
-      → Goes table graph (left_of table graph walk.stack.items None walk.order) walk.order (steps.Before block.frame block.next) new
-  part_goes walk new outer block next i t v is blocks value advanced =
+  open_after : (outer : List OpenBlock) (block : OpenBlock) (next : ℕ) (end : Option ℕ) → All (IsOpen table graph) outer → IsOpen table graph block → All (IsOpen table graph) (blocks_after outer (with_next block next) end)
+  open_after outer block next None all is = All-push (IsOpen table graph) outer (with_next block next) all (still_open block next is)
+  open_after outer block next (Some end) all is = all
+
+  pub part_goes : (walk new : Walk) (outer : List OpenBlock) (block : OpenBlock) (i t : ℕ) (v : Val) (end : Option ℕ) → IsWalk table graph walk → IsInnermost walk outer block → IsValue (length graph) v
+      → IsAdvanced walk new outer block i t v end
+      → Goes table graph (left_of table graph (levels_of walk) None walk.order) walk.order (steps.Before block.frame block.next) new
+  part_goes walk new outer block i t v end is inner value advanced =
       let p : List Piece = Text (before_part (frame_in block.frame) block.next) ∷ [] in
-      let both = block_open walk outer block is blocks in
-      let part = both.1.parts block.next i t advanced.need in record {
-        pieces = ap (λ bs. left_of table graph bs None walk.order) blocks
-            ∙ before_left table graph outer block next walk.order i t v (one_less walk outer block is blocks) advanced.need (part.field ∙ ap Some (sym advanced.part)) advanced.object advanced.frame advanced.needs advanced.number
-            ∙ ap (λ bs. p ++ left_of table graph bs (Some (v, t)) walk.order) (sym advanced.blocks)
-            ∙ ap (λ o. p ++ left_of table graph new.stack.items (Some (v, t)) o) (sym advanced.order)
-            ∙ ap (λ x. p ++ left_of table graph new.stack.items x new.order) (sym advanced.value);
+      let both = block_open walk outer block is inner.blocks in
+      let part = both.1.parts block.next i t advanced.need in
+      let levels = levels_from 0 outer walk.ends.items in
+      let level = level_after (with_next block (block.next + 1)) end in
+      let passed = passed_levels walk new outer block (block.next + 1) end inner advanced.blocks advanced.ends in record {
+        pieces = ap (λ ls. left_of table graph ls None walk.order) inner.level
+            ∙ before_left table graph levels block level walk.order i t v (one_less walk levels (Open block) is inner.level) advanced.need (part.field ∙ ap Some (sym advanced.part)) (is_after table graph block end advanced.last)
+            ∙ ap (λ ls. p ++ left_of table graph ls (Some (v, t)) walk.order) (sym passed.0)
+            ∙ ap (λ o. p ++ left_of table graph (levels_of new) (Some (v, t)) o) (sym advanced.order)
+            ∙ ap (λ x. p ++ left_of table graph (levels_of new) x new.order) (sym advanced.value);
         order = advanced.order ∙ sym (append-nil walk.order);
         valid = tt;
         walk = record {
           is_graph = is.is_graph;
           value = rw advanced.value (value, subst (λ x. IsTypedAt (table_of table) graph x t) (sym advanced.part) part.typed);
-          blocks = subst (All (IsOpen table graph)) (sym advanced.blocks) (All-push (IsOpen table graph) outer next both.0 (still_open block next both.1 advanced.object advanced.fields advanced.needs));
+          blocks = subst (All (IsOpen table graph)) (sym advanced.blocks) (open_after outer block (block.next + 1) end both.0 both.1);
+          nested = passed.1;
           many = ap length advanced.marks ∙ is.many;
           marked = rw (advanced.marks, advanced.order) is.marked;
           counted = ap how_many advanced.marks ∙ is.counted ∙ sym (ap length advanced.order);
           inside = subst (All (λ x. x < length graph)) (sym advanced.order) is.inside;
-          depth = omega (arith, is.depth, ap length blocks, length-append outer (block ∷ []), ap length advanced.blocks, length-append outer (next ∷ []), ap length advanced.order);
+          depth = omega (arith, is.depth, ap length inner.level, length-append levels (Open block ∷ []), ap length passed.0, length-append levels (level ∷ []), ap length advanced.order);
         };
       }
 
   -- ---- the first step
 
-  pub first_walk : (walk : Walk) (v : Val) (t : ℕ) → walk.value ≡ Some (v, t) → walk.stack.items ≡ [] → walk.marks.items ≡ replicate (length graph) false → walk.order ≡ []
+  pub first_walk : (walk : Walk) (v : Val) (t : ℕ) → walk.value ≡ Some (v, t) → walk.stack.items ≡ [] → walk.ends.items ≡ [] → walk.marks.items ≡ replicate (length graph) false → walk.order ≡ []
       → IsGraph graph → IsValue (length graph) v → IsTypedAt (table_of table) graph v t → IsWalk table graph walk
-  first_walk walk v t value blocks marks order is_graph is_value typed = record {
+  first_walk walk v t value blocks ends marks order is_graph is_value typed = record {
     is_graph = is_graph;
     value = rw value (is_value, typed);
     blocks = subst (All (IsOpen table graph)) (sym blocks) (All-nil (IsOpen table graph));
+    nested = no_nested walk blocks;
     many = ap length marks ∙ length-replicate (length graph) false;
     marked = rw (marks, order) (no_marks (length graph));
     counted = ap how_many marks ∙ how_many_none (length graph) ∙ sym (ap length order);
     inside = subst (All (λ x. x < length graph)) (sym order) (All-nil (λ x. x < length graph));
-    depth = omega (arith, ap length blocks, ap length order);
+    depth = omega (arith, ap length (no_levels walk blocks ends), ap length order);
   }

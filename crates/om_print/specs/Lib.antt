@@ -1,4 +1,5 @@
 pub mod Labels
+pub mod Levels
 pub mod Plain
 pub mod Put
 pub mod Row

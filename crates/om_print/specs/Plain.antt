@@ -19,9 +19,9 @@ module _ (table : TypeTable) (graph : List Obj) where
     pub walk : IsWalk table graph new
 
   -- the block of an object is opened, and what stands before its parts is put
-  pub record IsOpened (o t tag : ℕ) (blocks opened : List OpenBlock) (old text : List ℕ)
+  pub record IsOpened (o t tag outside : ℕ) (blocks opened : List OpenBlock) (old text : List ℕ)
       : Type 0 where
     pub block : OpenBlock
-    pub begun : IsBegun table graph o t tag block
+    pub begun : IsBegun table graph o t tag outside block
     pub stack : opened ≡ blocks ++ block ∷ []
     pub put : text ≡ old ++ (frame_in block.frame).opening

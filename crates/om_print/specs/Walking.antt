@@ -15,6 +15,7 @@ use Rattle.om_leaves.specs.FrameView.{frame_in}
 use Rattle.om_show.specs.Pieces.{Piece, Text, First, Again, has, firsts}
 use Rattle.om_show.specs.Shown.{Met, met, led_by, met_within, parts_from}
 use Rattle.om_show.specs.Tables.{shape_in, names_in}
+use Rattle.om_print.specs.Levels.{Level, Open, Ended, end_text, levels_of, AreNested}
 use Rattle.om_print.specs.Typed.{IsTypedAt}
 use Rattle.om_print.specs.declared.block.OpenBlock.{OpenBlock}
 use Rattle.om_print.specs.declared.walk.Step.{Step}
@@ -48,12 +49,22 @@ module _ (table : TypeTable) (graph : List Obj) where
       parts_from (shape_in table) (names_in table) graph (meet n) (frame_in block.frame)
       (vals.Ref block.object) block.next (needs_left block) seen
 
-  -- the blocks that are open, the outermost first, after what is inside all of them
-  abbrev pub after_inner : ℕ → List OpenBlock → Met → Met
+  -- the same without the next part
+  abbrev pub parts_after : ℕ → OpenBlock → List ℕ → Met
+  parts_after n block seen =
+      parts_from (shape_in table) (names_in table) graph (meet n) (frame_in block.frame)
+      (vals.Ref block.object) (suc block.next) (drop (suc block.next) (needs_in block.needs)) seen
+
+  abbrev pub level_left : ℕ → Level → List ℕ → Met
+  level_left n (Open block) seen = parts_left n block seen
+  level_left n (Ended end) seen = met (Text (end_text end) ∷ []) seen
+
+  -- the levels, the outermost first, after what is inside all of them
+  abbrev pub after_inner : ℕ → List Level → Met → Met
   after_inner n [] inside = inside
-  after_inner zero (block ∷ blocks) inside = inside
-  after_inner (suc n) (block ∷ blocks) inside =
-      let m = after_inner n blocks inside in led_by m.pieces (parts_left n block m.seen)
+  after_inner zero (level ∷ levels) inside = inside
+  after_inner (suc n) (level ∷ levels) inside =
+      let m = after_inner n levels inside in led_by m.pieces (level_left n level m.seen)
 
   -- the value that comes next, if one does
   abbrev pub value_met : ℕ → Option (Val × ℕ) → List ℕ → Met
@@ -61,13 +72,13 @@ module _ (table : TypeTable) (graph : List Obj) where
   value_met n (Some next) seen = meet n seen next.0 next.1
 
   -- the pieces that are left, where these objects were met in this order
-  unfoldable pub left_of : List OpenBlock → Option (Val × ℕ) → List ℕ → List Piece
-  left_of blocks value order =
-      (after_inner (length graph + 1) blocks
-      (value_met (length graph + 1 - length blocks) value (reverse order))).pieces
+  unfoldable pub left_of : List Level → Option (Val × ℕ) → List ℕ → List Piece
+  left_of levels value order =
+      (after_inner (length graph + 1) levels
+      (value_met (length graph + 1 - length levels) value (reverse order))).pieces
 
   abbrev pub pieces_left : Walk → List Piece
-  pieces_left walk = left_of walk.stack.items walk.value walk.order
+  pieces_left walk = left_of (levels_of walk) walk.value walk.order
 
   -- ---- steps
 
@@ -80,7 +91,7 @@ module _ (table : TypeTable) (graph : List Obj) where
       First o ∷ Text (object_text (shape_in table t) (names_in table t) (object_at graph o)) ∷ []
   step_pieces (steps.Opening o frame) = First o ∷ Text (frame_in frame).opening ∷ []
   step_pieces (steps.Before frame i) = Text (before_part (frame_in frame) i) ∷ []
-  step_pieces (steps.Closing frame) = Text (frame_in frame).closing ∷ []
+  step_pieces (steps.Closing end) = Text (end_text end) ∷ []
 
   -- it names objects and types that are there, and integers at types that they fit
   abbrev pub IsStep : Step → Type 0
@@ -105,13 +116,14 @@ module _ (table : TypeTable) (graph : List Obj) where
     pub parts : (k i t : ℕ) → slice_get (needs_in block.needs) k ≡ Some (i, t)
         → IsPart block.object i t
 
-  -- the block is that of an object, before its first part
-  pub record IsBegun (o t tag : ℕ) (block : OpenBlock) : Type 0 where
+  -- the block is that of an object, before its first part, inside of these many ends
+  pub record IsBegun (o t tag many : ℕ) (block : OpenBlock) : Type 0 where
     pub object : block.object ≡ o
     pub frame : frame_in block.frame
         ≡ frame_of (shape_in table t) (names_in table t) tag (fields_of (object_at graph o))
     pub needs : needs_in block.needs ≡ or_none (needed_of graph (vals.Ref o) (shape_in table t))
     pub next : block.next ≡ 0
+    pub outside : block.outside ≡ many
     pub is_open : IsOpen block
 
   pub record IsWalk (walk : Walk) : Type 0 where
@@ -119,11 +131,12 @@ module _ (table : TypeTable) (graph : List Obj) where
     pub value : IfSome walk.value
         (λ next. IsValue (length graph) next.0 × IsTypedAt (table_of table) graph next.0 next.1)
     pub blocks : All IsOpen walk.stack.items
+    pub nested : AreNested 0 walk.stack.items (length walk.ends.items)
     pub many : length walk.marks.items ≡ length graph
     pub marked : AreMarked walk.marks.items walk.order
     pub counted : how_many walk.marks.items ≡ length walk.order
     pub inside : All (λ o. o < length graph) walk.order
-    pub depth : length walk.stack.items ≤ length walk.order
+    pub depth : length (levels_of walk) ≤ length walk.order
 
   -- a step takes its pieces from those that were left
   pub record Goes (left : List Piece) (met_before : List ℕ) (step : Step) (new : Walk)

@@ -1,13 +1,15 @@
 //! Blocks whose parts are being met.
 
-ghost use Rattle.std.specs.Prelude.{◌≡◌, ◌<◌, ◌+◌, ◌^◌, slice_get, IfSome};
+ghost use Rattle.std.specs.Prelude.{◌≡◌, ◌<◌, ◌+◌, ◌^◌, length, slice_get, IfSome};
 ghost use Rattle.om_fits.specs.Needs.{needs_in};
+ghost use Rattle.om_print.specs.Levels.{IsLastEnd};
 
+use crate::ends::end_of;
 use om_fits::Needs;
 use om_leaves::Frame;
 
-/// A block, the words of its fields, what stands around its parts, the fields that they are, and
-/// the number of the next one.
+/// A block, the words of its fields, what stands around its parts, the fields that they are, the
+/// number of the next one, and how many ends are outside of it.
 #[derive(Clone, Copy)]
 pub struct OpenBlock<'a> {
     pub object: u64,
@@ -15,6 +17,7 @@ pub struct OpenBlock<'a> {
     pub frame: Frame<'a>,
     pub needs: Needs<'a>,
     pub next: u64,
+    pub outside: usize,
 }
 
 impl OpenBlock<'_> {
@@ -29,6 +32,18 @@ impl OpenBlock<'_> {
             Needs::Listed(types) => need_at(Needs::Listed(types), self.next),
             needs => need_at(needs, self.next),
         }
+    }
+
+    /// The end of the block, if its next part is its last one.
+    #[inline(always)]
+    pub fn last_end(&self) -> Option<u8>
+        requires { self.now.next < length (needs_in self.now.needs) }
+        ensures { IsLastEnd self.now result }
+    {
+        if self.needs.len() - self.next > 1 {
+            return None;
+        }
+        Some(end_of(&self.frame))
     }
 }
 

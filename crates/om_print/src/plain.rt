@@ -1,6 +1,6 @@
 //! The text of the values that are left, as long as no object is met again.
 
-ghost use Rattle.std.specs.Prelude.{◌≡◌, ◌<◌, ◌++◌, length, Some, None, [], true, false, slice_index, slice_index_or, IfOk, IsTrue, OnOk, vec_len};
+ghost use Rattle.std.specs.Prelude.{◌≡◌, ◌<◌, ◌≤◌, ◌+◌, ◌++◌, length, Some, None, [], true, false, slice_index, slice_index_or, IfOk, IsTrue, OnOk, vec_len};
 ghost use Rattle.om_model.specs.Graph.{IsValue, IsGraph};
 ghost use Rattle.om_model.specs.declared.value.Val.TheVariants as vals;
 ghost use Rattle.om_model.specs.declared.value.Obj.TheVariants as objects;
@@ -9,11 +9,13 @@ ghost use Rattle.om_heap.specs.Heap.{object_at, fields_of, word_of};
 ghost use Rattle.om_leaves.specs.Frames.{object_text};
 ghost use Rattle.om_show.specs.Tables.{shape_in, names_in};
 ghost use Rattle.om_type_table.specs.Made.{table_of, IsLawful};
+ghost use Rattle.om_print.specs.Levels.{levels_of, last_outside};
 ghost use Rattle.om_print.specs.Typed.{IsTypedAt};
 ghost use Rattle.om_print.specs.Walking.{left_of, pieces_left, IsWalk};
 ghost use Rattle.om_print.specs.Plain.{IsPutOn, IsOpened};
 
 use crate::block::OpenBlock;
+use crate::ends::{end_of, put_end};
 use crate::walk::{Walk, open_block, value_at};
 use om_fits::is_asked;
 use om_heap::{Heap, Kind};
@@ -40,7 +42,31 @@ pub fn put_until_again<'a>(
         (λ whole. whole ≡ true → pieces_left table.now heap.now walk.new ≡ []) }
 {
     let mut fresh = put_next(text, heap, table, walk)?;
-    while fresh && !walk.stack.is_empty() {
+    while fresh && !walk.has_none() {
+        fresh = put_part(text, heap, table, walk)?;
+    }
+    Ok(fresh)
+}
+
+/// Puts some of the text of the values that are left, as long as it has fewer bytes than these, and
+/// tells whether no object was met again.
+pub fn put_some<'a>(
+    text: &mut Vec<u8>,
+    heap: &'a Heap,
+    table: &'a TypeTable,
+    walk: &mut Walk<'a>,
+    few: usize,
+) -> Result<bool, Memory>
+    requires walk { IsWalk table.now heap.now walk.old }
+    requires lawful { IsLawful (table_of table.now) }
+    requires named { length table.now.names ≡ length table.now.nodes }
+    ensures none { IfOk result (λ fresh. fresh ≡ true → walk.new.value ≡ None) }
+    ensures put { IfOk result
+        (λ _. IsPutOn table.now heap.now (pieces_left table.now heap.now walk.old) walk.old.order
+        text.old.items text.new.items walk.new) }
+{
+    let mut fresh = put_next(text, heap, table, walk)?;
+    while fresh && text.len() < few && !walk.has_none() {
         fresh = put_part(text, heap, table, walk)?;
     }
     Ok(fresh)
@@ -69,8 +95,7 @@ fn put_next<'a>(
     Ok(fresh)
 }
 
-// Puts what stands before the next part of the innermost block and what this begins with, or what
-// stands after the last.
+// Puts the end that is the innermost level, or what comes next in the innermost block.
 #[inline(always)]
 fn put_part<'a>(
     text: &mut Vec<u8>,
@@ -80,7 +105,40 @@ fn put_part<'a>(
 ) -> Result<bool, Memory>
     requires walk { IsWalk table.now heap.now walk.old }
     requires none { walk.old.value ≡ None }
+    requires inside { 0 < vec_len walk.old.stack + vec_len walk.old.ends }
+    requires lawful { IsLawful (table_of table.now) }
+    requires named { length table.now.names ≡ length table.now.nodes }
+    ensures none { IfOk result (λ fresh. fresh ≡ true → walk.new.value ≡ None) }
+    ensures fewer { IfOk result
+        (λ _. length (pieces_left table.now heap.now walk.new)
+        < length (pieces_left table.now heap.now walk.old)) }
+    ensures put { IfOk result
+        (λ _. IsPutOn table.now heap.now (pieces_left table.now heap.now walk.old) walk.old.order
+        text.old.items text.new.items walk.new) }
+{
+    if walk.has_end() {
+        let last = walk.ends.len() - 1;
+        let end = walk.ends[last];
+        walk.ends.truncate(last);
+        put_end(text, end)?;
+        return Ok(true);
+    }
+    put_in(text, heap, table, walk)
+}
+
+// Puts what stands before the next part of the innermost block and what this begins with, or what
+// stands after the last.
+#[inline(always)]
+fn put_in<'a>(
+    text: &mut Vec<u8>,
+    heap: &'a Heap,
+    table: &'a TypeTable,
+    walk: &mut Walk<'a>,
+) -> Result<bool, Memory>
+    requires walk { IsWalk table.now heap.now walk.old }
+    requires none { walk.old.value ≡ None }
     requires inside { 0 < vec_len walk.old.stack }
+    requires innermost { vec_len walk.old.ends ≤ last_outside 0 walk.old.stack.items }
     requires lawful { IsLawful (table_of table.now) }
     requires named { length table.now.names ≡ length table.now.nodes }
     ensures none { IfOk result (λ fresh. fresh ≡ true → walk.new.value ≡ None) }
@@ -94,14 +152,16 @@ fn put_part<'a>(
     let last = walk.stack.len() - 1;
     let block = &walk.stack[last];
     let Some((i, at)) = block.next_need() else {
-        block.frame.put_closing(text)?;
+        put_end(text, end_of(&block.frame))?;
         walk.stack.truncate(last);
         return Ok(true);
     };
     block.frame.put_before(text, block.next)?;
     let v = value_at(heap, block.fields, i, walk.order.next());
     let word = word_at(block.fields, i);
-    walk.stack[last].next = block.next + 1;
+    let next = block.next + 1;
+    let end = block.last_end();
+    walk.pass_part(last, next, end)?;
     let fresh = put_value(text, heap, table, walk, v, word, at)?;
     Ok(fresh)
 }
@@ -137,7 +197,7 @@ fn put_value<'a>(
     ensures none { IfOk result (λ fresh. fresh ≡ true → walk.new.value ≡ None) }
     ensures put { IfOk result
         (λ _. IsPutOn table.now heap.now
-        (left_of table.now heap.now walk.old.stack.items (Some (v, at)) walk.old.order)
+        (left_of table.now heap.now (levels_of walk.old) (Some (v, at)) walk.old.order)
         walk.old.order text.old.items text.new.items walk.new) }
 {
     if !is_asked(table.shape(at)) {
@@ -187,8 +247,7 @@ fn put_object<'a>(
     ensures none { OnOk result (walk.new.value ≡ None) }
     ensures put { OnOk result
         (IsPutOn table.now heap.now
-        (left_of table.now heap.now walk.old.stack.items (Some (vals.Ref o, at))
-        walk.old.order)
+        (left_of table.now heap.now (levels_of walk.old) (Some (vals.Ref o, at)) walk.old.order)
         walk.old.order text.old.items text.new.items walk.new) }
 {
     walk.marks[o as usize] = true;
@@ -197,7 +256,18 @@ fn put_object<'a>(
         put_leaf(text, heap, table, o, word, at)?;
         return Ok(());
     };
-    put_block(text, heap, table, &mut walk.stack, o, word, tag, at)?;
+    let outside = walk.ends.len();
+    put_block(
+        text,
+        heap,
+        table,
+        &mut walk.stack,
+        o,
+        word,
+        tag,
+        at,
+        outside,
+    )?;
     Ok(())
 }
 
@@ -235,6 +305,7 @@ fn put_block<'a>(
     word: u64,
     tag: u8,
     at: usize,
+    outside: usize,
 ) -> Result<(), Memory>
     requires graph { IsGraph heap.now }
     requires block { object_at heap.now o ≡ objects.Block tag (fields_of (object_at heap.now o)) }
@@ -244,10 +315,10 @@ fn put_block<'a>(
     requires lawful { IsLawful (table_of table.now) }
     requires named { length table.now.names ≡ length table.now.nodes }
     ensures { OnOk result
-        (IsOpened table.now heap.now o at tag stack.old.items stack.new.items text.old.items
-        text.new.items) }
+        (IsOpened table.now heap.now o at tag outside stack.old.items stack.new.items
+        text.old.items text.new.items) }
 {
-    let block = open_block(heap, table, o, word, tag, at);
+    let block = open_block(heap, table, o, word, tag, at, outside);
     block.frame.put_opening(text)?;
     stack.push(block)?;
     Ok(())

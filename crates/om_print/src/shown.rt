@@ -13,6 +13,7 @@ ghost use Rattle.om_print.specs.Labels.{AreLabels};
 ghost use Rattle.om_print.specs.Put.{IsPut};
 ghost use Rattle.om_print.specs.Walking.{IsStep, step_pieces};
 
+use crate::ends::put_end;
 use crate::labels::{Labels, mark_again, objects_again, put_label};
 use crate::plain::{put_leaf, put_until_again};
 use crate::walk::{Step, Walk};
@@ -173,6 +174,6 @@ fn put_plain(
         Step::Leaf(o, at) => put_leaf(text, heap, table, o, heap.word(Val::Ref(o)), at),
         Step::Opening(_, frame) => frame.put_opening(text),
         Step::Before(frame, i) => frame.put_before(text, i),
-        Step::Closing(frame) => frame.put_closing(text),
+        Step::Closing(end) => put_end(text, end),
     }
 }

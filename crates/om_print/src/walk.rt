@@ -1,6 +1,6 @@
 //! The pieces of a value at a type, depth first and parts from left to right.
 
-ghost use Rattle.std.specs.Prelude.{◌≡◌, ◌<◌, option_map, length, Some, None, All, IfOk, IsTrue, [], false, slice_index, slice_index_or};
+ghost use Rattle.std.specs.Prelude.{◌≡◌, ◌<◌, ◌≤◌, ◌+◌, option_map, length, Some, None, All, IfOk, OnOk, IsTrue, [], true, false, slice_index, slice_index_or, vec_len};
 ghost use Rattle.om_model.specs.Graph.{IsValue, IsGraph};
 ghost use Rattle.om_model.specs.declared.value.Val.TheVariants as vals;
 ghost use Rattle.om_model.specs.declared.value.Obj.TheVariants as objects;
@@ -11,10 +11,12 @@ ghost use Rattle.om_leaves.specs.Frames.{frame_of};
 ghost use Rattle.om_leaves.specs.FrameView.{frame_in};
 ghost use Rattle.om_show.specs.Tables.{shape_in, names_in};
 ghost use Rattle.om_type_table.specs.Made.{table_of, IsLawful};
+ghost use Rattle.om_print.specs.Levels.{levels_of, last_outside, IsPassed};
 ghost use Rattle.om_print.specs.Typed.{IsTypedAt};
 ghost use Rattle.om_print.specs.Walking.{left_of, pieces_left, IsOpen, IsWalk, Goes, Gives};
 
 use crate::block::OpenBlock;
+use crate::ends::end_of;
 use crate::order::Order;
 use om_fits::{Needs, is_asked, known_needs};
 use om_heap::{Heap, Kind};
@@ -41,17 +43,20 @@ pub enum Step<'a> {
     Opening(u64, Frame<'a>),
     /// What stands before this part.
     Before(Frame<'a>, u64),
-    /// What stands after the parts.
-    Closing(Frame<'a>),
+    /// What stands after the parts, told by its end.
+    Closing(u8),
 }
 
-/// A place among the pieces of a value.
+/// A place among the pieces of a value. Of a block whose last part has begun only the end is kept,
+/// which is all that a long list takes.
 #[derive(Drop)]
 pub struct Walk<'a> {
     // the value that comes next and the number of its type, where a value does
     pub value: Option<(Val, usize)>,
-    // the blocks that are open, the innermost last
+    // the blocks of which parts are left, the innermost last
     pub stack: Vec<OpenBlock<'a>>,
+    // the ends of the others that are open, the innermost last
+    pub ends: Vec<u8>,
     // which objects were met, by their numbers, and in which order
     pub marks: Vec<bool>,
     pub order: Order,
@@ -71,11 +76,13 @@ impl<'a> Walk<'a> {
         ensures walk { IfOk result (IsWalk table.now heap.now) }
         ensures value { IfOk result (λ walk. walk.value ≡ Some (v, at)) }
         ensures blocks { IfOk result (λ walk. walk.stack.items ≡ []) }
+        ensures ends { IfOk result (λ walk. walk.ends.items ≡ []) }
         ensures order { IfOk result (λ walk. walk.order ≡ []) }
     {
         Ok(Walk {
             value: Some((v, at)),
             stack: Vec::new(alloc),
+            ends: Vec::new(alloc),
             marks: vec![in alloc; false; heap.count() as usize]?,
             order: Order::new(alloc, first_object(v)),
         })
@@ -92,7 +99,7 @@ impl<'a> Walk<'a> {
             self.new) }
     {
         let Some((v, at)) = self.value else {
-            return Ok(self.go_on(heap, table));
+            return self.go_on(heap, table);
         };
         self.value = None;
         Ok(Some(self.meet(heap, table, v, at)?))
@@ -116,7 +123,7 @@ impl<'a> Walk<'a> {
         ensures none { IfOk result (λ _. self.new.value ≡ None) }
         ensures goes { IfOk result
             (λ step. Goes table.now heap.now
-            (left_of table.now heap.now self.old.stack.items (Some (v, at)) self.old.order)
+            (left_of table.now heap.now (levels_of self.old) (Some (v, at)) self.old.order)
             self.old.order step self.new) }
     {
         if !is_asked(table.shape(at)) {
@@ -150,8 +157,7 @@ impl<'a> Walk<'a> {
         ensures none { IfOk result (λ _. self.new.value ≡ None) }
         ensures goes { IfOk result
             (λ step. Goes table.now heap.now
-            (left_of table.now heap.now self.old.stack.items (Some (vals.Ref o, at))
-            self.old.order)
+            (left_of table.now heap.now (levels_of self.old) (Some (vals.Ref o, at)) self.old.order)
             self.old.order step self.new) }
     {
         self.marks[o as usize] = true;
@@ -159,34 +165,108 @@ impl<'a> Walk<'a> {
         let Kind::Block(tag, _) = heap.kind(o) else {
             return Ok(Step::Leaf(o, at));
         };
-        let block = open_block(heap, table, o, heap.word(Val::Ref(o)), tag, at);
+        let word = heap.word(Val::Ref(o));
+        let block = open_block(heap, table, o, word, tag, at, self.ends.len());
         self.stack.push(block)?;
         Ok(Step::Opening(o, block.frame))
     }
 
-    // The step where no value comes next: before the next part of the innermost block, or after its
-    // last one.
+    // The step where no value comes next: after the last part of the innermost level, or in it.
     #[inline(always)]
-    pub fn go_on(&mut self, heap: &Heap, table: &TypeTable) -> Option<Step<'a>>
+    pub fn go_on(&mut self, heap: &Heap, table: &TypeTable) -> Result<Option<Step<'a>>, Memory>
         requires walk { IsWalk table.now heap.now self.old }
         requires none { self.old.value ≡ None }
-        ensures { Gives table.now heap.now
-            (left_of table.now heap.now self.old.stack.items None self.old.order) self.old.order
-            self.new result }
+        ensures { IfOk result
+            (Gives table.now heap.now
+            (left_of table.now heap.now (levels_of self.old) None self.old.order)
+            self.old.order self.new) }
     {
-        if self.stack.is_empty() {
-            return None;
+        if self.has_end() {
+            let last = self.ends.len() - 1;
+            let end = self.ends[last];
+            self.ends.truncate(last);
+            return Ok(Some(Step::Closing(end)));
         }
+        if self.stack.is_empty() {
+            return Ok(None);
+        }
+        Ok(Some(self.go_in(heap, table)?))
+    }
+
+    // The step in the innermost block: before its next part, or after its last one.
+    #[inline(always)]
+    fn go_in(&mut self, heap: &Heap, table: &TypeTable) -> Result<Step<'a>, Memory>
+        requires walk { IsWalk table.now heap.now self.old }
+        requires none { self.old.value ≡ None }
+        requires inside { 0 < vec_len self.old.stack }
+        requires innermost { vec_len self.old.ends ≤ last_outside 0 self.old.stack.items }
+        ensures { IfOk result
+            (λ step. Goes table.now heap.now
+            (left_of table.now heap.now (levels_of self.old) None self.old.order)
+            self.old.order step self.new) }
+    {
         let last = self.stack.len() - 1;
         let block = self.stack[last];
         if block.next >= block.needs.len() {
             self.stack.truncate(last);
-            return Some(Step::Closing(block.frame));
+            return Ok(Step::Closing(end_of(&block.frame)));
         }
         let (i, at) = block.needs.get(block.next);
-        self.value = Some((value_at(heap, block.fields, i, self.order.next()), at));
-        self.stack[last].next = block.next + 1;
-        Some(Step::Before(block.frame, block.next))
+        let v = value_at(heap, block.fields, i, self.order.next());
+        let next = block.next + 1;
+        let end = block.last_end();
+        self.pass_part(last, next, end)?;
+        self.value = Some((v, at));
+        Ok(Step::Before(block.frame, block.next))
+    }
+
+    // How many ends are outside of the innermost block.
+    #[inline(always)]
+    fn outside(&self) -> usize
+        ensures { result ≡ last_outside 0 self.now.stack.items }
+    {
+        if self.stack.is_empty() {
+            return 0;
+        }
+        self.stack[self.stack.len() - 1].outside
+    }
+
+    /// Whether the innermost level is an end.
+    #[inline(always)]
+    pub fn has_end(&self) -> bool
+        ensures some { result ≡ true → last_outside 0 self.now.stack.items < vec_len self.now.ends }
+        ensures none { result ≡ false
+            → vec_len self.now.ends ≤ last_outside 0 self.now.stack.items }
+    {
+        self.outside() < self.ends.len()
+    }
+
+    /// Whether no level is left.
+    #[inline(always)]
+    pub fn has_none(&self) -> bool
+        ensures none { result ≡ true → self.now.stack.items ≡ [] }
+        ensures no_end { result ≡ true → self.now.ends.items ≡ [] }
+        ensures some { result ≡ false → 0 < vec_len self.now.stack + vec_len self.now.ends }
+    {
+        self.stack.is_empty() && self.ends.is_empty()
+    }
+
+    /// Goes past a part of the innermost block, which is the last one where there is an end.
+    #[inline(always)]
+    pub fn pass_part(&mut self, last: usize, next: u64, end: Option<u8>) -> Result<(), Memory>
+        requires { last + 1 ≡ vec_len self.old.stack }
+        ensures { OnOk result (IsPassed self.old self.new next end) }
+    {
+        match end {
+            Some(end) => {
+                self.ends.push(end)?;
+                self.stack.truncate(last);
+            }
+            None => {
+                self.stack[last].next = next;
+            }
+        }
+        Ok(())
     }
 }
 
@@ -214,7 +294,7 @@ pub fn value_at(heap: &Heap, fields: &[u64], i: u64, near: u64) -> Val
     heap.value_of(word)
 }
 
-// A block before its first part.
+// A block before its first part, inside of so many ends.
 #[inline(always)]
 pub fn open_block<'a>(
     heap: &'a Heap,
@@ -223,6 +303,7 @@ pub fn open_block<'a>(
     word: u64,
     tag: u8,
     at: usize,
+    outside: usize,
 ) -> OpenBlock<'a>
     requires graph { IsGraph heap.now }
     requires block { object_at heap.now o ≡ objects.Block tag (fields_of (object_at heap.now o)) }
@@ -238,6 +319,7 @@ pub fn open_block<'a>(
     ensures needs { needs_in result.needs
         ≡ or_none (needed_of heap.now (vals.Ref o) (shape_in table.now at)) }
     ensures next { result.next ≡ 0 }
+    ensures outside { result.outside ≡ outside }
     ensures open { IsOpen table.now heap.now result }
 {
     let shape = table.shape(at);
@@ -247,6 +329,7 @@ pub fn open_block<'a>(
         frame: block_frame(heap, o, tag, shape, table.names(at)),
         needs: needs_or_none(known_needs(heap, o, shape)),
         next: 0,
+        outside,
     }
 }
 

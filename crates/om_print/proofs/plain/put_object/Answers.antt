@@ -1,10 +1,12 @@
-use Rattle.std.proofs.Common.{◌∙◌, ap, sym, refl, length, true}
+use Rattle.std.proofs.Common.{◌≡◌, ◌∙◌, ap, sym, subst, refl, length, true, arith, rules}
+use Rattle.std.proofs.lemmas.Grind.{common_steps}
 use Rattle.std.specs.Vec.{with_item}
 use Rattle.om_heap.specs.declared.kind.Kind.TheVariants as kinds
 use Rattle.om_heap.specs.Heap.{kind_of, object_at}
 use Rattle.om_leaves.specs.FrameView.{frame_in}
 use Rattle.om_leaves.proofs.ObjectLemmas.{of_kind}
 use Rattle.om_print.specs.declared.walk.Step.TheVariants as steps
+use Rattle.om_print.specs.Walking.{IsBegun}
 use Rattle.om_print.proofs.WalkLemmas.{leaf_goes, opening_goes}
 use Rattle.om_print.proofs.PlainLemmas.{one_text, put_goes}
 use Rattle.om_print.proofs.plain.put_object.Goals as goal
@@ -17,7 +19,7 @@ returns-in_default c =
       none = c.requires.none;
       put = put_goes table graph _ c.args.walk.now.order c.args.text.now.items c.put_leaf.new.text.items (steps.Leaf c.args.o c.args.at) _
           (leaf_goes table graph c.args.walk.now _ c.args.o c.args.at c.requires.walk c.requires.inside c.requires.typed.number c.requires.unmet
-          (record { value = c.requires.none; blocks = refl; marks = refl; order = c.in_ok-push.ensures })
+          (record { value = c.requires.none; blocks = refl; ends = refl; marks = refl; order = c.in_ok-push.ensures })
           (λ tag values is. c.in_default.not-Block tag (length values) (c.kind_at.ensures c.args.o c.requires.inside c.requires.word ∙ ap kind_of is)) c.requires.asked)
           refl
           (one_text c.args.text.now.items c.put_leaf.new.text.items _ c.in_ok-put_leaf.ensures);
@@ -29,11 +31,13 @@ returns-clause-put c =
     let graph = c.args.heap.now in
     let walk = c.args.walk.now in
     let opened = c.in_ok-put_block.ensures in
+    let outside : c.len-outside.result ≡ length walk.ends.items = first_of (search rules, grind (arith, common_steps)) in
+    let begun = subst (λ n. IsBegun table graph c.args.o c.args.at c.in-Block.tag n opened.block) outside opened.begun in
     let of = of_kind (kinds.Block c.in-Block.tag c.in-Block.field-1) (object_at graph c.args.o) (sym c.in-Block.is ∙ c.kind_at.ensures c.args.o c.requires.inside c.requires.word) in
     put_goes table graph _ walk.order c.args.text.now.items c.put_block.new.text.items (steps.Opening c.args.o opened.block.frame) _
-    (opening_goes table graph walk (record { value = walk.value; stack = walk.stack; marks = with_item walk.marks c.args.o true; order = c.push.new.self })
+    (opening_goes table graph walk (record { value = walk.value; stack = walk.stack; ends = walk.ends; marks = with_item walk.marks c.args.o true; order = c.push.new.self })
     _ opened.block c.args.o c.args.at c.in-Block.tag c.requires.walk c.requires.inside c.requires.unmet
-    (record { value = c.requires.none; blocks = refl; marks = refl; order = c.in_ok-push.ensures })
-    of.0 opened.begun c.requires.none refl refl opened.stack c.requires.asked)
+    (record { value = c.requires.none; blocks = refl; ends = refl; marks = refl; order = c.in_ok-push.ensures })
+    of.0 begun c.requires.none refl refl opened.stack refl c.requires.asked)
     refl
     (one_text c.args.text.now.items c.put_block.new.text.items (frame_in opened.block.frame).opening opened.put)

@@ -1,8 +1,10 @@
-use Rattle.std.proofs.Common.{◌≡◌, ◌∙◌, [], sym, arith, rules}
+use Rattle.std.proofs.Common.{◌≡◌, ◌∙◌, true, sym, arith, rules}
 use Rattle.std.proofs.lemmas.Grind.{common_steps}
+use Rattle.om_print.specs.Levels.{levels_of}
 use Rattle.om_print.specs.Walking.{pieces_left}
 use Rattle.om_print.proofs.LabelLemmas.{none_next}
 use Rattle.om_print.proofs.LeftLemmas.{none_left}
+use Rattle.om_print.proofs.LevelLemmas.{no_levels}
 use Rattle.om_print.proofs.PlainLemmas.{put_then}
 use Rattle.om_print.proofs.plain.put_until_again.Goals as goal
 
@@ -13,8 +15,9 @@ loop-fresh-preserved c = (
   c.in_ok-fresh-2.ensures.none,
 )
 
-pub returns-else-not-is_empty-clause-all : goal.returns-else-not-is_empty-clause-all
-returns-else-not-is_empty-clause-all c fresh =
+pub returns-else-not-has_none-clause-all : goal.returns-else-not-has_none-clause-all
+returns-else-not-has_none-clause-all c fresh =
     let walk = c.loop-fresh.walk in
-    let nothing : walk.stack.items ≡ [] = first_of (search rules, grind (arith, common_steps)) in
-    sym (none_next c.args.table.now c.args.heap.now walk (c.loop-fresh.invariant.1 fresh)) ∙ none_left c.args.table.now c.args.heap.now walk.stack.items walk.order nothing
+    let done : c.has_none.result ≡ true = first_of (search rules, grind (arith, common_steps)) in
+    let nothing = no_levels walk (c.has_none.ensures.none done) (c.has_none.ensures.no_end done) in
+    sym (none_next c.args.table.now c.args.heap.now walk (c.loop-fresh.invariant.1 fresh)) ∙ none_left c.args.table.now c.args.heap.now (levels_of walk) walk.order nothing

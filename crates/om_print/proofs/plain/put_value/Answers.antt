@@ -1,6 +1,7 @@
-use Rattle.std.proofs.Common.{false, ◌≡◌, ◌∙◌, ◌++◌, ap, sym, subst, refl, arith, rules}
+use Rattle.std.proofs.Common.{false, ◌≡◌, ◌∙◌, ◌++◌, Some, length, ap, sym, subst, refl, arith, rules}
 use Rattle.std.proofs.lemmas.Grind.{common_steps}
 use Rattle.om_types.specs.Fitting.{is_asked}
+use Rattle.om_model.specs.declared.value.Val.TheVariants as vals
 use Rattle.om_model.specs.Graph.{IsValue}
 use Rattle.om_print.proofs.TypedLemmas.{integer_kept}
 use Rattle.std.specs.Prelude.{IsTrue, codes, unwrap_or}
@@ -8,9 +9,15 @@ use Rattle.om_types.specs.Names.{no_names}
 use Rattle.om_types.specs.Table.{node_or_none}
 use Rattle.om_leaves.specs.Frames.{int_text}
 use Rattle.om_show.specs.Tables.{shape_in, names_in}
+use Rattle.om_type_table.specs.Made.{table_of}
 use Rattle.om_print.specs.declared.walk.Step.TheVariants as steps
+use Rattle.om_print.specs.declared.walk.Walk.{Walk}
+use Rattle.om_print.specs.Levels.{levels_of}
+use Rattle.om_print.specs.Plain.{IsPutOn}
+use Rattle.om_print.specs.Typed.{IsTypedAt}
+use Rattle.om_print.specs.Walking.{left_of}
 use Rattle.om_print.proofs.WalkLemmas.{integer_goes, atom_goes, hidden_goes}
-use Rattle.om_print.proofs.PlainLemmas.{one_text, put_goes}
+use Rattle.om_print.proofs.PlainLemmas.{one_text, put_goes, put_none, same_walk}
 use Rattle.om_print.proofs.plain.put_value.Goals as goal
 
 pub returns-in_ok-put_int_at-in-Int-clause-put : goal.returns-in_ok-put_int_at-in-Int-clause-put
@@ -43,3 +50,16 @@ returns-then-not-is_asked-clause-put c =
     (hidden_goes c.args.table.now c.args.heap.now c.args.walk.now c.args.v c.args.at c.requires.walk c.requires.none hidden)
     refl
     (one_text c.args.text.now.items c.put_few.new.text.items (codes "_") c.in_ok-put_few.ensures)
+
+pub returns-then-index-clause-put : goal.returns-then-index-clause-put
+returns-then-index-clause-put c =
+    let table = c.args.table.now in
+    let graph = c.args.heap.now in
+    let walk = c.args.walk.now in
+    let text = c.args.text.now.items in
+    let at = c.args.at in
+    let waiting : Walk = record { value = Some (vals.Ref c.in-Ref.o, at); stack = walk.stack; ends = walk.ends; marks = walk.marks; order = walk.order } in
+    let is = same_walk table graph walk waiting c.requires.walk (record { blocks = refl; ends = refl; marks = refl; order = refl })
+    (subst (IsValue (length graph)) c.in-Ref.is c.requires.value, subst (λ v. IsTypedAt (table_of table) graph v at) c.in-Ref.is c.requires.typed) in
+    subst (λ v. IsPutOn table graph (left_of table graph (levels_of walk) (Some (v, at)) walk.order) walk.order text text waiting) (sym c.in-Ref.is)
+    (put_none table graph waiting text is)

@@ -21,7 +21,7 @@ returns-then-branch-clause-text c =
     let all = left_of table graph [] (Some (c.args.v, c.args.at)) [] in
     let pieces = pieces_of (shape_in table) (names_in table) graph c.args.v c.args.at in
     whole_put table graph walk c.put_until_again.new.walk c.args.text.now.items c.put_until_again.new.text.items all pieces (start_left table graph c.args.v c.args.at)
-    (first_left table graph walk c.args.v c.args.at c.in_ok-walk.ensures.value c.in_ok-walk.ensures.blocks c.in_ok-walk.ensures.order)
+    (first_left table graph walk c.args.v c.args.at c.in_ok-walk.ensures.value c.in_ok-walk.ensures.blocks c.in_ok-walk.ensures.ends c.in_ok-walk.ensures.order)
     (c.in_ok-put_until_again.ensures.all c.if-branch.true) c.in_ok-put_until_again.ensures.put
 
 pub loop-again-init : goal.loop-again-init
@@ -29,7 +29,7 @@ loop-again-init c =
     let graph = c.args.heap.now in
     let marks : c.in_ok-again.again.items ≡ replicate (length graph) false = first_of (search rules, grind (arith, common_steps)) in
     counted_put c.args.table.now graph c.in_ok-walk.walk c.put_until_again.new.walk c.args.v c.args.at c.in_ok-again.again.items c.args.text.now.items c.put_until_again.new.text.items
-    c.in_ok-walk.ensures.value c.in_ok-walk.ensures.blocks c.in_ok-walk.ensures.order marks c.in_ok-put_until_again.ensures.put
+    c.in_ok-walk.ensures.value c.in_ok-walk.ensures.blocks c.in_ok-walk.ensures.ends c.in_ok-walk.ensures.order marks c.in_ok-put_until_again.ensures.put
 
 pub loop-again-preserved : goal.loop-again-preserved
 loop-again-preserved c =

@@ -1,70 +1,31 @@
-use Rattle.std.proofs.Common.{◌≡◌, ◌++◌, ◌∷◌, ◌-◌, ◌∙◌, [], suc, length, take, refl, sym, ap, arith, rules}
+use Rattle.std.proofs.Common.{◌≡◌, ◌++◌, ◌∷◌, ◌-◌, ◌<◌, ◌∙◌, [], suc, length, take, refl, sym, ap, arith, rules}
 use Rattle.std.proofs.lemmas.Grind.{common_steps}
-use Rattle.std.proofs.lemmas.List.{get_or_read}
-use Rattle.om_print.specs.declared.block.OpenBlock.{OpenBlock}
+use Rattle.std.proofs.lemmas.List.{nil_from_length}
+use Rattle.om_print.specs.Levels.{levels_of, last_outside}
 use Rattle.om_print.proofs.LeftLemmas.{none_left}
-use Rattle.om_print.proofs.MarkLemmas.{last_split, last_set}
-use Rattle.om_print.proofs.WalkLemmas.{block_open, closing_goes, part_goes, word_is_field, words_many}
+use Rattle.om_print.proofs.LevelLemmas.{no_levels}
+use Rattle.om_print.proofs.MarkLemmas.{last_split}
+use Rattle.om_print.proofs.WalkLemmas.{end_goes}
 use Rattle.om_print.proofs.walk.Walk.go_on.Goals as goal
+
+pub returns-then-has_end : goal.returns-then-has_end
+returns-then-has_end c =
+    let walk = c.args.self.now in
+    let items = walk.ends.items in
+    let last = c.len-last.result - 1 in
+    let end = c.index-end.result.now in
+    let many : length items ≡ suc last = first_of (omega arith, search rules, grind (arith, common_steps)) in
+    let split : items ≡ take last items ++ end ∷ [] = last_split items last end many ∙ ap (λ e. take last items ++ e ∷ []) (sym c.index-end.ensures) in
+    let within = c.has_end.ensures.some c.if-has_end.true in
+    let some : last_outside 0 walk.stack.items < length items = first_of (omega (arith, within), grind (arith, common_steps, within)) in
+    end_goes c.args.table.now c.args.heap.now walk _ end c.requires.walk some c.requires.none refl
+    (split ∙ ap (λ es. es ++ end ∷ []) (sym c.truncate.ensures.items)) refl refl
 
 pub returns-then-is_empty : goal.returns-then-is_empty
 returns-then-is_empty c =
-    let nothing : c.args.self.now.stack.items ≡ [] = first_of (search rules, grind (arith, common_steps)) in
-    (none_left c.args.table.now c.args.heap.now c.args.self.now.stack.items c.args.self.now.order nothing, refl)
-
-pub returns-then-block-len : goal.returns-then-block-len
-returns-then-block-len c =
-    let items = c.args.self.now.stack.items in
-    let last = c.len-last.result - 1 in
-    let block = c.index.result.now in
-    let many : length items ≡ suc last = first_of (omega arith, search rules, grind (arith, common_steps)) in
-    let split : items ≡ take last items ++ block ∷ [] = last_split items last block many ∙ ap (λ b. take last items ++ b ∷ []) (sym c.index.ensures) in
-    closing_goes c.args.table.now c.args.heap.now c.args.self.now _ block c.requires.walk
-    (record { value = c.requires.none; blocks = split ∙ ap (λ bs. bs ++ block ∷ []) (sym c.truncate.ensures.items); marks = refl; order = refl })
-    (omega arith)
-
-pub value_at-requires-clause-valid : goal.value_at-requires-clause-valid
-value_at-requires-clause-valid c =
-    let items = c.args.self.now.stack.items in
-    let last = c.len-last.result - 1 in
-    let block = c.index.result.now in
-    let many : length items ≡ suc last = first_of (omega arith, search rules, grind (arith, common_steps)) in
-    let split : items ≡ take last items ++ block ∷ [] = last_split items last block many ∙ ap (λ b. take last items ++ b ∷ []) (sym c.index.ensures) in
-    let both = block_open c.args.table.now c.args.heap.now c.args.self.now (take last items) block c.requires.walk split in
-    both.1.valid
-
-pub value_at-requires-clause-inside : goal.value_at-requires-clause-inside
-value_at-requires-clause-inside c =
-    let items = c.args.self.now.stack.items in
-    let last = c.len-last.result - 1 in
-    let block = c.index.result.now in
-    let many : length items ≡ suc last = first_of (omega arith, search rules, grind (arith, common_steps)) in
-    let split : items ≡ take last items ++ block ∷ [] = last_split items last block many ∙ ap (λ b. take last items ++ b ∷ []) (sym c.index.ensures) in
-    let both = block_open c.args.table.now c.args.heap.now c.args.self.now (take last items) block c.requires.walk split in
-    omega (arith, words_many c.args.table.now c.args.heap.now block both.1, (both.1.parts block.next c.get-i.result.0 c.get-i.result.1 c.get-i.ensures).there)
-
-pub returns : goal.returns
-returns c =
-    let items = c.args.self.now.stack.items in
-    let last = c.len-last.result - 1 in
-    let block = c.index.result.now in
-    let many : length items ≡ suc last = first_of (omega arith, search rules, grind (arith, common_steps)) in
-    let split : items ≡ take last items ++ block ∷ [] = last_split items last block many ∙ ap (λ b. take last items ++ b ∷ []) (sym c.index.ensures) in
-    let same : c.index_mut.result.now ≡ block = get_or_read items last c.index_mut.result.now (omega arith) c.index_mut.ensures.value block ∙ sym c.index.ensures in
-    let both = block_open c.args.table.now c.args.heap.now c.args.self.now (take last items) block c.requires.walk split in
-    part_goes c.args.table.now c.args.heap.now c.args.self.now _ (take last items) block _ c.get-i.result.0 c.get-i.result.1 c.value_at.result c.requires.walk split
-    c.value_at.ensures.valid
-    (record {
-      value = refl;
-      blocks = last_set items last _ many;
-      marks = refl;
-      order = refl;
-      need = c.get-i.ensures;
-      part = word_is_field c.args.table.now c.args.heap.now block c.get-i.result.0 c.value_at.result c.requires.walk.is_graph both.1
-          (both.1.parts block.next c.get-i.result.0 c.get-i.result.1 c.get-i.ensures).there c.value_at.ensures.valid c.value_at.ensures.word;
-      object = ap (λ (b : OpenBlock). b.object) same;
-      fields = ap (λ (b : OpenBlock). b.fields) same;
-      frame = ap (λ (b : OpenBlock). b.frame) same;
-      needs = ap (λ (b : OpenBlock). b.needs) same;
-      number = refl;
-    })
+    let walk = c.args.self.now in
+    let nothing : walk.stack.items ≡ [] = first_of (search rules, grind (arith, common_steps)) in
+    let outside : last_outside 0 walk.stack.items ≡ 0 = ap (last_outside 0) nothing in
+    let within = c.has_end.ensures.none c.if-has_end.false in
+    let short : length walk.ends.items ≡ 0 = first_of (omega (arith, outside, within), grind (arith, common_steps, outside, within)) in
+    (none_left c.args.table.now c.args.heap.now (levels_of walk) walk.order (no_levels walk nothing (nil_from_length walk.ends.items short)), refl)

@@ -1,0 +1,42 @@
+//! What stands after parts, told by one byte, which is `]` where they are those of an array.
+
+ghost use Rattle.std.specs.Prelude.{ℕ, List as Seq, ◌≡◌, ◌++◌, OnOk};
+ghost use Rattle.om_leaves.specs.Frames.{named_frame};
+ghost use Rattle.om_leaves.specs.FrameView.{frame_in};
+ghost use Rattle.om_print.specs.Levels.{end_text};
+
+use om_leaves::{Frame, put_few};
+use om_model::Memory;
+use om_model::list::List;
+
+/// What stands after the parts.
+#[inline(always)]
+pub fn end_of(frame: &Frame<'_>) -> u8
+    ensures { end_text result ≡ (frame_in frame.now).closing }
+{
+    match *frame {
+        Frame::Constructor(names) => end_of_fields(names.fields.as_slice()),
+        Frame::Fields(fields) => end_of_fields(fields),
+        Frame::Tagged(_) => b')',
+        Frame::Array => b']',
+    }
+}
+
+// What stands after fields of these names.
+#[inline(always)]
+fn end_of_fields(fields: &[List<u8>]) -> u8
+    ensures { (name : Seq ℕ) → end_text result ≡ (named_frame name fields.now).closing }
+{
+    if fields.is_empty() { b')' } else { b'}' }
+}
+
+/// Puts what stands after parts.
+#[inline(always)]
+pub fn put_end(text: &mut Vec<u8>, end: u8) -> Result<(), Memory>
+    ensures { OnOk result (text.new.items ≡ text.old.items ++ end_text end) }
+{
+    if end == b']' {
+        return put_few(text, b"|]");
+    }
+    Ok(text.push(end)?)
+}

@@ -1,0 +1,71 @@
+//! Whether a text is that of a value. The value's own text is put a few bytes at a time, and each
+//! time compared with what is left.
+
+ghost use Rattle.std.specs.Prelude.{◌≡◌, ◌<◌, ◌++◌, length, IfOk, IfSome, IsTrue};
+ghost use Rattle.om_model.specs.Graph.{IsValue};
+ghost use Rattle.om_types.specs.Table.{table_shapes};
+ghost use Rattle.om_types.specs.Typing.{HasType};
+ghost use Rattle.om_type_table.specs.Made.{table_of, IsLawful};
+ghost use Rattle.om_show.specs.Shown.{shown_text};
+ghost use Rattle.om_show.specs.Tables.{shape_in, names_in};
+
+use crate::plain::put_some;
+use crate::walk::Walk;
+use om_heap::Heap;
+use om_model::Memory;
+use om_model::value::Val;
+use om_type_table::TypeTable;
+use std::alloc::Global;
+
+/// How many bytes are put at a time, or some more.
+const FEW: usize = 4096;
+
+// What follows this front, if the text begins with it.
+fn after<'t>(text: &'t [u8], front: &[u8]) -> Option<&'t [u8]>
+    ensures { IfSome result (λ rest. text.now ≡ front.now ++ rest.now) }
+{
+    if text.starts_with(front) {
+        Some(&text[front.len()..])
+    } else {
+        None
+    }
+}
+
+/// Whether the text of a value at a type of the table is this one. Where an object has a label the
+/// answer is no, whatever the text.
+pub fn is_shown(
+    alloc: Global,
+    heap: &Heap,
+    v: Val,
+    table: &TypeTable,
+    at: usize,
+    text: &[u8],
+) -> Result<bool, Memory>
+    requires value { IsValue (length heap.now) v }
+    requires lawful { IsLawful (table_of table.now) }
+    requires named { length table.now.names ≡ length table.now.nodes }
+    requires number { at < length table.now.nodes }
+    requires typed { HasType (table_shapes (table_of table.now)) heap.now v at }
+    ensures { IfOk result
+        (λ same. IsTrue same
+        → shown_text (shape_in table.now) (names_in table.now) heap.now v at ≡ text.now) }
+{
+    let mut walk = Walk::new(alloc, heap, v, table, at)?;
+    let mut few = Vec::new(alloc);
+    let mut rest = text;
+    'piece: for _ in 0..text.len() {
+        let fresh = put_some(&mut few, heap, table, &mut walk, FEW)?;
+        let Some(more) = after(rest, few.as_slice()) else {
+            return Ok(false);
+        };
+        if !fresh {
+            return Ok(false);
+        }
+        if walk.has_none() {
+            return Ok(more.is_empty());
+        }
+        rest = more;
+        few.clear();
+    }
+    Ok(false)
+}
