@@ -14,4 +14,4 @@ pub use check::check_type;
 pub use fetch::{Fetch, fetch_file};
 pub use gather::{Gathered, InputEnd, LENGTH_LIMIT, store};
 pub use types::{Requested, find_script, find_type, path_stop, read_gathered};
-pub use verdict::{find_verdict, put_no};
+pub use verdict::{find_verdict, put_near_no, put_no};

@@ -1,6 +1,6 @@
 //! The verdict on a value at the type.
 
-ghost use Rattle.std.specs.Prelude.{length, OnOk, IfOk};
+ghost use Rattle.std.specs.Prelude.{◌≡◌, length, OnOk, IfOk, MatchBool};
 ghost use Rattle.om_model.specs.Graph.{IsValue};
 ghost use Rattle.om_declared.specs.Types.{type_over, IsReady};
 ghost use Rattle.om_declared.specs.Verdict.{IsVerdictOf, PutsNo};
@@ -10,7 +10,7 @@ use crate::types::Requested;
 use om_check::{Steps, Verdict, check};
 use om_equal::table::tables_have_the_faults;
 use om_fault::laws::texts_are_of_types;
-use om_fault::put_fault;
+use om_fault::{find_near, put_fault, put_near};
 use om_heap::Heap;
 use om_model::Memory;
 use om_model::value::Val;
@@ -58,4 +58,32 @@ pub fn put_no(
     put(text, b"no ")?;
     put_fault(text, alloc, heap, root, &requested.table, fault)?;
     Ok(())
+}
+
+/// Puts `no` and the least fault at the end, where a small value has it near its root. The answer
+/// is whether it has; where it has not nothing is put.
+pub fn put_near_no(
+    text: &mut Vec<u8>,
+    alloc: Global,
+    heap: &Heap,
+    root: Val,
+    requested: &Requested,
+) -> Result<bool, Memory>
+    requires value { IsValue (length heap.now) root }
+    requires ready { IsReady requested.now }
+    ensures { IfOk result
+        (λ told. MatchBool told
+        (PutsNo (type_over requested.now) heap.now root text.old.items text.new.items)
+        (text.new.items ≡ text.old.items)) }
+{
+    tables_are_lawful();
+    tables_decide();
+    tables_have_the_faults();
+    texts_are_of_types();
+    let Some(near) = find_near(heap, root, &requested.table) else {
+        return Ok(false);
+    };
+    put(text, b"no ")?;
+    put_near(text, alloc, heap, &requested.table, near)?;
+    Ok(true)
 }
