@@ -1,6 +1,6 @@
 //! What is said of a value.
 
-ghost use Rattle.std.specs.Prelude.{◌≡◌, ◌<◌, ◌++◌, length, IfOk, OnOk};
+ghost use Rattle.std.specs.Prelude.{◌≡◌, ◌<◌, ◌++◌, length, IfOk, OnOk, MatchBool};
 ghost use Rattle.om_model.specs.Graph.{IsValue};
 ghost use Rattle.om_types.specs.Typing.{HasType};
 ghost use Rattle.om_types.specs.Table.{table_shapes};
@@ -13,11 +13,11 @@ ghost use Rattle.om_session.specs.Verdict.{IsReadySpeech, IsSaidOf, PutsLine, sa
 ghost use Rattle.om_session.specs.declared.verdict.Speech.TheVariants as speeches;
 ghost use Rattle.om_check.specs.declared.verdict.Verdict.TheVariants.{No};
 ghost use Rattle.om_outcome.specs.Outcome.{the_part, the_trees};
-ghost use Rattle.om_declared.specs.Verdict.{IsVerdictOf};
+ghost use Rattle.om_declared.specs.Verdict.{IsVerdictOf, PutsNo};
 ghost use Rattle.om_tree_check.specs.VerdictText.{is_sound as is_sound_verdict};
 
 use om_check::Verdict;
-use om_declared::{Requested, find_verdict, put_no};
+use om_declared::{Requested, find_verdict, put_near_no, put_no};
 use om_fault::walk;
 use om_heap::Heap;
 use om_model::Memory;
@@ -102,33 +102,61 @@ fn told_line(
         (λ line. IsSaidOf (speeches.Tell requested.entry saying.entry) heap.now root line.text
         line.well) }
 {
-    let verdict = find_verdict(alloc, heap, root, requested)?;
-    line_by(alloc, heap, root, requested, saying, &verdict)
-}
-
-/// Says what comes of the verdict on a value.
-fn line_by(
-    alloc: Global,
-    heap: &Heap,
-    root: Val,
-    requested: &Requested,
-    saying: Saying<'_>,
-    verdict: &Verdict,
-) -> Result<Line, Memory>
-    requires value { IsValue (length heap.now) root }
-    requires ready { IsReady requested.now }
-    requires verdict { IsVerdictOf requested.now heap.now root verdict.now }
-    ensures { IfOk result
-        (λ line. IsSaidOf (speeches.Tell requested.entry saying.entry) heap.now root line.text
-        line.well) }
-{
     let mut text = Vec::with_capacity(alloc, ROOM)?;
-    let well = put_line(&mut text, alloc, heap, root, requested, saying, verdict)?;
+    let well = put_checked(&mut text, alloc, heap, root, requested, saying)?;
     put(&mut text, b"\n")?;
     Ok(Line {
         text: List::of(text),
         well,
     })
+}
+
+/// Checks a value against a type, puts what is told of it at the end, and answers whether nothing
+/// is wrong with it.
+fn put_checked(
+    text: &mut Vec<u8>,
+    alloc: Global,
+    heap: &Heap,
+    root: Val,
+    requested: &Requested,
+    saying: Saying<'_>,
+) -> Result<bool, Memory>
+    requires value { IsValue (length heap.now) root }
+    requires ready { IsReady requested.now }
+    ensures { IfOk result
+        (PutsLine (saying_of saying.entry) (type_over requested.now) heap.now root text.old.items
+        text.new.items) }
+{
+    let told = put_soon(text, alloc, heap, root, requested, saying)?;
+    if told {
+        return Ok(false);
+    }
+    let verdict = find_verdict(alloc, heap, root, requested)?;
+    put_line(text, alloc, heap, root, requested, saying, &verdict)
+}
+
+/// Puts `no` and the fault at the end, where the verdict alone is told and the fault is near the
+/// root: a look at a value's bytes came before, and one that it did not show to have the type has
+/// most often a fault. The answer is whether it was put.
+fn put_soon(
+    text: &mut Vec<u8>,
+    alloc: Global,
+    heap: &Heap,
+    root: Val,
+    requested: &Requested,
+    saying: Saying<'_>,
+) -> Result<bool, Memory>
+    requires value { IsValue (length heap.now) root }
+    requires ready { IsReady requested.now }
+    ensures { IfOk result
+        (λ told. MatchBool told
+        (PutsNo (type_over requested.now) heap.now root text.old.items text.new.items)
+        (text.new.items ≡ text.old.items)) }
+{
+    match saying {
+        Saying::Verdict => put_near_no(text, alloc, heap, root, requested),
+        _ => Ok(false),
+    }
 }
 
 /// Puts what is told of a value of this verdict at the end, and answers whether nothing is wrong
