@@ -1,7 +1,7 @@
 -- Names that are found to be read back are so at the types of a table.
-use Rattle.std.proofs.Common.{◌≡◌, ◌≢◌, ℕ, suc, ◌+◌, ◌<◌, ◌≤◌, ⊎_elim, Bool, true, false, List, [], ◌∷◌, length, Option, Some, None, refl, sym, ap, subst, ◌∙◌, arith, get_or, lt-ltb}
-use Rattle.std.specs.Prelude.{slice_get, find, map, codes, Contains, unwrap_or, option_map, ◌&&◌}
-use Rattle.std.specs.List.{list_all, position, position_or_len}
+use Rattle.std.proofs.Common.{◌≡◌, ℕ, suc, ◌+◌, ◌<◌, ◌≤◌, ⊎_elim, Bool, true, false, List, [], ◌∷◌, length, Option, Some, refl, sym, ap, subst, ◌∙◌, arith, get_or, lt-ltb}
+use Rattle.std.specs.Prelude.{slice_get, find, codes, Contains, unwrap_or, option_map}
+use Rattle.std.specs.List.{position, position_or_len}
 use Rattle.std.specs.Str.{bytes_eq}
 use Rattle.std.specs.Char.{is_ascii_uppercase}
 use Rattle.std.proofs.lemmas.Bool.{false≢true, and_from, cases_lt}
@@ -23,17 +23,17 @@ use Rattle.om_types.specs.Table.{with_parts, node_or_none}
 use Rattle.om_types.specs.Ty.{Ty}
 use Rattle.om_equal.proofs.TableLemmas.{slice_get-mapped, mapped_some}
 use Rattle.om_leaves.specs.Frames.{is_hash}
-use Rattle.om_lex.specs.Lexeme.{starts_lower, is_name_byte, Lower, Upper, IsForm}
+use Rattle.om_lex.specs.Lexeme.{Upper, IsForm}
 use Rattle.om_lexed.specs.Lexed.{Begins, Ends}
 use Rattle.om_lexed.proofs.LexedLemmas.{lexed_upper, lexed_empty, lexed_double_colon, begins_with}
-use Rattle.om_literal.specs.Starts.{is_constr, same_names}
+use Rattle.om_literal.specs.Starts.{is_constr}
 use Rattle.om_literal_grammar.specs.Literal.{upper_head, cons_head, empty_head}
-use Rattle.om_literal_texts.specs.Readable.{IsHead, AreFieldNames, AreSumNames, IsConstructorName, IsTagName, IsReadable}
+use Rattle.om_literal_texts.specs.Readable.{IsHead, AreFieldNames, AreSumNames, IsConstructorName, IsReadable}
 use Rattle.om_literal_texts.proofs.ObjectReadLemmas.{same_names_refl}
 use Rattle.om_show.specs.Tables.{shape_in, names_in}
 use Rattle.om_type_table.specs.declared.table.TypeTable.{TypeTable}
 use Rattle.om_type_table.specs.Made.{types_of, IsTypeTable}
-use Rattle.om_guess.specs.Spelled.{IsNoKeyword, has_name, AreConstantNames, AreConstructorNames, IsSpelled, SpelledAreReadable}
+use Rattle.om_guess.specs.Spelled.{has_name, AreConstantNames, AreConstructorNames, IsSpelled, SpelledAreReadable}
 
 -- ---- heads
 
@@ -55,16 +55,6 @@ cons_head_by name e = subst IsHead (sym ((bytes_eq-Decides name (codes "::")).0 
 
 pub empty_head_by : (name : List ℕ) → bytes_eq name (codes "[]") ≡ true → IsHead name
 empty_head_by name e = subst IsHead (sym ((bytes_eq-Decides name (codes "[]")).0 e)) empty_is_head
-
--- ---- words
-
-pub lower_form : (name : List ℕ) (d : ℕ) → 0 < length name → starts_lower (get_or name 0 d) ≡ true → list_all is_name_byte name ≡ true → IsNoKeyword name → IsForm (Lower name)
-lower_form [] d some starts all free = absurd (omega (arith, some))
-lower_form (b ∷ bs) d some starts all free = ((starts, all), free)
-
-pub upper_form : (name : List ℕ) (d : ℕ) → 0 < length name → is_ascii_uppercase (get_or name 0 d) ≡ true → list_all is_name_byte name ≡ true → IsForm (Upper name)
-upper_form [] d some starts all = absurd (omega (arith, some))
-upper_form (b ∷ bs) d some starts all = (starts, all)
 
 -- ---- one name more
 

@@ -117,6 +117,7 @@ fn begin_block<'a, 't>(
             next: 0,
             types,
             fields,
+            ends: 1,
         }),
         rest,
     }))

@@ -5,7 +5,7 @@ ghost use Rattle.om_model.specs.Graph.{IsValue};
 
 use crate::begun::{Begun, begin};
 use crate::open::Open;
-use crate::scan::after;
+use crate::scan::{after, ends_block};
 use om_heap::{Heap, Kind};
 use om_model::Memory;
 use om_model::value::Val;
@@ -15,8 +15,9 @@ use std::alloc::Global;
 /// Few values have more words than a third of the bytes of their texts.
 const BYTES_A_WORD: u64 = 3;
 
-/// The text of a value in which more blocks are one inside the other takes much memory to put, and
-/// is not guessed.
+/// Blocks that are one inside the other, and of which parts are still to come, take much memory,
+/// also where their text is put again: where they are more than these, nothing is guessed. A block
+/// whose last part has begun is none of them, so that a list may be of any length.
 const MOST_OPEN: usize = 10_000;
 
 /// Whether it is a value of the heap.
@@ -46,7 +47,29 @@ fn put_field(heap: &mut Heap, block: u64, i: u64, v: Val) -> bool {
     }
 }
 
-/// Reads the next part of the innermost block, or its end, and answers what follows.
+/// Goes on after a part of the innermost block has begun, which may be a block, and answers what
+/// follows. At the last part the end of the block is one of what is in that part.
+#[inline(always)]
+fn go_on<'a, 't>(
+    opens: &mut Vec<Open<'a>>,
+    open: Open<'a>,
+    begun: Begun<'a, 't>,
+) -> Result<&'t [u8], Memory> {
+    if open.is_at_last() {
+        let Some(inner) = begun.inner else {
+            return Ok(after(begun.rest, open.ends));
+        };
+        opens.push(inner.within(open.ends))?;
+        return Ok(begun.rest);
+    }
+    opens.push(open.advanced())?;
+    if let Some(inner) = begun.inner {
+        opens.push(inner)?;
+    }
+    Ok(begun.rest)
+}
+
+/// Reads the next part of the innermost block, and answers what follows.
 #[inline(always)]
 fn read_part<'a, 't>(
     alloc: Global,
@@ -56,23 +79,23 @@ fn read_part<'a, 't>(
     open: Open<'a>,
     text: &'t [u8],
 ) -> Result<Option<&'t [u8]>, Memory> {
-    let Some(t) = open.types.get(open.next) else {
-        return Ok(Some(after(text, 1)));
+    let Some(part) = open.after_before(text) else {
+        return Ok(None);
     };
-    let Some(begun) = begin(alloc, heap, table, *t, after(text, open.before()))? else {
+    let Some(t) = open.types.get(open.next) else {
+        return Ok(None);
+    };
+    let Some(begun) = begin(alloc, heap, table, *t, part)? else {
         return Ok(None);
     };
     if !put_field(heap, open.block, open.next as u64, begun.value) {
         return Ok(None);
     }
-    opens.push(open.advanced())?;
-    if let Some(inner) = begun.inner {
-        if opens.len() >= MOST_OPEN {
-            return Ok(None);
-        }
-        opens.push(inner)?;
+    let rest = go_on(opens, open, begun)?;
+    if opens.len() > MOST_OPEN {
+        return Ok(None);
     }
-    Ok(Some(begun.rest))
+    Ok(Some(rest))
 }
 
 /// Reads the parts of a block and all that is in them, and answers whether the text ends there.
@@ -106,7 +129,10 @@ fn read_rest<'a>(
     begun: Begun<'a, '_>,
 ) -> Result<bool, Memory> {
     match begun.inner {
-        Some(block) => read_parts(alloc, heap, table, block, begun.rest),
+        Some(block) if ends_block(begun.rest) => {
+            read_parts(alloc, heap, table, block, begun.rest)
+        }
+        Some(_) => Ok(false),
         None => Ok(begun.rest.is_empty()),
     }
 }

@@ -22,6 +22,25 @@ pub fn front(text: &[u8], count: usize) -> &[u8] {
     &text[..count]
 }
 
+/// What follows what stands between two parts, if that stands at the front.
+#[inline(always)]
+pub fn between(text: &[u8]) -> Option<&[u8]> {
+    match text {
+        [b',', b' ', rest @ ..] => Some(rest),
+        [b';', b' ', rest @ ..] => Some(rest),
+        _ => None,
+    }
+}
+
+/// Whether a text ends as that of a block does.
+pub fn ends_block(text: &[u8]) -> bool {
+    if text.is_empty() {
+        return false;
+    }
+    let end = text[text.len() - 1];
+    end == b')' || end == b'}'
+}
+
 /// How many decimal digits stand at the front.
 #[inline(always)]
 fn digits_len(text: &[u8]) -> usize {

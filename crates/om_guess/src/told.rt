@@ -11,7 +11,7 @@ ghost use Rattle.om_show.specs.Tables.{shape_in, names_in};
 use om_heap::Heap;
 use om_model::Memory;
 use om_model::value::Val;
-use om_print::put_shown_at;
+use om_print::is_shown;
 use om_type_table::TypeTable;
 use std::alloc::Global;
 
@@ -31,8 +31,5 @@ pub fn has_text(
         (λ same. IsTrue same
         → shown_text (shape_in table.now) (names_in table.now) heap.now v 0 ≡ text.now) }
 {
-    let mut own = Vec::new(alloc);
-    own.reserve(text.len())?;
-    put_shown_at(&mut own, alloc, heap, v, table, table.root())?;
-    Ok(own.as_slice() == text)
+    is_shown(alloc, heap, v, table, table.root(), text)
 }
