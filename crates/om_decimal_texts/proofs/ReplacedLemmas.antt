@@ -1,5 +1,5 @@
 -- A text with its doubles as decimals, put lexeme after lexeme.
-use Rattle.std.proofs.Common.{ℕ, ◌≡◌, ◌∙◌, ◌+◌, ◌<◌, ◌≤◌, ◌++◌, List, [], ◌∷◌, length, drop, get_or, append_assoc, append-nil, refl, subst, sym, ap, arith}
+use Rattle.std.proofs.Common.{ℕ, ◌≡◌, ◌∙◌, ◌+◌, ◌<◌, ◌≤◌, ◌++◌, List, [], ◌∷◌, length, drop, get_or, append_assoc, refl, subst, sym, ap, arith}
 use Rattle.std.proofs.lemmas.List.{drop_more}
 use Rattle.std.specs.Prelude.{slice_range}
 use Rattle.om_lex.specs.LexText.{SpansWithin}
@@ -11,9 +11,6 @@ abbrev pub IsSoFar : (text : List ℕ) (all : List Lexeme) (at : ℕ) (left : Li
 IsSoFar text all at left old new =
     (put : List ℕ) × (new ≡ old ++ put)
     × ((rest : List ℕ) → IsReplaced text at left rest → IsReplaced text 0 all (put ++ rest))
-
-pub so_far_none : (text : List ℕ) (all : List Lexeme) (old : List ℕ) → IsSoFar text all 0 all old old
-so_far_none text all old = ([], sym (append-nil old), λ rest is. is)
 
 pub so_far_more :
     (text : List ℕ) (all : List Lexeme) (at : ℕ) (l : Lexeme) (left : List Lexeme)
@@ -32,16 +29,6 @@ so_far_more text all at l left old new between behind put (done, is, leads) firs
           (sym (append_assoc done (gap ++ put) rest ∙ (λ i. done ++ append_assoc gap put rest i)))
           (leads (gap ++ (put ++ rest)) (put, rest, for, more, refl)),
     )
-
-pub so_far_all :
-    (text : List ℕ) (all : List Lexeme) (at : ℕ) (old new behind : List ℕ)
-    → IsSoFar text all at [] old new → behind ≡ new ++ drop at text
-    → (put : List ℕ) × IsReplaced text 0 all put × (behind ≡ old ++ put)
-so_far_all text all at old new behind (done, is, leads) last = (
-  done ++ drop at text,
-  leads (drop at text) refl,
-  last ∙ (λ i. is i ++ drop at text) ∙ append_assoc old done (drop at text),
-)
 
 -- ---- what the lexemes' places are
 

@@ -1,6 +1,6 @@
 //! A text with its doubles as decimals.
 
-ghost use Rattle.std.specs.Prelude.{ℕ, ◌≡◌, ◌≤◌, ◌+◌, ◌++◌, List, length, OnOk, slice_range};
+ghost use Rattle.std.specs.Prelude.{ℕ, ◌≡◌, ◌≤◌, ◌+◌, ◌++◌, List, length, OnOk};
 ghost use Rattle.std.specs.Str.{bytes_eq};
 ghost use Rattle.om_leaves.specs.Leaves.{float_text};
 ghost use Rattle.om_lex.specs.LexText.{SpansWithin};
