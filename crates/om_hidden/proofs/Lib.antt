@@ -1,0 +1,3 @@
+pub mod WeakerLemmas
+pub mod HeadLemmas
+pub mod ShapeLemmas

@@ -1,0 +1,217 @@
+-- Where declared types are hidden, the shape of a type is what it was, but for `_` and arrays of it.
+use Rattle.std.proofs.Common.{ℕ, ◌≡◌, ◌∙◌, List, [], ◌∷◌, Bool, true, false, cond}
+use Rattle.std.proofs.Common.{Option, Some, None, refl, ap, subst, sym}
+use Rattle.std.specs.Prelude.{Contains, IsSome, IsTrue, slice_get, option_and_then, ◌&&◌}
+use Rattle.std.proofs.lemmas.Bool.{false≢true}
+use Rattle.om_model.proofs.Options.{Contains-none}
+use Rattle.om_model.specs.declared.value.Val.{Val}
+use Rattle.om_model.specs.declared.value.Val.TheVariants as vals
+use Rattle.om_model.specs.declared.value.Obj.{Obj}
+use Rattle.om_model.specs.declared.value.Obj.TheVariants as objects
+use Rattle.om_types.specs.declared.decl.Predeclared.{Predeclared}
+use Rattle.om_types.specs.declared.decl.Predeclared.TheVariants as bases
+use Rattle.om_types.specs.declared.decl.Field.{Field}
+use Rattle.om_types.specs.declared.decl.Body.{Body}
+use Rattle.om_types.specs.declared.decl.Body.TheVariants as bodies
+use Rattle.om_types.specs.declared.decl.Decl.{Decl}
+use Rattle.om_types.specs.declared.head.HeadOf.{HeadOf}
+use Rattle.om_types.specs.declared.head.HeadOf.TheVariants as heads
+use Rattle.om_types.specs.declared.shape.ShapeOf.{ShapeOf}
+use Rattle.om_types.specs.declared.shape.ShapeOf.TheVariants as shapes
+use Rattle.om_types.specs.Ty.{Ty}
+use Rattle.om_types.specs.Declarations.{declaration_of, instance_of}
+use Rattle.om_types.specs.Head.{head}
+use Rattle.om_types.specs.Shape.{is_float_head, is_float, is_flat, array_of, predeclared_shape}
+use Rattle.om_types.specs.Shape.{record_shape, body_shape, datatype_shape, head_shape, shape}
+use Rattle.om_types.specs.Fitting.{object_fields, fields_of, is_mutable, or_none, is_asked}
+use Rattle.om_types.specs.Equal.{Pairwise, HeadsAgree, Holds, EqualBy, declared_shapes}
+use Rattle.om_types.specs.Accepted.{AreWellFormed}
+use Rattle.om_types.proofs.AskedLemmas.{asked_is, is_needed}
+use Rattle.om_hidden.specs.Weaker.{IsWeaker}
+use Rattle.om_hidden.specs.Hidden.{hide, HidesDatatypes, hidden_head}
+use Rattle.om_hidden.proofs.HeadLemmas.{same_hidden, shown_declared, heads_hidden}
+
+-- ---- shapes that ask less
+
+abbrev Fields : Type 0
+Fields = List (ℕ × Ty)
+
+-- what fits the first fits the second, and has no more fields there
+abbrev AreFewer : Option Fields → Option Fields → Type 0
+AreFewer all few = IsSome all → IsSome few
+    × ((i : ℕ) (u : Ty) → Contains (or_none few) (i, u) → Contains (or_none all) (i, u))
+
+never : {A : Type 0} → IsSome {T = Fields} None → A
+never some = absurd (false≢true some)
+
+none_there : (all : Option Fields) → AreFewer all (Some [])
+none_there all some = (refl, λ i u has. absurd (Contains-none {X = ℕ × Ty} (i, u) has))
+
+any_object : (s : ShapeOf Ty) (object : Obj) → AreFewer (object_fields s object) (object_fields shapes.Anything object)
+any_object s (objects.Block tag values) = none_there (object_fields s (objects.Block tag values))
+any_object s object = none_there (object_fields s object)
+
+array_object : (t : Ty) (object : Obj)
+    → AreFewer (object_fields (shapes.ArrayOf t) object) (object_fields (shapes.ArrayOfAnything t) object)
+array_object t (objects.Block tag values) some = (some, λ i u has. has)
+array_object t object some = never some
+
+-- of a value it is so where it is of each object
+of_value : (s l : ShapeOf Ty) (graph : List Obj) (v : Val)
+    → ((z : _) → AreFewer (fields_of graph (vals.Int z) s) (fields_of graph (vals.Int z) l))
+    → ((tag : ℕ) → AreFewer (fields_of graph (vals.Atom tag) s) (fields_of graph (vals.Atom tag) l))
+    → ((object : Obj) → AreFewer (object_fields s object) (object_fields l object))
+    → AreFewer (fields_of graph v s) (fields_of graph v l)
+of_value s l graph (vals.Int z) int atom each = int z
+of_value s l graph (vals.Atom tag) int atom each = atom tag
+of_value s l graph (vals.Ref o) int atom each = by (slice_get graph o) where
+  by : (found : Option Obj)
+      → AreFewer (option_and_then (object_fields s) found) (option_and_then (object_fields l) found)
+  by None some = never some
+  by (Some object) some = each object some
+
+-- the second asks less than the first of what fits the first
+record IsLooser (s l : ShapeOf Ty) : Type 0 where
+  fewer : (graph : List Obj) (v : Val) → AreFewer (fields_of graph v s) (fields_of graph v l)
+  asked : IsTrue (is_asked l) → IsTrue (is_asked s)
+  mutable : (object : Option Obj) → IsTrue (is_mutable l object) → IsTrue (is_mutable s object)
+
+any_looser : (s : ShapeOf Ty) → IsLooser s shapes.Anything
+any_looser s = record {
+  fewer = λ graph v. of_value s shapes.Anything graph v
+      (λ z. none_there (fields_of graph (vals.Int z) s))
+      (λ tag. none_there (fields_of graph (vals.Atom tag) s)) (any_object s);
+  asked = λ asked. absurd (false≢true asked);
+  mutable = λ object mutable. absurd (false≢true mutable);
+}
+
+itself : (s : ShapeOf Ty) → IsLooser s s
+itself s = record {
+  fewer = λ graph v some. (some, λ i u has. has);
+  asked = λ asked. asked;
+  mutable = λ object mutable. mutable;
+}
+
+array_looser : (t : Ty) → IsLooser (shapes.ArrayOf t) (shapes.ArrayOfAnything t)
+array_looser t = record {
+  fewer = λ graph v. of_value (shapes.ArrayOf t) (shapes.ArrayOfAnything t) graph v
+      (λ z some. never some) (λ tag some. (some, λ i u has. has)) (array_object t);
+  asked = λ asked. refl;
+  mutable = λ object mutable. refl;
+}
+
+-- ---- heads that agree
+
+module _ (hides : List ℕ → Bool) (Alike : Ty → Ty → Type 0) where
+  data_types_agree : (m : List ℕ) (ts us : List Ty) → Pairwise Alike ts us
+      → HeadsAgree Alike (hidden_head hides (heads.Datatype m ts)) (hidden_head hides (heads.Datatype m us))
+  data_types_agree m ts us alike = by (hides m) where
+    by : (test : Bool) → HeadsAgree Alike (cond test (heads.Predeclared bases.Any []) (heads.Datatype m ts))
+        (cond test (heads.Predeclared bases.Any []) (heads.Datatype m us))
+    by true = (refl, tt)
+    by false = (refl, alike)
+
+  hidden_agree : (h k : HeadOf Ty) → HeadsAgree Alike h k
+      → HeadsAgree Alike (hidden_head hides h) (hidden_head hides k)
+  hidden_agree (heads.Variable x) (heads.Variable y) agree = agree
+  hidden_agree (heads.Predeclared b ts) (heads.Predeclared c us) agree = agree
+  hidden_agree (heads.Datatype m ts) (heads.Datatype n us) agree =
+      subst (λ a. HeadsAgree Alike (hidden_head hides (heads.Datatype m ts)) (hidden_head hides (heads.Datatype a us)))
+      agree.0 (data_types_agree m ts us agree.1)
+  hidden_agree (heads.Tuple ts) (heads.Tuple us) agree = agree
+  hidden_agree (heads.Variants tags) (heads.Variants others) agree = agree
+  hidden_agree heads.Absent heads.Absent agree = agree
+  hidden_agree h k agree = absurd agree
+
+-- ---- the shape of a type
+
+module _ (hides : List ℕ → Bool) (decls : List Decl) (well : AreWellFormed decls)
+    (datatypes : HidesDatatypes hides decls) where
+  abbrev less : List Decl
+  less = hide hides decls
+
+  abbrev hidden : HeadOf Ty → HeadOf Ty
+  hidden h = hidden_head hides h
+
+  head_is : (t : Ty) → head less t ≡ hidden (head decls t)
+  head_is t = heads_hidden hides decls well datatypes t
+
+  float_same : (t : Ty) → is_float less t ≡ is_float decls t
+  float_same t = ap is_float_head (head_is t) ∙ same_hidden hides is_float_head (λ n ts. refl) (head decls t)
+
+  flat_same : (fields : List Field) → is_flat less fields ≡ is_flat decls fields
+  flat_same [] = refl
+  flat_same (field ∷ fields) =
+      ap (λ b. b && is_flat less fields) (float_same field.ty)
+      ∙ ap (λ b. is_float decls field.ty && b) (flat_same fields)
+
+  body_same : (inst : Ty → Ty) (body : Body) → body_shape less inst body ≡ body_shape decls inst body
+  body_same inst (bodies.Abbreviation t) = refl
+  body_same inst (bodies.Record fields) = ap (record_shape inst fields) (flat_same fields)
+  body_same inst (bodies.Variant constructors) = refl
+
+  array_of_looser : (h : HeadOf Ty) (t : Ty) → IsLooser (array_of h t) (array_of (hidden h) t)
+  array_of_looser (heads.Datatype n ts) t = by (hides n) where
+    by : (test : Bool) → IsLooser (shapes.ArrayOf t)
+        (array_of (cond test (heads.Predeclared bases.Any []) (heads.Datatype n ts)) t)
+    by true = array_looser t
+    by false = itself (shapes.ArrayOf t)
+  array_of_looser h t = itself (array_of h t)
+
+  base_looser : (b : Predeclared) (ts : List Ty)
+      → IsLooser (predeclared_shape decls b ts) (predeclared_shape less b ts)
+  base_looser bases.Array (t ∷ []) =
+      subst (λ h. IsLooser (array_of (head decls t) t) (array_of h t)) (sym (head_is t))
+      (array_of_looser (head decls t) t)
+  base_looser bases.Int [] = itself (predeclared_shape decls bases.Int [])
+  base_looser b [] = itself (predeclared_shape decls b [])
+  base_looser bases.Int (t ∷ []) = itself (predeclared_shape decls bases.Int (t ∷ []))
+  base_looser b (t ∷ []) = itself (predeclared_shape decls b (t ∷ []))
+  base_looser bases.Int (t ∷ u ∷ ts) = itself (predeclared_shape decls bases.Int (t ∷ u ∷ ts))
+  base_looser b (t ∷ u ∷ ts) = itself (predeclared_shape decls b (t ∷ u ∷ ts))
+
+  data_type_looser : (n : List ℕ) (ts : List Ty) (test : Bool) → hides n ≡ test
+      → IsLooser (datatype_shape decls (declaration_of decls n) ts)
+      (head_shape less (cond test (heads.Predeclared bases.Any []) (heads.Datatype n ts)))
+  data_type_looser n ts true is = any_looser (datatype_shape decls (declaration_of decls n) ts)
+  data_type_looser n ts false is =
+      subst (IsLooser (datatype_shape decls (declaration_of decls n) ts))
+      (sym (ap (λ found. datatype_shape less found ts) (shown_declared hides decls n is)
+      ∙ by (declaration_of decls n)))
+      (itself (datatype_shape decls (declaration_of decls n) ts)) where
+        by : (found : Option Decl) → datatype_shape less found ts ≡ datatype_shape decls found ts
+        by None = refl
+        by (Some d) = body_same (instance_of d ts) d.body
+
+  head_looser : (h : HeadOf Ty) → IsLooser (head_shape decls h) (head_shape less (hidden h))
+  head_looser (heads.Predeclared b ts) = base_looser b ts
+  head_looser (heads.Datatype n ts) = data_type_looser n ts (hides n) refl
+  head_looser h = itself (head_shape decls h)
+
+  looser : (t : Ty) → IsLooser (shape decls t) (shape less t)
+  looser t = subst (λ h. IsLooser (shape decls t) (head_shape less h)) (sym (head_is t)) (head_looser (head decls t))
+
+  -- ---- the shapes of declared types
+
+  equal_still : (t u : Ty) → EqualBy (head decls) t u → EqualBy (head less) t u
+  equal_still t u equal = record {
+    pairs = equal.pairs;
+    holds = equal.holds;
+    closed = λ a b held.
+        subst (λ h. HeadsAgree (Holds equal.pairs) h (head less b)) (sym (head_is a))
+        (subst (λ h. HeadsAgree (Holds equal.pairs) (hidden (head decls a)) h) (sym (head_is b))
+        (hidden_agree hides (Holds equal.pairs) (head decls a) (head decls b) (equal.closed a b held)));
+  }
+
+  pub weaker : IsWeaker (declared_shapes less) (declared_shapes decls)
+  weaker = record {
+    fits = λ graph v t fit. ((looser t).fewer graph v fit).0;
+    needs = λ graph v t i u fit need.
+        let is = asked_is (shape less) (or_none (fields_of graph v (shape less t))) i u need in
+        is_needed (shape decls) (or_none (fields_of graph v (shape decls t))) i u
+        (((looser t).fewer graph v fit).1 i u is.0)
+        ((looser u).asked is.1);
+    mutable = λ graph o t fit mutable.
+        (fit, (looser t).mutable (slice_get graph o) mutable.1);
+    equal = equal_still;
+  }

@@ -1,0 +1,39 @@
+-- Shapes that ask less of the same types (this project's own).
+use Rattle.std.specs.Prelude.{ℕ, List, Contains}
+use Rattle.om_model.specs.declared.value.Val.{Val}
+use Rattle.om_model.specs.declared.value.Val.TheVariants as vals
+use Rattle.om_model.specs.declared.value.Obj.{Obj}
+use Rattle.om_types.specs.declared.decl.Decl.{Decl}
+use Rattle.om_types.specs.Equal.{declared_shapes}
+use Rattle.om_types.specs.Shapes.{Shapes}
+use Rattle.om_types.specs.Table.{Table, table_shapes}
+use Rattle.om_types.specs.Typing.{HasType}
+
+-- What fits the strong shapes fits the weak ones, which need no more of it and let it be changed
+-- nowhere else; and types that were equal are.
+pub record IsWeaker {T : Type 0} (weak strong : Shapes T) : Type 0 where
+  pub fits : (graph : List Obj) (v : Val) (t : T) → strong.fits graph v t → weak.fits graph v t
+  pub needs :
+      (graph : List Obj) (v : Val) (t : T) (i : ℕ) (u : T) → strong.fits graph v t
+      → Contains (weak.needs graph v t) (i, u) → Contains (strong.needs graph v t) (i, u)
+  pub mutable :
+      (graph : List Obj) (o : ℕ) (t : T) → strong.fits graph (vals.Ref o) t
+      → weak.mutable graph o t → strong.mutable graph o t
+  pub equal : (t u : T) → strong.equal t u → weak.equal t u
+
+-- what has a type over the strong shapes has it over the weak ones
+abbrev pub HasMore : {T : Type 0} → Shapes T → Shapes T → Type 0
+HasMore {T} weak strong =
+    (graph : List Obj) (v : Val) (t : T) → HasType strong graph v t → HasType weak graph v t
+
+-- so it is over any two lists of declarations
+abbrev pub WeakerDeclarationsHaveMore : Type 0
+WeakerDeclarationsHaveMore =
+    (weak strong : List Decl) → IsWeaker (declared_shapes weak) (declared_shapes strong)
+    → HasMore (declared_shapes weak) (declared_shapes strong)
+
+-- and over any two tables, by numbers
+abbrev pub WeakerTablesHaveMore : Type 0
+WeakerTablesHaveMore =
+    (weak strong : Table) → IsWeaker (table_shapes weak) (table_shapes strong)
+    → HasMore (table_shapes weak) (table_shapes strong)
