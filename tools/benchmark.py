@@ -51,8 +51,8 @@ REAL = (
     (".cmx", 0, "cmx.types", "cmx_format_unit_infos"),
     (".cmxa", 0, "cmx.types", "cmx_format_library_infos"),
     (".cma", -1, "cmo.types", "cmo_format_library"),
-    (".cmt", -1, "/dev/null", "int"),
-    (".cmti", -1, "/dev/null", "int"),
+    (".cmt", -1, "cmt.types", "cmt_format_cmt_infos"),
+    (".cmti", -1, "cmt.types", "cmt_format_cmt_infos"),
 )
 
 # Values that are deep, for a small stack.
