@@ -1,0 +1,41 @@
+//! The line and the column of a place.
+
+ghost use Rattle.std.specs.Prelude.{◌≡◌, take};
+ghost use Rattle.om_lines.specs.Lines.{line_after, column_after, line_of, column_of};
+
+/// A line, and a column in it, both from 1.
+#[derive(Clone, Copy)]
+pub struct Spot {
+    pub line: usize,
+    pub column: usize,
+}
+
+/// Where a text goes on after these bytes of it.
+fn spot_after(before: &[u8]) -> Spot
+    ensures line { result.line ≡ line_after before.now }
+    ensures column { result.column ≡ column_after before.now }
+{
+    let mut line = 1;
+    let mut column = 1;
+    for b in before {
+        if *b == b'\n' {
+            line += 1;
+            column = 1;
+        } else {
+            column += 1;
+        }
+    }
+    Spot { line, column }
+}
+
+/// Where a byte of a text is; one behind the text is where the text ends.
+pub fn spot_of(text: &[u8], place: usize) -> Spot
+    ensures line { result.line ≡ line_of text.now place }
+    ensures column { result.column ≡ column_of text.now place }
+{
+    if place < text.len() {
+        spot_after(&text[..place])
+    } else {
+        spot_after(text)
+    }
+}
