@@ -19,9 +19,9 @@ use Rattle.om_searching.proofs.LawfulLemmas.{stands_apart}
 
 module _ {D T E : Type 0} (language : Language D T E) where
   pub made_apart : AreApart (commands language) (generation language)
-  made_apart (tell saying f t most) = inr (generation_idle language (tell saying f t most) refl)
-  made_apart (get f t path style most) = inr (generation_idle language (get f t path style most) refl)
-  made_apart (edit f t script compat most) = inr (generation_idle language (edit f t script compat most) refl)
+  made_apart (tell saying f t lined most) = inr (generation_idle language (tell saying f t lined most) refl)
+  made_apart (get f t path style lined most) = inr (generation_idle language (get f t path style lined most) refl)
+  made_apart (edit f t script compat lined most) = inr (generation_idle language (edit f t script compat lined most) refl)
   made_apart (dump most) = inr (generation_idle language (dump most) refl)
   made_apart (compare most) = inr (generation_idle language (compare most) refl)
   made_apart (own request) = inl (values_idle language request)
@@ -30,30 +30,30 @@ module _ {D T E : Type 0} (language : Language D T E) where
   pub made_apart_from_texts :
       {D' T' E' : Type 0} (other : Language D' T' E') (TextOf : T' → List ℕ → Built → Type 0)
       → AreApart (building other TextOf) (generation language)
-  made_apart_from_texts other TextOf (own (build f t)) = inr (generation_idle language (own (build f t)) refl)
+  made_apart_from_texts other TextOf (own (build f t lined)) = inr (generation_idle language (own (build f t lined)) refl)
   made_apart_from_texts other TextOf (own (generate n count t)) =
       inl (texts_idle other TextOf (own (generate n count t)) refl)
-  made_apart_from_texts other TextOf (own (verify f t certificate most)) =
-      inl (texts_idle other TextOf (own (verify f t certificate most)) refl)
-  made_apart_from_texts other TextOf (own (certify f t most)) =
-      inl (texts_idle other TextOf (own (certify f t most)) refl)
+  made_apart_from_texts other TextOf (own (verify f t certificate lined most)) =
+      inl (texts_idle other TextOf (own (verify f t certificate lined most)) refl)
+  made_apart_from_texts other TextOf (own (certify f t lined most)) =
+      inl (texts_idle other TextOf (own (certify f t lined most)) refl)
   made_apart_from_texts other TextOf (own (scan most)) =
       inl (texts_idle other TextOf (own (scan most)) refl)
-  made_apart_from_texts other TextOf (tell saying f t most) =
-      inr (generation_idle language (tell saying f t most) refl)
-  made_apart_from_texts other TextOf (get f t path style most) =
-      inr (generation_idle language (get f t path style most) refl)
-  made_apart_from_texts other TextOf (edit f t script compat most) =
-      inr (generation_idle language (edit f t script compat most) refl)
+  made_apart_from_texts other TextOf (tell saying f t lined most) =
+      inr (generation_idle language (tell saying f t lined most) refl)
+  made_apart_from_texts other TextOf (get f t path style lined most) =
+      inr (generation_idle language (get f t path style lined most) refl)
+  made_apart_from_texts other TextOf (edit f t script compat lined most) =
+      inr (generation_idle language (edit f t script compat lined most) refl)
   made_apart_from_texts other TextOf (dump most) = inr (generation_idle language (dump most) refl)
   made_apart_from_texts other TextOf (compare most) = inr (generation_idle language (compare most) refl)
 
 module _ {D T E S : Type 0} (language : Language D T E) (Reads : ReadsSections S)
     (ShownBy : T → S → Tree → Shown → Type 0) where
   pub certificates_apart : AreApart (commands language) (verifying language Reads ShownBy)
-  certificates_apart (tell saying f t most) = inr (certificates_idle language Reads ShownBy (tell saying f t most) refl)
-  certificates_apart (get f t path style most) = inr (certificates_idle language Reads ShownBy (get f t path style most) refl)
-  certificates_apart (edit f t script compat most) = inr (certificates_idle language Reads ShownBy (edit f t script compat most) refl)
+  certificates_apart (tell saying f t lined most) = inr (certificates_idle language Reads ShownBy (tell saying f t lined most) refl)
+  certificates_apart (get f t path style lined most) = inr (certificates_idle language Reads ShownBy (get f t path style lined most) refl)
+  certificates_apart (edit f t script compat lined most) = inr (certificates_idle language Reads ShownBy (edit f t script compat lined most) refl)
   certificates_apart (dump most) = inr (certificates_idle language Reads ShownBy (dump most) refl)
   certificates_apart (compare most) = inr (certificates_idle language Reads ShownBy (compare most) refl)
   certificates_apart (own request) = inl (values_idle language request)
@@ -62,21 +62,21 @@ module _ {D T E S : Type 0} (language : Language D T E) (Reads : ReadsSections S
   pub certificates_apart_from_texts :
       {D' T' E' : Type 0} (other : Language D' T' E') (TextOf : T' → List ℕ → Built → Type 0)
       → AreApart (building other TextOf) (verifying language Reads ShownBy)
-  certificates_apart_from_texts other TextOf (own (verify f t certificate most)) =
-      inl (texts_idle other TextOf (own (verify f t certificate most)) refl)
-  certificates_apart_from_texts other TextOf (own (build f t)) = inr (certificates_idle language Reads ShownBy (own (build f t)) refl)
+  certificates_apart_from_texts other TextOf (own (verify f t certificate lined most)) =
+      inl (texts_idle other TextOf (own (verify f t certificate lined most)) refl)
+  certificates_apart_from_texts other TextOf (own (build f t lined)) = inr (certificates_idle language Reads ShownBy (own (build f t lined)) refl)
   certificates_apart_from_texts other TextOf (own (generate n count t)) =
       inr (certificates_idle language Reads ShownBy (own (generate n count t)) refl)
-  certificates_apart_from_texts other TextOf (own (certify f t most)) =
-      inr (certificates_idle language Reads ShownBy (own (certify f t most)) refl)
+  certificates_apart_from_texts other TextOf (own (certify f t lined most)) =
+      inr (certificates_idle language Reads ShownBy (own (certify f t lined most)) refl)
   certificates_apart_from_texts other TextOf (own (scan most)) =
       inr (certificates_idle language Reads ShownBy (own (scan most)) refl)
-  certificates_apart_from_texts other TextOf (tell saying f t most) =
-      inr (certificates_idle language Reads ShownBy (tell saying f t most) refl)
-  certificates_apart_from_texts other TextOf (get f t path style most) =
-      inr (certificates_idle language Reads ShownBy (get f t path style most) refl)
-  certificates_apart_from_texts other TextOf (edit f t script compat most) =
-      inr (certificates_idle language Reads ShownBy (edit f t script compat most) refl)
+  certificates_apart_from_texts other TextOf (tell saying f t lined most) =
+      inr (certificates_idle language Reads ShownBy (tell saying f t lined most) refl)
+  certificates_apart_from_texts other TextOf (get f t path style lined most) =
+      inr (certificates_idle language Reads ShownBy (get f t path style lined most) refl)
+  certificates_apart_from_texts other TextOf (edit f t script compat lined most) =
+      inr (certificates_idle language Reads ShownBy (edit f t script compat lined most) refl)
   certificates_apart_from_texts other TextOf (dump most) =
       inr (certificates_idle language Reads ShownBy (dump most) refl)
   certificates_apart_from_texts other TextOf (compare most) =
@@ -87,19 +87,19 @@ module _ {D T E S : Type 0} (language : Language D T E) (Reads : ReadsSections S
       → AreApart (verifying language Reads ShownBy) (generation other)
   certificates_apart_from_made other (own (generate n count t)) =
       inl (certificates_idle language Reads ShownBy (own (generate n count t)) refl)
-  certificates_apart_from_made other (own (verify f t certificate most)) =
-      inr (generation_idle other (own (verify f t certificate most)) refl)
-  certificates_apart_from_made other (own (build f t)) = inr (generation_idle other (own (build f t)) refl)
-  certificates_apart_from_made other (own (certify f t most)) =
-      inr (generation_idle other (own (certify f t most)) refl)
+  certificates_apart_from_made other (own (verify f t certificate lined most)) =
+      inr (generation_idle other (own (verify f t certificate lined most)) refl)
+  certificates_apart_from_made other (own (build f t lined)) = inr (generation_idle other (own (build f t lined)) refl)
+  certificates_apart_from_made other (own (certify f t lined most)) =
+      inr (generation_idle other (own (certify f t lined most)) refl)
   certificates_apart_from_made other (own (scan most)) =
       inr (generation_idle other (own (scan most)) refl)
-  certificates_apart_from_made other (tell saying f t most) =
-      inr (generation_idle other (tell saying f t most) refl)
-  certificates_apart_from_made other (get f t path style most) =
-      inr (generation_idle other (get f t path style most) refl)
-  certificates_apart_from_made other (edit f t script compat most) =
-      inr (generation_idle other (edit f t script compat most) refl)
+  certificates_apart_from_made other (tell saying f t lined most) =
+      inr (generation_idle other (tell saying f t lined most) refl)
+  certificates_apart_from_made other (get f t path style lined most) =
+      inr (generation_idle other (get f t path style lined most) refl)
+  certificates_apart_from_made other (edit f t script compat lined most) =
+      inr (generation_idle other (edit f t script compat lined most) refl)
   certificates_apart_from_made other (dump most) =
       inr (generation_idle other (dump most) refl)
   certificates_apart_from_made other (compare most) =
@@ -107,9 +107,9 @@ module _ {D T E S : Type 0} (language : Language D T E) (Reads : ReadsSections S
 
 module _ {D T E : Type 0} (language : Language D T E) (SectionOf : SaysSections T) where
   pub sections_apart : AreApart (commands language) (certifying language SectionOf)
-  sections_apart (tell saying f t most) = inr (certifying_idle language SectionOf (tell saying f t most) refl)
-  sections_apart (get f t path style most) = inr (certifying_idle language SectionOf (get f t path style most) refl)
-  sections_apart (edit f t script compat most) = inr (certifying_idle language SectionOf (edit f t script compat most) refl)
+  sections_apart (tell saying f t lined most) = inr (certifying_idle language SectionOf (tell saying f t lined most) refl)
+  sections_apart (get f t path style lined most) = inr (certifying_idle language SectionOf (get f t path style lined most) refl)
+  sections_apart (edit f t script compat lined most) = inr (certifying_idle language SectionOf (edit f t script compat lined most) refl)
   sections_apart (dump most) = inr (certifying_idle language SectionOf (dump most) refl)
   sections_apart (compare most) = inr (certifying_idle language SectionOf (compare most) refl)
   sections_apart (own request) = inl (values_idle language request)
@@ -119,22 +119,22 @@ module _ {D T E : Type 0} (language : Language D T E) (SectionOf : SaysSections 
   pub sections_apart_from_texts :
       {D' T' E' : Type 0} (other : Language D' T' E') (TextOf : T' → List ℕ → Built → Type 0)
       → AreApart (building other TextOf) (certifying language SectionOf)
-  sections_apart_from_texts other TextOf (own (certify f t most)) =
-      inl (texts_idle other TextOf (own (certify f t most)) refl)
-  sections_apart_from_texts other TextOf (own (build f t)) =
-      inr (certifying_idle language SectionOf (own (build f t)) refl)
+  sections_apart_from_texts other TextOf (own (certify f t lined most)) =
+      inl (texts_idle other TextOf (own (certify f t lined most)) refl)
+  sections_apart_from_texts other TextOf (own (build f t lined)) =
+      inr (certifying_idle language SectionOf (own (build f t lined)) refl)
   sections_apart_from_texts other TextOf (own (generate n count t)) =
       inr (certifying_idle language SectionOf (own (generate n count t)) refl)
-  sections_apart_from_texts other TextOf (own (verify f t certificate most)) =
-      inr (certifying_idle language SectionOf (own (verify f t certificate most)) refl)
+  sections_apart_from_texts other TextOf (own (verify f t certificate lined most)) =
+      inr (certifying_idle language SectionOf (own (verify f t certificate lined most)) refl)
   sections_apart_from_texts other TextOf (own (scan most)) =
       inr (certifying_idle language SectionOf (own (scan most)) refl)
-  sections_apart_from_texts other TextOf (tell saying f t most) =
-      inr (certifying_idle language SectionOf (tell saying f t most) refl)
-  sections_apart_from_texts other TextOf (get f t path style most) =
-      inr (certifying_idle language SectionOf (get f t path style most) refl)
-  sections_apart_from_texts other TextOf (edit f t script compat most) =
-      inr (certifying_idle language SectionOf (edit f t script compat most) refl)
+  sections_apart_from_texts other TextOf (tell saying f t lined most) =
+      inr (certifying_idle language SectionOf (tell saying f t lined most) refl)
+  sections_apart_from_texts other TextOf (get f t path style lined most) =
+      inr (certifying_idle language SectionOf (get f t path style lined most) refl)
+  sections_apart_from_texts other TextOf (edit f t script compat lined most) =
+      inr (certifying_idle language SectionOf (edit f t script compat lined most) refl)
   sections_apart_from_texts other TextOf (dump most) =
       inr (certifying_idle language SectionOf (dump most) refl)
   sections_apart_from_texts other TextOf (compare most) =
@@ -144,22 +144,22 @@ module _ {D T E : Type 0} (language : Language D T E) (SectionOf : SaysSections 
       {D' T' E' S : Type 0} (other : Language D' T' E') (Reads : ReadsSections S)
       (ShownBy : T' → S → Tree → Shown → Type 0)
       → AreApart (verifying other Reads ShownBy) (certifying language SectionOf)
-  sections_apart_from_certificates other Reads ShownBy (own (certify f t most)) =
-      inl (certificates_idle other Reads ShownBy (own (certify f t most)) refl)
-  sections_apart_from_certificates other Reads ShownBy (own (build f t)) =
-      inr (certifying_idle language SectionOf (own (build f t)) refl)
+  sections_apart_from_certificates other Reads ShownBy (own (certify f t lined most)) =
+      inl (certificates_idle other Reads ShownBy (own (certify f t lined most)) refl)
+  sections_apart_from_certificates other Reads ShownBy (own (build f t lined)) =
+      inr (certifying_idle language SectionOf (own (build f t lined)) refl)
   sections_apart_from_certificates other Reads ShownBy (own (generate n count t)) =
       inr (certifying_idle language SectionOf (own (generate n count t)) refl)
-  sections_apart_from_certificates other Reads ShownBy (own (verify f t certificate most)) =
-      inr (certifying_idle language SectionOf (own (verify f t certificate most)) refl)
+  sections_apart_from_certificates other Reads ShownBy (own (verify f t certificate lined most)) =
+      inr (certifying_idle language SectionOf (own (verify f t certificate lined most)) refl)
   sections_apart_from_certificates other Reads ShownBy (own (scan most)) =
       inr (certifying_idle language SectionOf (own (scan most)) refl)
-  sections_apart_from_certificates other Reads ShownBy (tell saying f t most) =
-      inr (certifying_idle language SectionOf (tell saying f t most) refl)
-  sections_apart_from_certificates other Reads ShownBy (get f t path style most) =
-      inr (certifying_idle language SectionOf (get f t path style most) refl)
-  sections_apart_from_certificates other Reads ShownBy (edit f t script compat most) =
-      inr (certifying_idle language SectionOf (edit f t script compat most) refl)
+  sections_apart_from_certificates other Reads ShownBy (tell saying f t lined most) =
+      inr (certifying_idle language SectionOf (tell saying f t lined most) refl)
+  sections_apart_from_certificates other Reads ShownBy (get f t path style lined most) =
+      inr (certifying_idle language SectionOf (get f t path style lined most) refl)
+  sections_apart_from_certificates other Reads ShownBy (edit f t script compat lined most) =
+      inr (certifying_idle language SectionOf (edit f t script compat lined most) refl)
   sections_apart_from_certificates other Reads ShownBy (dump most) =
       inr (certifying_idle language SectionOf (dump most) refl)
   sections_apart_from_certificates other Reads ShownBy (compare most) =
@@ -170,19 +170,19 @@ module _ {D T E : Type 0} (language : Language D T E) (SectionOf : SaysSections 
       → AreApart (certifying language SectionOf) (generation other)
   sections_apart_from_made other (own (generate n count t)) =
       inl (certifying_idle language SectionOf (own (generate n count t)) refl)
-  sections_apart_from_made other (own (verify f t certificate most)) =
-      inr (generation_idle other (own (verify f t certificate most)) refl)
-  sections_apart_from_made other (own (certify f t most)) =
-      inr (generation_idle other (own (certify f t most)) refl)
-  sections_apart_from_made other (own (build f t)) = inr (generation_idle other (own (build f t)) refl)
+  sections_apart_from_made other (own (verify f t certificate lined most)) =
+      inr (generation_idle other (own (verify f t certificate lined most)) refl)
+  sections_apart_from_made other (own (certify f t lined most)) =
+      inr (generation_idle other (own (certify f t lined most)) refl)
+  sections_apart_from_made other (own (build f t lined)) = inr (generation_idle other (own (build f t lined)) refl)
   sections_apart_from_made other (own (scan most)) =
       inr (generation_idle other (own (scan most)) refl)
-  sections_apart_from_made other (tell saying f t most) =
-      inr (generation_idle other (tell saying f t most) refl)
-  sections_apart_from_made other (get f t path style most) =
-      inr (generation_idle other (get f t path style most) refl)
-  sections_apart_from_made other (edit f t script compat most) =
-      inr (generation_idle other (edit f t script compat most) refl)
+  sections_apart_from_made other (tell saying f t lined most) =
+      inr (generation_idle other (tell saying f t lined most) refl)
+  sections_apart_from_made other (get f t path style lined most) =
+      inr (generation_idle other (get f t path style lined most) refl)
+  sections_apart_from_made other (edit f t script compat lined most) =
+      inr (generation_idle other (edit f t script compat lined most) refl)
   sections_apart_from_made other (dump most) =
       inr (generation_idle other (dump most) refl)
   sections_apart_from_made other (compare most) =

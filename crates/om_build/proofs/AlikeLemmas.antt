@@ -97,7 +97,8 @@ module _ (t : TypeOver) (table : TypeTable) (made : IsTypeTable t.decls t.type t
   abbrev pub HasReason : LiteralFault → Type 0
   HasReason fault =
       (reason : Reason Ty) × AreText t lexemes end (Err reason)
-      × (literal_or_none (text_at table) (literal_reason fault) ≡ literal_text type_text reason)
+      × ((told : ℕ → List ℕ) → literal_or_none (text_at table) told (literal_reason fault)
+      ≡ literal_text type_text told reason)
 
   reason_too :
       (fault : LiteralFault) (reason : Reason ℕ) → literal_reason fault ≡ Some reason
@@ -108,8 +109,8 @@ module _ (t : TypeOver) (table : TypeTable) (made : IsTypeTable t.decls t.type t
     by (Err other, is, same) = (
       other,
       text_of_put t lexemes end (Err other) is,
-      ap (literal_or_none (text_at table)) told
-          ∙ literal_text_same t.decls t.type table made reason other same,
+      λ places. ap (literal_or_none (text_at table) places) told
+          ∙ literal_text_same t.decls t.type table made places reason other same,
     )
 
   misread_too : (fault : LiteralFault) → IsMisread table 0 lexemes end 0 fault → HasReason fault

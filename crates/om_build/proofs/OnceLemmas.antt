@@ -17,6 +17,7 @@ use Rattle.om_typing.proofs.OnceLemmas.{no_line_once}
 use Rattle.om_canonical.proofs.SameTree.{one_tree_only}
 use Rattle.om_format.specs.Canonical.{canon}
 use Rattle.om_format.specs.Iso.{IsTreeOf}
+use Rattle.om_lines.specs.Lines.{place_on}
 use Rattle.om_decl.specs.Text.{lexer_text}
 use Rattle.om_edit.specs.EditedValues.{Answer}
 use Rattle.om_edit.specs.Reasons.{Reason, literal_text}
@@ -71,21 +72,26 @@ module _ (line : List ℕ) where
     values_same graph others root other is its =
         let e = text_once (Ok (graph, root)) (Ok (others, other)) is its in cc e
 
-    blank_or_refused : (refusal : List ℕ) → Lexes line [] → IsRefused t line refusal → ⊥
+    blank_or_refused : (refusal : ℕ → List ℕ) → Lexes line [] → IsRefused t line refusal → ⊥
     blank_or_refused refusal none (inl (f, fault, is)) = lexed_or_fault [] f none fault
     blank_or_refused refusal none (inr (reason, is, told)) = blank_or_text (Err reason) none is
 
     value_or_refused :
-        (graph : List Obj) (root : Val) (refusal : List ℕ) → IsText t line (Ok (graph, root))
+        (graph : List Obj) (root : Val) (refusal : ℕ → List ℕ) → IsText t line (Ok (graph, root))
         → IsRefused t line refusal → ⊥
     value_or_refused graph root refusal text (inl (f, fault, is)) =
         text_or_fault (Ok (graph, root)) f text fault
     value_or_refused graph root refusal text (inr (reason, is, told)) =
         value_or_reason graph root reason text is
 
-    refused_once : (refusal other : List ℕ) → IsRefused t line refusal → IsRefused t line other → refusal ≡ other
+    refused_once :
+        (refusal other : ℕ → List ℕ) → IsRefused t line refusal → IsRefused t line other
+        → refusal ≡ other
     refused_once refusal other (inl (f, fault, is)) (inl (g, its, told)) =
-        is ∙ (ap lexer_text (faults_same f g fault its) ∙ sym told)
+        is
+        ∙ (ap {B = ℕ → List ℕ} (λ (f : LexFault) (number : ℕ). lexer_text (place_on t.lines number) f)
+        (faults_same f g fault its)
+        ∙ sym told)
     refused_once refusal other (inl (f, fault, is)) (inr (reason, its, told)) =
         absurd (text_or_fault (Err reason) f its fault)
     refused_once refusal other (inr (reason, its, told)) (inl (f, fault, is)) =
@@ -93,7 +99,10 @@ module _ (line : List ℕ) where
     refused_once refusal other (inr (reason, is, told)) (inr (others, its, told')) =
         let e = text_once (Err reason) (Err others) is its in
         let same : reason ≡ others = cc e in
-        told ∙ (ap (literal_text type_text) same ∙ sym told')
+        told
+        ∙ (ap {B = ℕ → List ℕ}
+        (λ (r : Reason Ty) (number : ℕ). literal_text type_text (place_on t.lines number) r) same
+        ∙ sym told')
 
     -- where no value has the type and a fault
     module _ (never_both : (graph : List Obj) (root : Val) (text : List ℕ)

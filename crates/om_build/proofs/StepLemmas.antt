@@ -1,5 +1,5 @@
 -- What comes of a line, in code: its value, or why there is none; and its bytes, or a halt.
-use Rattle.std.proofs.Common.{ℕ, ◌≡◌, ◌+◌, false, List, length, Option, Some, None, Result, Ok, Err, inl, inr, refl, sym, ◌∙◌, subst, arith}
+use Rattle.std.proofs.Common.{ℕ, ◌≡◌, ◌+◌, false, List, length, Option, Some, None, Result, Ok, Err, inl, inr, refl, sym, ap, ◌∙◌, subst, arith}
 use Rattle.std.specs.Prelude.{IsErrAnd}
 use Rattle.om_model.specs.declared.value.Val.{Val}
 use Rattle.om_model.specs.declared.value.Obj.{Obj}
@@ -7,7 +7,11 @@ use Rattle.om_format.specs.Canonical.{canon}
 use Rattle.om_format.specs.Iso.{IsTreeOf}
 use Rattle.om_format.specs.Compat.{TooLargeFor32, too_large_for_32}
 use Rattle.om_format.specs.Tree.{Tree}
-use Rattle.om_outcome.specs.Outcome.{Unedited, nothing_said}
+use Rattle.om_types.specs.TypeText.{type_text}
+use Rattle.om_lines.specs.Lines.{place_on}
+use Rattle.om_decl.specs.Text.{lexer_text}
+use Rattle.om_edit.specs.Reasons.{literal_text}
+use Rattle.om_outcome.specs.Outcome.{Unedited, text_line, nothing_said}
 use Rattle.om_edge.specs.State.{ByteState, Change, change}
 use Rattle.om_promises.proofs.PutLemmas.{puts_nothing}
 use Rattle.om_stops.specs.declared.stop.Halt.{Halt}
@@ -45,25 +49,33 @@ module _ (r : Requested) (ready : IsReady r) (line : List ℕ) (new : List Obj) 
 
   -- the line is refused, with the text of the fault
   pub line_refused :
-      (fault : TextFault) (text : List ℕ) → IsFaultText r.table fault text
+      (number : ℕ) (fault : TextFault) (text : List ℕ)
+      → IsFaultText r.table (place_on r.lines number) fault text
       → ReadsText r.table line new (Err fault)
-      → declared_texts (type_over r) line (refused text)
-  line_refused (faults.Lex fault) text told (none, is) = inl (fault, is, told)
-  line_refused (faults.Literal fault) text told (none, (lexemes, lexes, full, is)) =
-      let reason = fault_alike (type_over r) r.table ready.made lexemes (length line) fault is in
-      inr (
-        reason.0,
-        record { lexemes = lexemes; lexes = lexes; some = full; are = reason.1 },
-        told ∙ reason.2,
+      → (refusal : ℕ → List ℕ) × declared_texts (type_over r) line (refused refusal)
+      × (text ≡ refusal number)
+  line_refused number (faults.Lex fault) text told (none, is) =
+      (λ n. lexer_text (place_on r.lines n) fault, inl (fault, is, refl), told)
+  line_refused number (faults.Literal fault) text told (none, (lexemes, lexes, full, is)) =
+      let reason = fault_alike (type_over r) r.table ready.made lexemes (length line) fault is in (
+        λ n. literal_text type_text (place_on r.lines n) reason.0,
+        inr (
+          reason.0,
+          record { lexemes = lexemes; lexes = lexes; some = full; are = reason.1 },
+          refl,
+        ),
+        told ∙ reason.2 (place_on r.lines number),
       )
-  line_refused faults.Memory text told is = absurd told
+  line_refused number faults.Memory text told is = absurd told
 
   pub line_stops :
-      (number : ℕ) (fault : TextFault) (text : List ℕ) → IsFaultText r.table fault text
+      (number : ℕ) (fault : TextFault) (text : List ℕ)
+      → IsFaultText r.table (place_on r.lines number) fault text
       → ReadsText r.table line new (Err fault)
       → ReadsLine (type_over r) line number new (Err (halts.Stop (stops.Text number text)))
   line_stops number fault text told reads =
-      inr (text, line_refused fault text told reads, refl)
+      let why = line_refused number fault text told reads in
+      inr (why.0, why.1, ap (λ t. text_line number t) why.2)
 
 -- ---- what is put
 

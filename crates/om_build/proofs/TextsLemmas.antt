@@ -27,7 +27,7 @@ use Rattle.om_build.specs.Lines.{declared_texts}
 use Rattle.om_build.specs.Steps.{IsStopAt, HaltsAtLine, HasTexts, TakesLine}
 
 abbrev texts_stay : (t : TypeOver) → ItemsStay (building declared_types declared_texts) t
-texts_stay t bytes item more later (line, is, same) =
+texts_stay t items bytes item more later (line, is, same) =
     (line, line_stays bytes line more later is, same)
 
 pub stay : (t : TypeOver) → ItemsStay (building declared_types declared_texts) t
@@ -69,7 +69,7 @@ pub stops_by :
 stops_by t items lines k blank stop counts texts h = absurd h
 stops_by t items lines k (made bytes) stop counts texts h = absurd h
 stops_by t items lines k (refused refusal) stop counts texts h =
-    h ∙ ap (λ n. outcome.text_line n refusal) (next lines (length items) counts) where
+    h ∙ ap (λ n. outcome.text_line n (refusal n)) (next lines (length items) counts) where
       next : (a b : ℕ) → a ≡ b → a + 1 ≡ suc b
       next a b e = omega (arith, e)
 stops_by t items lines k (untyped fault) stop counts texts h = (k, texts, h)
@@ -77,12 +77,12 @@ stops_by t items lines k (untyped fault) stop counts texts h = (k, texts, h)
 -- ---- there are no more lines than bytes
 
 cut_long :
-    (t : TypeOver) (bytes : List ℕ) (items : List Item) (rest : List ℕ)
-    → Cut (building declared_types declared_texts) t bytes items rest
+    (t : TypeOver) (before : List Item) (bytes : List ℕ) (items : List Item) (rest : List ℕ)
+    → Cut (building declared_types declared_texts) t before bytes items rest
     → length items + length rest ≤ length bytes
-cut_long t bytes [] rest same = let e = ap length same in omega (arith, e)
-cut_long t bytes (item ∷ items) rest (more, (line, is, e), cut) =
-    let next = cut_long t more items rest cut in
+cut_long t before bytes [] rest same = let e = ap length same in omega (arith, e)
+cut_long t before bytes (item ∷ items) rest (more, (line, is, e), cut) =
+    let next = cut_long t (before ++ item ∷ []) more items rest cut in
     let size : length bytes ≡ length line + length (10 ∷ more) =
     ap length is.bytes_are ∙ length-append line (10 ∷ more) in
     omega (arith, next, size)
@@ -114,12 +114,12 @@ module _ (r : Requested) (held : List ℕ) (lines texts : ℕ) (bytes : List ℕ
 
   pub lines_few : lines ≤ length bytes
   lines_few =
-      let long = cut_long (type_over r) bytes h.items held h.first.cut in
+      let long = cut_long (type_over r) [] bytes h.items held h.first.cut in
       let e = h.counted in omega (arith, long, e)
 
   pub texts_few : texts ≤ length bytes
   texts_few =
-      let long = cut_long (type_over r) bytes h.items held h.first.cut in
+      let long = cut_long (type_over r) [] bytes h.items held h.first.cut in
       let few = few_texts (type_over r) h.items texts h.are_texts in omega (arith, long, few)
 
   -- one more piece, without a line feed

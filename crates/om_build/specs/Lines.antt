@@ -16,6 +16,7 @@ use Rattle.om_rigid.specs.Rigid.{HasEachInstance}
 use Rattle.om_format.specs.Canonical.{canon}
 use Rattle.om_format.specs.Iso.{IsTreeOf}
 use Rattle.om_format.specs.Tree.{Tree}
+use Rattle.om_lines.specs.Lines.{place_on}
 use Rattle.om_decl.specs.Text.{lexer_text}
 use Rattle.om_edit.specs.EditedValues.{Answer, IsLiteral, IsNoLiteral, IsMisread}
 use Rattle.om_edit.specs.Reasons.{Reason, no_literal, misread, literal_text}
@@ -63,12 +64,14 @@ module _ (t : TypeOver) where
       pub why : IsNoLine (declared_shapes t.decls) type_text graph root t.type fault
       pub some_not : ¬ HasEachInstance t.decls graph root t.type
 
-    -- it has no lexemes, for a fault of the lexer, or they are no literal of the type
-    abbrev pub IsRefused : List ℕ → Type 0
+    -- it has no lexemes, for a fault of the lexer, or they are no literal of the type; and this is
+    -- told, by the number of the line
+    abbrev pub IsRefused : (ℕ → List ℕ) → Type 0
     IsRefused refusal =
-        ((fault : LexFault) × Faults line fault × (refusal ≡ lexer_text fault))
+        ((fault : LexFault) × Faults line fault
+        × (refusal ≡ λ number. lexer_text (place_on t.lines number) fault))
         ⊎ ((reason : Reason Ty) × IsText (Err reason)
-        × (refusal ≡ literal_text type_text reason))
+        × (refusal ≡ λ number. literal_text type_text (place_on t.lines number) reason))
 
 -- what a line is
 abbrev pub declared_texts : TypeOver → List ℕ → Built → Type 0

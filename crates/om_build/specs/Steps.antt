@@ -25,18 +25,18 @@ use Rattle.om_declared.specs.declared.types.Requested.{Requested}
 use Rattle.om_texts.specs.Texts.{Built, blank, made, refused, untyped, counted, IsUnbroken, IsSaidOf, AreTexts, building}
 use Rattle.om_build.specs.Lines.{declared_texts, IsText}
 
--- the text of a fault; want of memory has none
-abbrev pub IsFaultText : TypeTable → TextFault → List ℕ → Type 0
-IsFaultText table (faults.Lex fault) text = text ≡ lexer_text fault
-IsFaultText table (faults.Literal fault) text =
-    text ≡ literal_or_none (text_at table) (literal_reason fault)
-IsFaultText table faults.Memory text = ⊥
+-- the text of a fault, where places are told so; want of memory has none
+abbrev pub IsFaultText : TypeTable → (told : ℕ → List ℕ) → TextFault → List ℕ → Type 0
+IsFaultText table told (faults.Lex fault) text = text ≡ lexer_text told fault
+IsFaultText table told (faults.Literal fault) text =
+    text ≡ literal_or_none (text_at table) told (literal_reason fault)
+IsFaultText table told faults.Memory text = ⊥
 
 -- line L, before which there are k texts, stops the run so
 abbrev pub IsStopAt : ℕ → ℕ → Built → outcome.Stop → Type 0
 IsStopAt line k blank stop = ⊥
 IsStopAt line k (made bytes) stop = ⊥
-IsStopAt line k (refused refusal) stop = stop ≡ text_line line refusal
+IsStopAt line k (refused refusal) stop = stop ≡ text_line line (refusal line)
 IsStopAt line k (untyped fault) stop = stop ≡ untyped_value k fault
 
 -- the line is blank, or a text of a value, whose objects are these; or the run stops
@@ -46,8 +46,8 @@ ReadsLine t text line new (Ok (Some root)) =
     IsValue (length new) root × IsText t text (Ok (new, root))
 ReadsLine t text line new (Err (halts.Stop stop)) =
     OrMemory (λ stop.
-    (refusal : List ℕ) × declared_texts t text (refused refusal)
-    × (stop_of stop ≡ text_line line refusal)) stop
+    (refusal : ℕ → List ℕ) × declared_texts t text (refused refusal)
+    × (stop_of stop ≡ text_line line (refusal line))) stop
 ReadsLine t text line new (Err halts.WriteFault) = ⊥
 
 -- what the line is comes to a stop, with its number and that of its text, and nothing is put; or

@@ -1,37 +1,34 @@
 //! The texts of the faults of lines.
 
-ghost use Rattle.std.specs.Prelude.{◌≡◌, ◌<◌, length, All, IfOk};
-ghost use Rattle.om_decl.specs.Text.{lexer_text as text_of_lexer};
+ghost use Rattle.std.specs.Prelude.{◌<◌, length, All, IfOk};
+ghost use Rattle.om_lines.specs.Lines.{place_on};
 ghost use Rattle.om_build.specs.Steps.{IsFaultText};
 
-use om_decl::{DeclFault, fault_text};
+use om_decl::lexer_text;
 use om_edit::literal_text;
-use om_lex::lexeme::LexFault;
+use om_lines::Places;
 use om_model::Memory;
 use om_model::list::List;
 use om_text::TextFault;
 use om_type_table::TypeTable;
 use std::alloc::Global;
 
-/// The text of a fault of the lexer.
-fn lexer_text(alloc: Global, fault: LexFault) -> Result<List<u8>, Memory>
-    ensures { IfOk result (λ text. text ≡ text_of_lexer fault) }
-{
-    fault_text(alloc, &DeclFault::Lex(fault))
-}
-
-/// The text of a fault. Want of memory has none.
+/// The text of a fault of the line of this number, whose places are told by line and column or not.
+/// Want of memory has none.
 pub fn line_fault_text(
     alloc: Global,
     table: &TypeTable,
+    lines: bool,
+    number: u64,
     fault: TextFault,
 ) -> Result<List<u8>, Memory>
     requires { All (λ i. i < length table.now.store) table.now.stored }
-    ensures { IfOk result (IsFaultText table.now fault) }
+    ensures { IfOk result (IsFaultText table.now (place_on lines number) fault) }
 {
+    let places = Places::of_line(lines, number);
     match fault {
-        TextFault::Lex(fault) => lexer_text(alloc, fault),
-        TextFault::Literal(fault) => literal_text(alloc, table, fault),
+        TextFault::Lex(fault) => lexer_text(alloc, &places, fault),
+        TextFault::Literal(fault) => literal_text(alloc, table, &places, fault),
         TextFault::Memory => Err(Memory),
     }
 }

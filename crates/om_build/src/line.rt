@@ -36,7 +36,7 @@ fn read_line(
         Ok(value) => Ok(value),
         Err(TextFault::Memory) => Err(Halt::Stop(Stop::Memory)),
         Err(fault) => {
-            let text = line_fault_text(alloc, &requested.table, fault)?;
+            let text = line_fault_text(alloc, &requested.table, requested.lines, number, fault)?;
             Err(Halt::Stop(Stop::Text(number, text)))
         }
     }

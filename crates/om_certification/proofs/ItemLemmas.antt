@@ -108,12 +108,12 @@ module _ {T : Type 0} (SectionOf : SaysSections T) (a : Certification T) where
 
     pub lawful_at : AreLawfulAt (certifying language SectionOf) a
     lawful_at = record {
-      first_once = item_once;
+      first_once = λ items. item_once;
       says_once = said_once;
       stops_once = stop_once;
       ends_once = end_reply_once;
-      front = item_front;
-      item_stays = item_stays language;
+      front = λ items. item_front;
+      item_stays = λ items. item_stays language;
       stop_stays = stop_stays;
       stops_inside = stop_inner;
       ends_inside = λ items bytes stop h. end_inner (length items) h.0 stop h.2;

@@ -5,7 +5,7 @@ use Rattle.om_model.specs.declared.refusal.ReadRefusal.{ReadRefusal}
 use Rattle.om_format.specs.Stream.{End, clean, refused, cut, IsTail}
 use Rattle.om_format.specs.Tree.{Tree}
 use Rattle.om_outcome.specs.CommandLine.{certify}
-use Rattle.om_outcome.specs.Outcome.{Request, own, Stop, value, Said, nothing_said, Reply, says, stops, Language, Then, ReadsTypeOf}
+use Rattle.om_outcome.specs.Outcome.{Request, AskedType, asked_type, own, Stop, value, Said, nothing_said, Reply, says, stops, Language, Then, ReadsTypeOf}
 use Rattle.om_outcome.specs.RefusalText.{refusal_text, truncated_text}
 use Rattle.om_promises.specs.Commands.{Item, value as value_item, Fetches, Commands}
 use Rattle.om_promises.specs.Lawful.{IsOnce}
@@ -51,15 +51,15 @@ module _ {T : Type 0} (SectionOf : SaysSections T) (a : Certification T) where
 -- FILE and TYPE, with the limit, where values are to be certified
 pub record Asked : Type 0 where
   pub file : List ℕ
-  pub type : List ℕ
+  pub type : AskedType
   pub limit : ℕ
 
 abbrev pub certified_by : Request → Option Asked
-certified_by (own (certify file type limit)) =
-    Some (record { file = file; type = type; limit = limit })
+certified_by (own (certify file type lines reading)) =
+    Some (record { file = file; type = asked_type type lines; limit = reading.limit })
 certified_by request = None
 
-abbrev pub typed_of : Asked → List ℕ × List ℕ
+abbrev pub typed_of : Asked → List ℕ × AskedType
 typed_of asked = (asked.file, asked.type)
 
 -- FILE and TYPE are read
@@ -87,7 +87,7 @@ module _ {D T E : Type 0} (language : Language D T E) (SectionOf : SaysSections 
     Wants = Wants;
     Finds = Finds;
     Reads = λ a. Unit {0};
-    IsFirst = λ a. IsFirstValue language a.limit;
+    IsFirst = λ a items. IsFirstValue language a.limit;
     Says = SaysOf SectionOf;
     Stops = StopsHere SectionOf;
     Ends = EndsHere SectionOf;

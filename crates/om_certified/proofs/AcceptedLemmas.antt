@@ -8,7 +8,7 @@ use Rattle.om_section.specs.declared.section.Section.{Section}
 use Rattle.om_section.specs.Format.{IsCertificate}
 use Rattle.om_section.specs.Laws.{texts_from, PutSectionsAreCertificates}
 use Rattle.om_cert_alike.specs.Alike.{ReachedTypesAreOne}
-use Rattle.om_outcome.specs.Outcome.{whole, found_of, own, verify, ending_of, Said, nothing_said, says, replies, all_well, texts_of}
+use Rattle.om_outcome.specs.Outcome.{whole, found_of, all_under, AskedType, asked_type, own, verify, ending_of, Said, nothing_said, says, replies, all_well, texts_of}
 use Rattle.om_edge.specs.Files.{contents_of}
 use Rattle.om_edge.specs.Sink.{Puts}
 use Rattle.om_promises.specs.Account.{IsWanted}
@@ -24,7 +24,8 @@ use Rattle.om_promises.proofs.EndedLemmas.{IsEnd, HasEnded, has_ended, held, tak
 use Rattle.om_promises.proofs.OnceLemmas.{prepares_once}
 use Rattle.om_promises.proofs.SettledLemmas.{Goes}
 use Rattle.om_promises.proofs.ValueLemmas.{and_true, all_well-snoc}
-use Rattle.om_declared.specs.Language.{TypeOver, declared_types, ReadsDeclarations, ReachesFew}
+use Rattle.om_declared.specs.Language.{TypeOver, declared_types, ReadsDeclarations, ReadsType, ReachesFew}
+use Rattle.om_declared.proofs.GivenLemmas.{lined, accepted_lined}
 use Rattle.om_certification.specs.Certification.{Asked}
 use Rattle.om_certifier.specs.Certified.{on_certified}
 use Rattle.om_verification.specs.Verification.{Verification}
@@ -35,7 +36,7 @@ use Rattle.om_certified.specs.Certified.{Certifies, Verifies, ConfirmsAll, PutCe
 use Rattle.om_certified.specs.Shown.{CertifiedAreShown}
 use Rattle.om_certified.proofs.LineLemmas.{sections_many, all_good, AreLines, all_lines}
 use Rattle.om_certified.proofs.PutLemmas.{ArePut, are_put, status_by}
-use Rattle.om_certified.proofs.StatedLemmas.{are_stated}
+use Rattle.om_certified.proofs.StatedLemmas.{AreSections, sections_lined, are_stated}
 use Rattle.om_certified.proofs.TakenLemmas.{AreGood, all_taken}
 
 -- ---- values and texts
@@ -106,8 +107,10 @@ module _ (told : Follow on_certified (AreAsTold on_certified)) (lawful : AreLawf
     certificate_is =
         put_once call certificate (ending_of e.all).out c.puts e.out ∙ p.out
 
-    declared : ReadsDeclarations contents (Ok p.decls)
-    declared = subst (λ text. ReadsDeclarations text (Ok p.decls)) (sym same_contents) p.declared
+    declared : ReadsDeclarations asked.type.lines contents (Ok p.decls)
+    declared =
+        subst (λ text. ReadsDeclarations asked.type.lines text (Ok p.decls)) (sym same_contents)
+        p.declared
 
     its_type : IsGiven declared_types p.t
     its_type = (contents, asked.type, p.decls, declared, p.written)
@@ -122,24 +125,40 @@ module _ (told : Follow on_certified (AreAsTold on_certified)) (lawful : AreLawf
     module _ (later_words : List (List ℕ)) (later : Call) (later_tells : TellsBytes later.input)
         (v : Verifies later_words later asked contents input certificate)
         (o : HasOutcome on_certificates later_words later input v.files) where
+      -- the type, at which places are told as they are asked for now
+      abbrev later_asked : AskedType
+      later_asked = asked_type asked.type.text v.lines
+
+      abbrev later_type : TypeOver
+      later_type = lined p.t v.lines
+
+      written : ReadsType p.decls later_asked (Ok later_type)
+      written = accepted_lined p.decls asked.type p.t v.lines p.written
+
+      given : IsGiven declared_types later_type
+      given = (contents, later_asked, p.decls, declared, written)
+
+      are : AreSections later_type p.trees p.sections
+      are = sections_lined p.t v.lines p.trees p.sections p.are
+
       abbrev its_work : Verification TypeOver Section
-      its_work = record { type = p.t; sections = p.sections; limit = v.limit }
+      its_work = record { type = later_type; sections = p.sections; limit = v.limit }
 
       prepared : Prepares on_certificates later_words (told_files v.files) (Ok its_work)
       prepared = (
-        Ok (own (verify asked.file asked.type v.name v.limit)),
+        Ok (own (verify asked.file asked.type.text v.name v.lines (all_under v.limit))),
         v.asks,
         (
           record {
             file = asked.file;
-            type = asked.type;
+            type = later_asked;
             certificate = v.name;
             limit = v.limit;
           },
           refl,
           (
-            Ok p.t,
-            (Ok contents, ap found_of v.holds, (Ok p.decls, declared, p.written)),
+            Ok later_type,
+            (Ok contents, ap found_of v.holds, (Ok p.decls, declared, written)),
             (
               Ok p.sections,
               (
@@ -174,7 +193,7 @@ module _ (told : Follow on_certified (AreAsTold on_certified)) (lawful : AreLawf
 
       module _ (s : SaysAll on_certificates its_work (whole input) o.all) where
         good : AreGood declared_sections its_work 0 p.trees
-        good = all_good shown its_work its_type 0 p.trees p.sections from_first p.are
+        good = all_good shown its_work given 0 p.trees p.sections from_first are
 
         many : length p.trees ≡ length p.sections
         many = sections_many p.t p.trees p.sections p.are
@@ -185,9 +204,9 @@ module _ (told : Follow on_certified (AreAsTold on_certified)) (lawful : AreLawf
             all_taken declared_sections its_work declared_types reads_sections input are_bytes
             p.trees (under_more asked.limit v.limit v.covers input p.trees [] values) good many o.all s
 
-        lines : AreLines shown its_work its_type [] p.trees p.sections o.all.said
+        lines : AreLines shown its_work given [] p.trees p.sections o.all.said
         lines =
-            all_lines shown its_work its_type 0 [] p.trees p.sections o.all.said from_first p.are
+            all_lines shown its_work given 0 [] p.trees p.sections o.all.said from_first are
             taken.0
 
         status : later.status ≡ call.status
@@ -198,8 +217,13 @@ module _ (told : Follow on_certified (AreAsTold on_certified)) (lawful : AreLawf
 
         confirms : ConfirmsAll asked contents input call later
         confirms = record {
-          type = p.t;
-          read = record { decls = p.decls; declared = declared; written = p.written };
+          type = later_type;
+          read = record {
+            lines = v.lines;
+            decls = p.decls;
+            declared = declared;
+            written = written;
+          };
           trees = p.trees;
           values = values;
           said = o.all.said;

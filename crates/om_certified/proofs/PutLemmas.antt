@@ -83,7 +83,7 @@ module _ (words : List (List ℕ)) (asked : Asked) (request : Request) (asks : A
     pub contents : List ℕ
     pub read : given.files 0 asked.file ≡ opened (whole contents)
     pub decls : List Decl
-    pub declared : ReadsDeclarations contents (Ok decls)
+    pub declared : ReadsDeclarations asked.type.lines contents (Ok decls)
     pub written : ReadsType decls asked.type (Ok t)
     pub ended : given.input.until ≡ at_end
     pub trees : List Tree
@@ -104,7 +104,7 @@ module _ (words : List (List ℕ)) (asked : Asked) (request : Request) (asks : A
 
   module _ (t : TypeOver) (contents : List ℕ)
       (read : given.files 0 asked.file ≡ opened (whole contents)) (decls : List Decl)
-      (declared : ReadsDeclarations contents (Ok decls))
+      (declared : ReadsDeclarations asked.type.lines contents (Ok decls))
       (written : ReadsType decls asked.type (Ok t)) where
     abbrev its_task : Certification TypeOver
     its_task = work_at t asked

@@ -24,6 +24,7 @@ use Rattle.om_cert.specs.Normal.{IsLeast}
 use Rattle.om_cert.specs.Verified.{fault_section}
 use Rattle.om_cert_alike.specs.Alike.{ReachedTypesAreOne, AreReachedAt}
 use Rattle.om_declared.specs.Language.{TypeOver, ReachesFew}
+use Rattle.om_declared.proofs.GivenLemmas.{lined}
 use Rattle.om_certifier.specs.Certified.{IsSectionOf}
 use Rattle.om_certified.proofs.GraphLemmas.{IsSmall, spelled_small}
 use Rattle.om_certified.proofs.PlaceLemmas.{path_small}
@@ -32,6 +33,20 @@ use Rattle.om_certified.proofs.PlaceLemmas.{path_small}
 abbrev pub AreSections : TypeOver → List Tree → List Section → Type 0
 AreSections t trees all =
     AllZip (λ tree section. IsSectionOf t (objects_of tree 0) (root tree 0) section) trees all
+
+-- however places are told
+pub sections_lined : (t : TypeOver) (lines : Bool) (trees : List Tree) (all : List Section)
+    → AreSections t trees all → AreSections (lined t lines) trees all
+sections_lined t lines [] [] h = h
+sections_lined t lines [] (s ∷ all) h = absurd h
+sections_lined t lines (tree ∷ trees) [] h = absurd h
+sections_lined t lines (tree ∷ trees) (s ∷ all) h =
+    (at s h.0, sections_lined t lines trees all h.1) where
+      at : (s : Section) → IsSectionOf t (objects_of tree 0) (root tree 0) s
+          → IsSectionOf (lined t lines) (objects_of tree 0) (root tree 0) s
+      at (sections.Pairs pairs) is = record { has = is.has; each = is.each; are = is.are }
+      at (sections.Misfit path) is = record { least = is.least; some_not = is.some_not }
+      at (sections.Clash first second) is = record { least = is.least; some_not = is.some_not }
 
 -- ---- paths
 

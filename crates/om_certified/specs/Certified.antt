@@ -1,11 +1,12 @@
 -- What `check --cert` put is the certificate of `verify`: of the same input, at the same FILE and
 -- TYPE, it is accepted, and the lines of `check` come out.
-use Rattle.std.specs.Prelude.{ℕ, ◌≤◌, ◌≡◌, ◌≢◌, ◌⊎◌, List, [], ◌++◌, Some, Ok}
+use Rattle.std.specs.Prelude.{ℕ, ◌≤◌, ◌≡◌, ◌≢◌, ◌⊎◌, Bool, List, [], ◌++◌, Some, Ok}
 use Rattle.om_types.specs.declared.decl.Decl.{Decl}
 use Rattle.om_format.specs.Stream.{SpellAll}
 use Rattle.om_format.specs.Tree.{Tree}
 use Rattle.om_outcome.specs.declared.status.Status.TheVariants.{Well, No, Memory}
-use Rattle.om_outcome.specs.Outcome.{Request, own, verify, Asks, the_verdict, tells, Said, texts_of, AllSay}
+use Rattle.om_outcome.specs.CommandLine.{reading_of}
+use Rattle.om_outcome.specs.Outcome.{Request, all_under, asked_type, own, verify, Asks, the_verdict, tells, Said, texts_of, AllSay}
 use Rattle.om_edge.specs.Files.{File, contents_of}
 use Rattle.om_edge.specs.Sink.{Puts}
 use Rattle.om_promises.specs.Call.{Call, HasPut}
@@ -15,13 +16,15 @@ use Rattle.om_promises.specs.Outside.{IsHonest}
 use Rattle.om_declared.specs.Language.{TypeOver, ReadsDeclarations, ReadsType, declared_types}
 use Rattle.om_certification.specs.Certification.{Asked, certified_by}
 
--- The words ask to certify the values of the input at FILE and TYPE, each under the limit, and the
--- call went to the input's end; its input, what FILE holds, and what it put on out are told.
+-- The words ask to certify the values of the input at FILE and TYPE, each under the limit, from its
+-- first byte on, and the call went to the input's end; its input, what FILE holds, and what it put
+-- on out are told.
 pub record Certifies (words : List (List ℕ)) (call : Call)
     (asked : Asked) (contents input certificate : List ℕ) : Type 0 where
   pub request : Request
   pub asks : Asks words request
   pub is_asked : certified_by request ≡ Some asked
+  pub at_once : (reading_of request).skip ≡ 0
   pub ended : (call.status ≡ Well) ⊎ (call.status ≡ No)
   pub files : List File
   pub map : call.files.before.map ≡ Some files
@@ -35,8 +38,9 @@ pub record Certifies (words : List (List ℕ)) (call : Call)
 pub record Verifies (words : List (List ℕ)) (call : Call) (asked : Asked)
     (contents input certificate : List ℕ) : Type 0 where
   pub name : List ℕ
+  pub lines : Bool
   pub limit : ℕ
-  pub asks : Asks words (own (verify asked.file asked.type name limit))
+  pub asks : Asks words (own (verify asked.file asked.type.text name lines (all_under limit)))
   pub covers : asked.limit ≤ limit
   pub files : List File
   pub holds : contents_of files asked.file ≡ Some contents
@@ -44,18 +48,19 @@ pub record Verifies (words : List (List ℕ)) (call : Call) (asked : Asked)
   pub honest : IsHonest call input files
   pub suffices : call.status ≢ Memory
 
--- what FILE holds and TYPE are this type
+-- what FILE holds and TYPE are this type, however places are told
 pub record AreReadAs (contents type : List ℕ) (t : TypeOver) : Type 0 where
+  pub lines : Bool
   pub decls : List Decl
-  pub declared : ReadsDeclarations contents (Ok decls)
-  pub written : ReadsType decls type (Ok t)
+  pub declared : ReadsDeclarations lines contents (Ok decls)
+  pub written : ReadsType decls (asked_type type lines) (Ok t)
 
 -- The input is values, one after another, each under the limit; the later call put the lines of
 -- `check` on each, in this order, and ended as the first one.
 pub record ConfirmsAll (asked : Asked) (contents input : List ℕ) (call later : Call)
     : Type 0 where
   pub type : TypeOver
-  pub read : AreReadAs contents asked.type type
+  pub read : AreReadAs contents asked.type.text type
   pub trees : List Tree
   pub values : SpellAll asked.limit input trees []
   pub said : List Said

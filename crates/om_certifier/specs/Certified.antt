@@ -17,6 +17,8 @@ use Rattle.om_outcome.specs.Outcome.{Said}
 use Rattle.om_promises.specs.Commands.{Commands}
 use Rattle.om_declared.specs.Language.{TypeOver, declared_types}
 use Rattle.om_certification.specs.Certification.{Certification, SaysSections, certifying}
+use Rattle.om_passing.specs.Asked.{passed_by}
+use Rattle.om_passing.specs.Skipping.{Passed, skipping}
 
 module _ (t : TypeOver) (graph : List Obj) (v : Val) where
   -- The value has the type, and each closed instance of it; and by a table of the types that the
@@ -59,6 +61,9 @@ abbrev pub declared_certificates : SaysSections TypeOver
 declared_certificates t number tree said =
     SaysSection t number (objects_of tree 0) (root tree 0) said
 
--- the command at declared types
+-- the command at declared types, and after the bytes that the words ask to pass over
 abbrev pub on_certified : Commands (Certification TypeOver)
 on_certified = certifying declared_types declared_certificates
+
+abbrev pub on_certified_after : Commands (Passed × Certification TypeOver)
+on_certified_after = skipping passed_by on_certified

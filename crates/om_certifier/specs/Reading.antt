@@ -1,5 +1,5 @@
 -- What has been read of the values, and said of them, as their bytes come.
-use Rattle.std.specs.Prelude.{ℕ, ◌<◌, ◌≡◌, ◌≢◌, ◌⊎◌, Bool, List, [], ◌∷◌, ◌++◌, length, Result, Ok, Err}
+use Rattle.std.specs.Prelude.{ℕ, ◌<◌, ◌≡◌, ◌≢◌, ◌⊎◌, Bool, false, List, [], ◌∷◌, ◌++◌, length, Result, Ok, Err}
 use Rattle.om_model.specs.declared.refusal.ReadRefusal.{ReadRefusal}
 use Rattle.om_model.specs.declared.refusal.ReadRefusal.TheVariants as refusals
 use Rattle.om_model.specs.declared.value.Obj.{Obj}
@@ -23,11 +23,18 @@ use Rattle.om_declared.specs.declared.types.Requested.{Requested}
 use Rattle.om_declared.specs.Language.{TypeOver}
 use Rattle.om_declared.specs.Types.{type_over, IsReady}
 use Rattle.om_certification.specs.Certification.{Certification}
+use Rattle.om_outcome.specs.declared.reading.Reading.{Reading}
+use Rattle.om_passing.specs.Skipping.{Passed}
 use Rattle.om_certifier.specs.Certified.{SaysSection, on_certified}
 
 -- what is done
 abbrev pub certified : Requested → ℕ → Certification TypeOver
 certified r limit = record { type = type_over r; limit = limit }
+
+-- and what is passed over before
+abbrev pub certified_after : Requested → Reading → Passed × Certification TypeOver
+certified_after r reading =
+    (record { bytes = reading.skip; copied = false }, certified r reading.limit)
 
 -- the stop of value k that is refused, where it is not for out of memory
 abbrev pub IsStopOf : ℕ → ReadRefusal → Stop → Type 0

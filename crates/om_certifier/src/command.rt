@@ -10,14 +10,17 @@ ghost use Rattle.om_promises.specs.Account.{Account};
 ghost use Rattle.om_promises.specs.Call.{call};
 ghost use Rattle.om_work.specs.Reported.{HasAccount};
 ghost use Rattle.om_declared.specs.Types.{IsReady};
-ghost use Rattle.om_certifier.specs.Certified.{on_certified};
-ghost use Rattle.om_certifier.specs.Reading.{certified};
+ghost use Rattle.om_certifier.specs.Certified.{on_certified_after};
+ghost use Rattle.om_certifier.specs.Reading.{certified_after};
 
 use crate::values::Certifying;
 use om_certify::Leasts;
 use om_declared::{Requested, find_type};
 use om_edge::{Opener, Sink, Source};
+use om_outcome::reading::Reading;
 use om_outcome::status::Status;
+use om_passer::{Over, Passing};
+use om_passing::laws::ByWords;
 use om_stops::stop::{Stop, report_stop};
 use om_work::run_reported;
 use std::alloc::Global;
@@ -27,39 +30,44 @@ fn certify_values<S: Source, K: Sink, E: Sink>(
     alloc: Global,
     requested: &Requested,
     leasts: &Leasts,
-    limit: u64,
+    reading: Reading,
     input: &mut S,
     out: &mut K,
     err: &mut E,
 ) -> Status
     requires ready { IsReady requested.now }
     requires leasts { AreLeasts (table_of requested.now.table) leasts.now }
-    ensures { HasAccount on_certified (certified requested.now limit)
+    ensures { HasAccount on_certified_after (certified_after requested.now reading)
         (change (S.state input.old) (S.state input.new))
         (change (K.state out.old) (K.state out.new)) (change (E.state err.old) (E.state err.new))
         result }
 {
-    let mut work = Certifying::new(alloc, requested, leasts, limit);
-    run_reported(alloc, &mut work, input, out, err)
+    let work = Certifying::new(alloc, requested, leasts, reading.limit);
+    let over = Over {
+        bytes: reading.skip,
+        copied: false,
+    };
+    let mut passing = Passing::<ByWords, _>::new(work, over);
+    run_reported(alloc, &mut passing, input, out, err)
 }
 
 // Finds those numbers, and certifies the values.
 fn certify_by<S: Source, K: Sink, E: Sink>(
     alloc: Global,
     requested: &Requested,
-    limit: u64,
+    reading: Reading,
     input: &mut S,
     out: &mut K,
     err: &mut E,
 ) -> Status
     requires { IsReady requested.now }
-    ensures { HasAccount on_certified (certified requested.now limit)
+    ensures { HasAccount on_certified_after (certified_after requested.now reading)
         (change (S.state input.old) (S.state input.new))
         (change (K.state out.old) (K.state out.new)) (change (E.state err.old) (E.state err.new))
         result }
 {
     match Leasts::of(alloc, &requested.table) {
-        Ok(leasts) => certify_values(alloc, requested, &leasts, limit, input, out, err),
+        Ok(leasts) => certify_values(alloc, requested, &leasts, reading, input, out, err),
         Err(_) => report_stop(alloc, err, &Stop::Memory),
     }
 }
@@ -68,18 +76,18 @@ fn certify_by<S: Source, K: Sink, E: Sink>(
 fn certify_over<S: Source, K: Sink, E: Sink>(
     alloc: Global,
     requested: Requested,
-    limit: u64,
+    reading: Reading,
     input: &mut S,
     out: &mut K,
     err: &mut E,
 ) -> Status
     requires { IsReady requested }
-    ensures { HasAccount on_certified (certified requested limit)
+    ensures { HasAccount on_certified_after (certified_after requested reading)
         (change (S.state input.old) (S.state input.new))
         (change (K.state out.old) (K.state out.new)) (change (E.state err.old) (E.state err.new))
         result }
 {
-    certify_by(alloc, &requested, limit, input, out, err)
+    certify_by(alloc, &requested, reading, input, out, err)
 }
 
 /// Reads FILE and TYPE, and certifies the values.
@@ -87,22 +95,23 @@ pub fn certify<S: Source, O: Opener, K: Sink, E: Sink>(
     alloc: Global,
     file: &str,
     type_text: &str,
-    limit: u64,
+    lines: bool,
+    reading: Reading,
     input: &mut S,
     files: &mut O,
     out: &mut K,
     err: &mut E,
 ) -> Status
     ensures { (words : List (List ℕ))
-        → Asks words (own (certify_of file.now type_text.now limit))
-        → Account on_certified words
+        → Asks words (own (certify_of file.now type_text.now lines reading))
+        → Account on_certified_after words
         (call (change (S.state input.old) (S.state input.new))
         (change (O.state files.old) (O.state files.new))
         (change (K.state out.old) (K.state out.new))
         (change (E.state err.old) (E.state err.new)) result) }
 {
-    match find_type(alloc, files, file, type_text) {
-        Ok(requested) => certify_over(alloc, requested, limit, input, out, err),
+    match find_type(alloc, files, file, type_text, lines) {
+        Ok(requested) => certify_over(alloc, requested, reading, input, out, err),
         Err(stop) => report_stop(alloc, err, &stop),
     }
 }

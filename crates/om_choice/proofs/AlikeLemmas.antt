@@ -13,8 +13,8 @@ use Rattle.om_promises.specs.Outside.{IsUnsaid}
 -- the same is said of an input, whether this or that is done
 pub record IsAlike {A B : Type 0} (c : Commands A) (d : Commands B) (a : A) (b : B) : Type 0 where
   pub reads : c.Reads a ↔ d.Reads b
-  pub first : (bytes : List ℕ) (item : Item) (more : List ℕ)
-      → c.IsFirst a bytes item more ↔ d.IsFirst b bytes item more
+  pub first : (items : List Item) (bytes : List ℕ) (item : Item) (more : List ℕ)
+      → c.IsFirst a items bytes item more ↔ d.IsFirst b items bytes item more
   pub says : (items : List Item) (item : Item) (said : Said)
       → c.Says a items item said ↔ d.Says b items item said
   pub stops : (items : List Item) (bytes : List ℕ) (stop : Stop)
@@ -37,11 +37,11 @@ pub record AreAlike {A B : Type 0} (c : Commands A) (d : Commands B) (Asked : Re
 other_way : {P Q : Type 0} → P ↔ Q → Q ↔ P
 other_way same = (same.1, same.0)
 
-is_alike_back : {A B : Type 0} (c : Commands A) (d : Commands B) (a : A) (b : B) → IsAlike c d a b
+pub is_alike_back : {A B : Type 0} (c : Commands A) (d : Commands B) (a : A) (b : B) → IsAlike c d a b
     → IsAlike d c b a
 is_alike_back c d a b same = record {
   reads = other_way same.reads;
-  first = λ bytes item more. other_way (same.first bytes item more);
+  first = λ items bytes item more. other_way (same.first items bytes item more);
   says = λ items item said. other_way (same.says items item said);
   stops = λ items bytes stop. other_way (same.stops items bytes stop);
   ends = λ items bytes last. other_way (same.ends items bytes last);
@@ -66,11 +66,14 @@ module _ {A B : Type 0} (c : Commands A) (d : Commands B) where
   -- ---- the input
 
   module _ (a : A) (b : B) (same : IsAlike c d a b) where
-    cut_too : (bytes : List ℕ) (items : List Item) (rest : List ℕ) → Cut c a bytes items rest
-        → Cut d b bytes items rest
-    cut_too bytes [] rest h = h
-    cut_too bytes (item ∷ items) rest (more, is, h) =
-        (more, (same.first bytes item more).0 is, cut_too more items rest h)
+    cut_too : (before : List Item) (bytes : List ℕ) (items : List Item) (rest : List ℕ)
+        → Cut c a before bytes items rest → Cut d b before bytes items rest
+    cut_too before bytes [] rest h = h
+    cut_too before bytes (item ∷ items) rest (more, is, h) = (
+      more,
+      (same.first before bytes item more).0 is,
+      cut_too (before ++ item ∷ []) more items rest h,
+    )
 
     all_say_too : (before items : List Item) (said : List Said) → AllSay c a before items said
         → AllSay d b before items said
@@ -80,19 +83,19 @@ module _ {A B : Type 0} (c : Commands A) (d : Commands B) where
     all_say_too before (item ∷ items) (s ∷ said) (is, h) =
         ((same.says before item s).0 is, all_say_too (before ++ item ∷ []) items said h)
 
-    says_first_too : (bytes : List ℕ) (items : List Item) (said : List Said) (rest : List ℕ)
+    pub says_first_too : (bytes : List ℕ) (items : List Item) (said : List Said) (rest : List ℕ)
         → SaysFirst c a bytes items said rest → SaysFirst d b bytes items said rest
     says_first_too bytes items said rest h =
         record {
-          cut = cut_too bytes items rest h.cut;
+          cut = cut_too [] bytes items rest h.cut;
           all_say = all_say_too [] items said h.all_say;
         }
 
-    goes_on_too : (items : List Item) (rest : List ℕ) → GoesOn c a items rest
+    pub goes_on_too : (items : List Item) (rest : List ℕ) → GoesOn c a items rest
         → GoesOn d b items rest
     goes_on_too items rest h = record {
       no_stop = λ stop at. h.no_stop stop ((same.stops items rest stop).1 at);
-      no_item = λ item more is. h.no_item item more ((same.first rest item more).1 is);
+      no_item = λ item more is. h.no_item item more ((same.first items rest item more).1 is);
     }
 
     hold_too : (bytes : List ℕ) (said : List Said) → HoldNoStop c a bytes said

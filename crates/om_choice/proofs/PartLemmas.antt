@@ -38,7 +38,7 @@ module _ {A B : Type 0} (c : Commands A) (d : Commands B) where
   first_same : (a : A) → IsAlike c (choice c d) a (inl a)
   first_same a = record {
     reads = (λ h. h, λ h. h);
-    first = λ bytes item more. (λ h. h, λ h. h);
+    first = λ items bytes item more. (λ h. h, λ h. h);
     says = λ items item said. (λ h. h, λ h. h);
     stops = λ items bytes stop. (λ h. h, λ h. h);
     ends = λ items bytes last. (λ h. h, λ h. h);
@@ -47,7 +47,7 @@ module _ {A B : Type 0} (c : Commands A) (d : Commands B) where
   second_same : (b : B) → IsAlike d (choice c d) b (inr b)
   second_same b = record {
     reads = (λ h. h, λ h. h);
-    first = λ bytes item more. (λ h. h, λ h. h);
+    first = λ items bytes item more. (λ h. h, λ h. h);
     says = λ items item said. (λ h. h, λ h. h);
     stops = λ items bytes stop. (λ h. h, λ h. h);
     ends = λ items bytes last. (λ h. h, λ h. h);

@@ -22,7 +22,7 @@ module _ {A B : Type 0} (c : Commands A) (d : Commands B) where
   Reads (inl a) = c.Reads a
   Reads (inr b) = d.Reads b
 
-  abbrev pub IsFirst : A ⊎ B → List ℕ → Item → List ℕ → Type 0
+  abbrev pub IsFirst : A ⊎ B → List Item → List ℕ → Item → List ℕ → Type 0
   IsFirst (inl a) = c.IsFirst a
   IsFirst (inr b) = d.IsFirst b
 

@@ -1,21 +1,21 @@
--- Words that clap accepts ask for something.
-use Rattle.std.proofs.Common.{◌≡◌, ◌∙◌, ◌||◌, ◌&&◌, ℕ, Bool, true, false, not, List, [], ◌∷◌, Some, codes, refl, sym, ap, subst, arith}
-use Rattle.std.specs.Prelude.{if◌then◌else◌}
+-- Words that clap accepts are read as something.
+use Rattle.std.proofs.Common.{◌≡◌, ◌∙◌, ◌||◌, ◌&&◌, ℕ, Bool, true, false, not, List, [], ◌∷◌, Option, Some, None, codes, refl, sym, ap, subst, arith}
+use Rattle.std.specs.Prelude.{if◌then◌else◌, option_and_then}
 use Rattle.std.specs.List.{list_any}
 use Rattle.std.specs.Str.{bytes_eq}
 use Rattle.std.specs.Str.Parse.{digits_value, without_leading_plus}
 use Rattle.std.proofs.lemmas.Slice.Eq.{bytes_eq-Decides}
-use Rattle.clap.specs.Walk.{Row, Rule, Text, arg_by_id, has_row, nothing_held, one_of, rows_after, settled, walk}
+use Rattle.clap.specs.Walk.{Row, Rule, Text, arg_by_id, has_row, nothing_held, one_of, row_text, rows_after, settled, walk}
 use Rattle.clap.specs.Takes.{is_given}
 use Rattle.clap.specs.Faults.{level_fault}
 use Rattle.clap.specs.ValueTests.{accepts}
 use Rattle.clap.specs.Words.{fault_of}
 use Rattle.clap.specs.declared.builder.value_parser.ValueParser.TheVariants.{Unsigned}
 use Rattle.clap.proofs.ValueTestLemmas.{accepts-Accepts}
-use Rattle.om_outcome.specs.CommandLine.{Argument, flag, option, wanted, number, Asking, Form, HasArguments, HasFlag, HasNumber, Request, Asks, command_set, form_of}
-use Rattle.om_command_line.proofs.LevelLemmas.{AreRead, given_has, row_read}
+use Rattle.om_outcome.specs.CommandLine.{Argument, flag, option, optional, wanted, number, Asking, Form, HasArguments, HasFlag, HasNumber, MayHaveNumber, Request, AreReadAs, command_set, form_of}
+use Rattle.om_command_line.proofs.LevelLemmas.{AreRead, given_has, none_of, row_read}
 use Rattle.om_command_line.proofs.LevelWalkLemmas.{HaveRows, all_defaults, rows_hold}
-use Rattle.om_command_line.proofs.RequestLemmas.{asks_by}
+use Rattle.om_command_line.proofs.RequestLemmas.{reads_by}
 use Rattle.om_command_line.proofs.SetLemmas.{form_fits, leaf_of, named_fault, named_met, rules_of}
 use Rattle.om_command_line.proofs.TableLemmas.{AreFound, all_found, each_own, neither, next_place, no_short, ruled, rules_from}
 use Rattle.om_command_line.proofs.TopLemmas.{both_none, words_begin}
@@ -46,6 +46,16 @@ module _ (c : List Rule) (rows : List Row) (are : AreRead c rows) where
       let told = either_word read.0 read.3 in
       (told.0, read.1 ∙ ap (λ t. Some t) told.1)
 
+  optional_there : (i : ℕ) (name : Text) (greatest : ℕ) → arg_by_id c name ≡ Some (ruled i (optional name greatest)) → (n : Option ℕ) × MayHaveNumber rows name greatest n
+  optional_there i name greatest found = go (has_row name rows) refl
+    where
+      go : (b : Bool) → has_row name rows ≡ b → (n : Option ℕ) × MayHaveNumber rows name greatest n
+      go true has =
+          let read = row_read c name rows are has (ruled i (optional name greatest)) found in
+          let told = number_there rows name greatest read.0 read.2 read.3 in
+          (Some told.0, told.1)
+      go false absent = (None, ap (option_and_then row_text) (none_of name rows absent))
+
   pub arguments_there : (i : ℕ) (arguments : List Argument) (asks : Asking arguments) → AreFound c i arguments → HaveRows arguments rows
       → list_any (λ a. a.required && not (is_given a.id rows)) (rules_from i arguments) ≡ false → (request : Request) × HasArguments arguments asks rows request
   arguments_there i [] asked found have given = (asked, refl)
@@ -57,6 +67,10 @@ module _ (c : List Rule) (rows : List Row) (are : AreRead c rows) where
       let read = row_read c name rows are has (ruled i (option name greatest usual)) here.0 in
       let told = number_there rows name greatest read.0 read.2 read.3 in
       let later = arguments_there (next_place i (option name greatest usual)) rest (asks told.0) more have given in
+      (later.0, (told.0, told.1, later.1))
+  arguments_there i (optional name greatest ∷ rest) asks (here, more) have given =
+      let told = optional_there i name greatest here.0 in
+      let later = arguments_there (next_place i (optional name greatest)) rest (asks told.0) more have given in
       (later.0, (told.0, told.1, later.1))
   arguments_there i (wanted name ∷ rest) asks (here, more) have given =
       let all = neither (not (is_given name rows)) (list_any (λ a. a.required && not (is_given a.id rows)) (rules_from (next_place i (wanted name)) rest)) given in
@@ -71,7 +85,7 @@ module _ (c : List Rule) (rows : List Row) (are : AreRead c rows) where
       (later.0, (told.0, told.1, later.1))
 
 -- a command's name with words after it, in which clap finds no fault
-command_accepted : (form : Form) → form_of form.name ≡ Some form → (rest : List Text) → fault_of command_set (form.name ∷ rest) ≡ [] → (request : Request) × Asks (form.name ∷ rest) request
+command_accepted : (form : Form) → form_of form.name ≡ Some form → (rest : List Text) → fault_of command_set (form.name ∷ rest) ≡ [] → (request : Request) × AreReadAs (form.name ∷ rest) request
 command_accepted form found rest none =
     let level = (both_none (level_fault (leaf_of form) [] nothing_held rest false []) [] (sym (named_fault form found rest) ∙ none)).0 in
     let fits = form_fits form.name form found in
@@ -79,10 +93,10 @@ command_accepted form found rest none =
     let hold = rows_hold form.name (rules_of form) (each_own (rules_of form) 1 form.arguments are) (no_short 1 form.arguments) rest level in
     let last = all_defaults (rules_of form) 1 form.arguments are fits.0 (settled (rules_of form) (walk (rules_of form) [] nothing_held rest).held).rows hold.0 in
     let there = arguments_there (rules_of form) (rows_after (rules_of form) [] rest) last.0 1 form.arguments form.asks are last.1 hold.1 in
-    (there.0, asks_by (form.name ∷ rest) there.0 form.name (rows_after (rules_of form) [] rest) (none, named_met form found rest) (form, found, there.1))
+    (there.0, reads_by (form.name ∷ rest) there.0 form.name (rows_after (rules_of form) [] rest) (none, named_met form found rest) (form, found, there.1))
 
-pub accepted_words_ask : (words : List Text) → fault_of command_set words ≡ [] → (request : Request) × Asks words request
-accepted_words_ask words none =
+pub accepted_words_are_read : (words : List Text) → fault_of command_set words ≡ [] → (request : Request) × AreReadAs words request
+accepted_words_are_read words none =
     let begin = words_begin words none in
-    let asks = command_accepted begin.0 begin.3 begin.1 (subst (λ w. fault_of command_set w ≡ []) begin.2 none) in
-    (asks.0, subst (λ w. Asks w asks.0) (sym begin.2) asks.1)
+    let read = command_accepted begin.0 begin.3 begin.1 (subst (λ w. fault_of command_set w ≡ []) begin.2 none) in
+    (read.0, subst (λ w. AreReadAs w read.0) (sym begin.2) read.1)

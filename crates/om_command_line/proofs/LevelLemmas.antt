@@ -1,6 +1,7 @@
 -- What the rows of a command hold, where clap finds no fault: each has one value, which its argument accepts.
 use Rattle.std.proofs.Common.{◌≡◌, ◌∙◌, inl, inr, ◌==◌, ◌||◌, ◌&&◌, Bool, true, false, not, List, [], ◌∷◌, ◌++◌, Some, None, codes, length, refl, sym, ap, subst, arith}
 use Rattle.std.specs.Prelude.{if◌then◌else◌, option_map, slice_get}
+use Rattle.std.specs.List.{find}
 use Rattle.std.specs.Str.{bytes_eq}
 use Rattle.std.proofs.lemmas.Bool.{ne_eqb}
 use Rattle.std.proofs.lemmas.Slice.Eq.{bytes_eq-Decides}
@@ -34,6 +35,11 @@ no_kind false k none = cc none
 
 at_row_past : (id : Text) (change : Row → List Row) (missing : List Row) (r : Row) (rs : List Row) → bytes_eq r.id id ≡ false → at_row id change missing (r ∷ rs) ≡ r ∷ at_row id change missing rs
 at_row_past id change missing r rs other = ap (λ b. if b then change r ++ rs else r ∷ at_row id change missing rs) other
+
+-- a name that no row has
+pub none_of : (name : Text) (rows : List Row) → has_row name rows ≡ false → find (λ r. bytes_eq r.id name) rows ≡ None
+none_of name [] absent = refl
+none_of name (r ∷ rs) absent = let apart = neither (bytes_eq r.id name) (has_row name rs) absent in rw apart.0 (none_of name rs apart.1)
 
 -- a row of a new name comes last
 pub added_last : (id : Text) (change : Row → List Row) (new : Row) (rs : List Row) → has_row id rs ≡ false → at_row id change (new ∷ []) rs ≡ rs ++ new ∷ []

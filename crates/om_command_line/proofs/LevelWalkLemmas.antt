@@ -11,7 +11,7 @@ use Rattle.clap.specs.Faults.{check_fault, defaults_fault, flag_word_fault, leve
 use Rattle.clap.specs.Kinds.{or_else}
 use Rattle.clap.specs.declared.builder.range.ValueRange.{ValueRange}
 use Rattle.clap.specs.declared.error.kind.ErrorKind.TheVariants as kind
-use Rattle.om_outcome.specs.CommandLine.{Argument, flag, option, wanted, number}
+use Rattle.om_outcome.specs.CommandLine.{Argument, flag, option, optional, wanted, number}
 use Rattle.om_command_line.proofs.LevelLemmas.{AreRead, default_has, default_keeps, default_read, no_kinds, use_read}
 use Rattle.om_command_line.proofs.SetLemmas.{leaf}
 use Rattle.om_command_line.proofs.TableLemmas.{AreFound, IsFound, IsOwn, TakesOne, IsFlag, both, is_lawful, are_lawful, is_named, name_of, next_place, ruled, rules_from, usual_accepted}
@@ -198,6 +198,7 @@ abbrev pub HaveRows : List Argument → List Row → Type 0
 HaveRows [] rows = Unit {0}
 HaveRows (flag name ∷ rest) rows = (has_row name rows ≡ true) × HaveRows rest rows
 HaveRows (option name greatest usual ∷ rest) rows = (has_row name rows ≡ true) × HaveRows rest rows
+HaveRows (optional name greatest ∷ rest) rows = HaveRows rest rows
 HaveRows (wanted name ∷ rest) rows = HaveRows rest rows
 HaveRows (number name greatest ∷ rest) rows = HaveRows rest rows
 
@@ -209,12 +210,14 @@ module _ (c : List Rule) where
   one_default : (i : ℕ) (a : Argument) → IsFound c i a → is_lawful a ≡ true → (rows : List Row) → AreRead c rows → AreRead c (with_default rows (ruled i a))
   one_default i (flag name) found lawful rows are = default_read c (ruled i (flag name)) (codes "false") found.0 refl rows are
   one_default i (option name greatest usual) found lawful rows are = default_read c (ruled i (option name greatest usual)) usual found.0 (usual_accepted name greatest usual lawful) rows are
+  one_default i (optional name greatest) found lawful rows are = subst (AreRead c) (sym (no_default (has_row name rows) rows)) are
   one_default i (wanted name) found lawful rows are = subst (AreRead c) (sym (no_default (has_row name rows) rows)) are
   one_default i (number name greatest) found lawful rows are = subst (AreRead c) (sym (no_default (has_row name rows) rows)) are
 
   one_keeps : (i : ℕ) (a : Argument) → IsFound c i a → is_lawful a ≡ true → (rows : List Row) (id : Text) → has_row id rows ≡ true → has_row id (with_default rows (ruled i a)) ≡ true
   one_keeps i (flag name) found lawful rows id has = default_keeps c (ruled i (flag name)) (codes "false") found.0 refl rows id has
   one_keeps i (option name greatest usual) found lawful rows id has = default_keeps c (ruled i (option name greatest usual)) usual found.0 (usual_accepted name greatest usual lawful) rows id has
+  one_keeps i (optional name greatest) found lawful rows id has = subst (λ rs. has_row id rs ≡ true) (sym (no_default (has_row name rows) rows)) has
   one_keeps i (wanted name) found lawful rows id has = subst (λ rs. has_row id rs ≡ true) (sym (no_default (has_row name rows) rows)) has
   one_keeps i (number name greatest) found lawful rows id has = subst (λ rs. has_row id rs ≡ true) (sym (no_default (has_row name rows) rows)) has
 
@@ -245,5 +248,6 @@ module _ (c : List Rule) where
             (default_has c (ruled i (option name greatest usual)) usual found.0 (usual_accepted name greatest usual lawful) rows),
         have,
       )
+      here_too i (optional name greatest) rest found lawful rows more later have = have
       here_too i (wanted name) rest found lawful rows more later have = have
       here_too i (number name greatest) rest found lawful rows more later have = have

@@ -1,6 +1,6 @@
 -- Plain words are accepted, and ask for what they say.
 use Rattle.std.proofs.Common.{◌≡◌, ◌∙◌, ◌⊎◌, inl, inr, ◌≤◌, ◌<◌, ◌^◌, ◌||◌, ◌&&◌, ℕ, Bool, true, false, true≢false, not, List, [], ◌∷◌, ◌++◌, append-nil, append_assoc, cond, Option, Some, None, codes, is_some, refl, sym, ap, subst, arith}
-use Rattle.std.specs.Prelude.{if◌then◌else◌, fold, map, option_and_then, slice_get}
+use Rattle.std.specs.Prelude.{if◌then◌else◌, fold, map, option_and_then, option_map, slice_get, unwrap_or}
 use Rattle.std.specs.List.{find, flat_map, list_any}
 use Rattle.std.specs.Option.{option_map_or}
 use Rattle.std.specs.Str.{bytes_eq}
@@ -18,13 +18,13 @@ use Rattle.clap.specs.declared.builder.value_parser.ValueParser.TheVariants.{Uns
 use Rattle.clap.specs.declared.error.kind.ErrorKind.TheVariants as kind
 use Rattle.clap.specs.declared.parser.matches.ValueSource.TheVariants.{DefaultValue}
 use Rattle.clap.proofs.ValueTestLemmas.{accepts-Accepts}
-use Rattle.om_outcome.specs.CommandLine.{Argument, flag, option, wanted, number, Asking, Form, Request, Use, alone, given, words_of, used_in, IsUse, IsUseAmong, ArePlain, ArePlainUses, ArePlainArguments, Asks, HasArguments, HasFlag, HasNumber, form_of, is_used, text_after}
-use Rattle.om_command_line.proofs.LevelLemmas.{added_last}
+use Rattle.om_outcome.specs.CommandLine.{Argument, flag, option, optional, wanted, number, Asking, Form, Request, Use, alone, given, words_of, used_in, IsUse, IsUseAmong, ArePlain, ArePlainUses, ArePlainArguments, AreReadAs, Asks, HasArguments, HasFlag, HasNumber, MayHaveNumber, form_of, is_used, text_after}
+use Rattle.om_command_line.proofs.LevelLemmas.{added_last, none_of}
 use Rattle.om_command_line.proofs.LevelWalkLemmas.{no_default}
 use Rattle.om_command_line.proofs.PlainWalkLemmas.{Comes, Holds, digits_accepted, digits_are_argument, flag_comes, no_plus, none_comes, number_comes, option_comes, row_at, standing, then_comes, use_row, walk_no_words, wanted_comes}
-use Rattle.om_command_line.proofs.RequestLemmas.{asks_by}
+use Rattle.om_command_line.proofs.RequestLemmas.{asks_whole, reads_by}
 use Rattle.om_command_line.proofs.SetLemmas.{form_fits, leaf_of, named_fault, named_met, rules_of}
-use Rattle.om_command_line.proofs.TableLemmas.{AreFound, IsFound, all_found, are_lawful, both, is_lawful, is_named, fresh_name, lawful_rest, name_of, neither, next_place, ruled, rules_from, same_text, small_number, small_option, spells, usual_accepted, usual_as_is}
+use Rattle.om_command_line.proofs.TableLemmas.{AreFound, IsFound, all_found, are_lawful, both, is_lawful, is_named, fresh_name, lawful_rest, name_of, neither, next_place, ruled, rules_from, same_text, small_number, small_option, small_optional, spells, taking, usual_accepted, usual_as_is}
 
 -- ---- rows by their names
 
@@ -38,10 +38,6 @@ row_or_none name (r ∷ rs) none = go (bytes_eq r.id name) refl (row_or_none nam
     go : (b : Bool) → bytes_eq r.id name ≡ b → (row_of name rs ≡ None → has_row name rs ≡ false) → has_row name (r ∷ rs) ≡ false
     go true e later = let bad : Some r ≡ None = (rw e at none) in cc bad
     go false e later = rw e (later (rw e at none))
-
-none_of : (name : Text) (rows : List Row) → has_row name rows ≡ false → row_of name rows ≡ None
-none_of name [] absent = refl
-none_of name (r ∷ rs) absent = let apart = neither (bytes_eq r.id name) (has_row name rs) absent in rw apart.0 (none_of name rs apart.1)
 
 row_kept : (name : Text) (r : Row) (rows more : List Row) → row_of name rows ≡ Some r → row_of name (rows ++ more) ≡ Some r
 row_kept name r [] more found = cc found
@@ -93,8 +89,8 @@ module _ (level : Text) (c : List Rule) where
   IsWritten (alone name) =
       (spells name ≡ true) × (arg_by_id c name ≡ Some (ruled 1 (flag name))) × (arg_by_long c name ≡ Some (ruled 1 (flag name)))
   IsWritten (given name text) =
-      (greatest : ℕ) × (usual : Text) × (spells name ≡ true) × (arg_by_id c name ≡ Some (ruled 1 (option name greatest usual)))
-      × (arg_by_long c name ≡ Some (ruled 1 (option name greatest usual))) × IsNumeral 10 text × (digits_value 10 text ≤ greatest) × (greatest < 2 ^ 64)
+      (greatest : ℕ) × (usual : List Text) × (spells name ≡ true) × (arg_by_id c name ≡ Some (taking name greatest usual))
+      × (arg_by_long c name ≡ Some (taking name greatest usual)) × IsNumeral 10 text × (digits_value 10 text ≤ greatest) × (greatest < 2 ^ 64)
 
   abbrev AreWritten : List Use → Type 0
   AreWritten [] = Unit {0}
@@ -106,7 +102,11 @@ module _ (level : Text) (c : List Rule) where
   written_one i (option other greatest usual) found lawful (alone name) is = absurd is
   written_one i (option other greatest usual) found lawful (given name text) (is, numeral, least) =
       subst (λ m. IsWritten (given m text)) (sym is)
-      (greatest, usual, (both (spells other) _ lawful).0, found.0, found.1, numeral, least, small_option other greatest usual lawful)
+      (greatest, usual ∷ [], (both (spells other) _ lawful).0, found.0, found.1, numeral, least, small_option other greatest usual lawful)
+  written_one i (optional other greatest) found lawful (alone name) is = absurd is
+  written_one i (optional other greatest) found lawful (given name text) (is, numeral, least) =
+      subst (λ m. IsWritten (given m text)) (sym is)
+      (greatest, [], (both (spells other) _ lawful).0, found.0, found.1, numeral, least, small_optional other greatest lawful)
   written_one i (wanted other) found lawful (alone name) is = absurd is
   written_one i (wanted other) found lawful (given name text) is = absurd is
   written_one i (number other greatest) found lawful (alone name) is = absurd is
@@ -160,6 +160,7 @@ module _ (level : Text) (c : List Rule) where
   place_rows [] texts = []
   place_rows (flag name ∷ rest) texts = place_rows rest texts
   place_rows (option name greatest usual ∷ rest) texts = place_rows rest texts
+  place_rows (optional name greatest ∷ rest) texts = place_rows rest texts
   place_rows (wanted name ∷ rest) [] = []
   place_rows (wanted name ∷ rest) (text ∷ texts) = row_at name text ∷ place_rows rest texts
   place_rows (number name greatest ∷ rest) [] = []
@@ -170,6 +171,7 @@ module _ (level : Text) (c : List Rule) where
   AreFree rows [] = Unit {0}
   AreFree rows (flag name ∷ rest) = AreFree rows rest
   AreFree rows (option name greatest usual ∷ rest) = AreFree rows rest
+  AreFree rows (optional name greatest ∷ rest) = AreFree rows rest
   AreFree rows (wanted name ∷ rest) = (has_row name rows ≡ false) × AreFree rows rest
   AreFree rows (number name greatest ∷ rest) = (has_row name rows ≡ false) × AreFree rows rest
 
@@ -177,6 +179,7 @@ module _ (level : Text) (c : List Rule) where
   still_free r rows [] other free = tt
   still_free r rows (flag name ∷ rest) other free = still_free r rows rest (neither (bytes_eq r.id name) (is_named r.id rest) other).1 free
   still_free r rows (option name greatest usual ∷ rest) other free = still_free r rows rest (neither (bytes_eq r.id name) (is_named r.id rest) other).1 free
+  still_free r rows (optional name greatest ∷ rest) other free = still_free r rows rest (neither (bytes_eq r.id name) (is_named r.id rest) other).1 free
   still_free r rows (wanted name ∷ rest) other (first, free) =
       let apart = neither (bytes_eq r.id name) (is_named r.id rest) other in
       (has_other name r rows apart.0 first, still_free r rows rest apart.1 free)
@@ -197,7 +200,9 @@ module _ (level : Text) (c : List Rule) where
   places_come n (flag name ∷ rest) asks uses texts request (here, more) lawful plain h rows holds free =
       places_come n rest (asks (is_used name uses)) uses texts request more (lawful_rest (flag name) rest lawful) plain h rows holds free
   places_come n (option name greatest usual ∷ rest) asks uses texts request (here, more) lawful plain h rows holds free =
-      places_come n rest (asks (digits_value 10 (text_after name usual uses))) uses texts request more (lawful_rest (option name greatest usual) rest lawful) plain h rows holds free
+      places_come n rest (asks (digits_value 10 (unwrap_or (text_after name uses) usual))) uses texts request more (lawful_rest (option name greatest usual) rest lawful) plain h rows holds free
+  places_come n (optional name greatest ∷ rest) asks uses texts request (here, more) lawful plain h rows holds free =
+      places_come n rest (asks (option_map (digits_value 10) (text_after name uses))) uses texts request more (lawful_rest (optional name greatest) rest lawful) plain h rows holds free
   places_come n (wanted name ∷ rest) asks uses [] request found lawful plain h rows holds free = absurd plain
   places_come n (wanted name ∷ rest) asks uses (text ∷ texts) request (here, more) lawful (is, plain) h rows holds (first, free) =
       subst (Comes level c h n (text ∷ texts) (last_place (next_place n (wanted name)) rest)) (append_assoc rows (row_at name text ∷ []) (place_rows rest texts))
@@ -220,6 +225,7 @@ module _ (level : Text) (c : List Rule) where
   HavePlaces rows [] texts = Unit {0}
   HavePlaces rows (flag name ∷ rest) texts = HavePlaces rows rest texts
   HavePlaces rows (option name greatest usual ∷ rest) texts = HavePlaces rows rest texts
+  HavePlaces rows (optional name greatest ∷ rest) texts = HavePlaces rows rest texts
   HavePlaces rows (wanted name ∷ rest) [] = ⊥
   HavePlaces rows (wanted name ∷ rest) (text ∷ texts) = (row_of name rows ≡ Some (row_at name text)) × HavePlaces rows rest texts
   HavePlaces rows (number name greatest ∷ rest) [] = ⊥
@@ -230,7 +236,9 @@ module _ (level : Text) (c : List Rule) where
   have_places [] asks uses texts request lawful plain rows free = tt
   have_places (flag name ∷ rest) asks uses texts request lawful plain rows free = have_places rest (asks (is_used name uses)) uses texts request (lawful_rest (flag name) rest lawful) plain rows free
   have_places (option name greatest usual ∷ rest) asks uses texts request lawful plain rows free =
-      have_places rest (asks (digits_value 10 (text_after name usual uses))) uses texts request (lawful_rest (option name greatest usual) rest lawful) plain rows free
+      have_places rest (asks (digits_value 10 (unwrap_or (text_after name uses) usual))) uses texts request (lawful_rest (option name greatest usual) rest lawful) plain rows free
+  have_places (optional name greatest ∷ rest) asks uses texts request lawful plain rows free =
+      have_places rest (asks (option_map (digits_value 10) (text_after name uses))) uses texts request (lawful_rest (optional name greatest) rest lawful) plain rows free
   have_places (wanted name ∷ rest) asks uses [] request lawful plain rows free = absurd plain
   have_places (wanted name ∷ rest) asks uses (text ∷ texts) request lawful (is, plain) rows (first, free) = (
     none_before name rows (place_rows (wanted name ∷ rest) (text ∷ texts)) first ∙ (rw (same_text name) refl),
@@ -266,7 +274,7 @@ module _ (level : Text) (c : List Rule) where
 
   use_apart : (one : Use) → IsWritten one → (name : Text) (b : Rule) → arg_by_id c name ≡ Some b → is_some b.long ≡ false → bytes_eq (use_row one).id name ≡ false
   use_apart (alone other) written name b found short = long_apart other name (ruled 1 (flag other)) b written.1 found refl short
-  use_apart (given other text) written name b found short = long_apart other name (ruled 1 (option other written.0 written.1)) b written.3 found refl short
+  use_apart (given other text) written name b found short = long_apart other name (taking other written.0 written.1) b written.3 found refl short
 
   uses_apart : (uses : List Use) → AreWritten uses → (name : Text) (b : Rule) → arg_by_id c name ≡ Some b → is_some b.long ≡ false → has_row name (map use_row uses) ≡ false
   uses_apart [] written name b found short = refl
@@ -276,6 +284,7 @@ module _ (level : Text) (c : List Rule) where
   uses_free i [] found uses written = tt
   uses_free i (flag name ∷ rest) (here, more) uses written = uses_free (next_place i (flag name)) rest more uses written
   uses_free i (option name greatest usual ∷ rest) (here, more) uses written = uses_free (next_place i (option name greatest usual)) rest more uses written
+  uses_free i (optional name greatest ∷ rest) (here, more) uses written = uses_free (next_place i (optional name greatest)) rest more uses written
   uses_free i (wanted name ∷ rest) (here, more) uses written =
       (uses_apart uses written name (ruled i (wanted name)) here.0 refl, uses_free (next_place i (wanted name)) rest more uses written)
   uses_free i (number name greatest ∷ rest) (here, more) uses written =
@@ -286,6 +295,7 @@ module _ (level : Text) (c : List Rule) where
   places_apart name a is long i [] found texts = refl
   places_apart name a is long i (flag other ∷ rest) (here, more) texts = places_apart name a is long (next_place i (flag other)) rest more texts
   places_apart name a is long i (option other greatest usual ∷ rest) (here, more) texts = places_apart name a is long (next_place i (option other greatest usual)) rest more texts
+  places_apart name a is long i (optional other greatest ∷ rest) (here, more) texts = places_apart name a is long (next_place i (optional other greatest)) rest more texts
   places_apart name a is long i (wanted other ∷ rest) found [] = refl
   places_apart name a is long i (wanted other ∷ rest) (here, more) (text ∷ texts) =
       rw (short_apart other name (ruled i (wanted other)) a here.0 is refl long) (places_apart name a is long (next_place i (wanted other)) rest more texts)
@@ -325,12 +335,14 @@ module _ (level : Text) (c : List Rule) where
   one_kept : (i : ℕ) (a : Argument) (name : Text) (r : Row) (rows : List Row) → row_of name rows ≡ Some r → row_of name (with_default rows (ruled i a)) ≡ Some r
   one_kept i (flag own) name r rows found = usual_kept own (codes "false") rows name r found
   one_kept i (option own greatest usual) name r rows found = usual_kept own usual rows name r found
+  one_kept i (optional own greatest) name r rows found = ap (row_of name) (no_default (has_row own rows) rows) ∙ found
   one_kept i (wanted own) name r rows found = ap (row_of name) (no_default (has_row own rows) rows) ∙ found
   one_kept i (number own greatest) name r rows found = ap (row_of name) (no_default (has_row own rows) rows) ∙ found
 
   one_other : (i : ℕ) (a : Argument) (name : Text) (rows : List Row) → bytes_eq (name_of a) name ≡ false → row_of name (with_default rows (ruled i a)) ≡ row_of name rows
   one_other i (flag own) name rows other = usual_other own (codes "false") rows name other
   one_other i (option own greatest usual) name rows other = usual_other own usual rows name other
+  one_other i (optional own greatest) name rows other = ap (row_of name) (no_default (has_row own rows) rows)
   one_other i (wanted own) name rows other = ap (row_of name) (no_default (has_row own rows) rows)
   one_other i (number own greatest) name rows other = ap (row_of name) (no_default (has_row own rows) rows)
 
@@ -338,11 +350,18 @@ module _ (level : Text) (c : List Rule) where
   all_kept i [] name r rows found = found
   all_kept i (a ∷ rest) name r rows found = all_kept (next_place i a) rest name r (with_default rows (ruled i a)) (one_kept i a name r rows found)
 
+  all_others : (i : ℕ) (arguments : List Argument) (name : Text) (rows : List Row) → is_named name arguments ≡ false → row_of name (fold with_default rows (rules_from i arguments)) ≡ row_of name rows
+  all_others i [] name rows other = refl
+  all_others i (a ∷ rest) name rows other =
+      let differ = neither (bytes_eq name (name_of a)) (is_named name rest) other in
+      all_others (next_place i a) rest name (with_default rows (ruled i a)) differ.1 ∙ one_other i a name rows (apart_too name (name_of a) differ.0)
+
   places_kept : (rows rows' : List Row) → ((name : Text) (r : Row) → row_of name rows ≡ Some r → row_of name rows' ≡ Some r) → (arguments : List Argument) (texts : List Text)
       → HavePlaces rows arguments texts → HavePlaces rows' arguments texts
   places_kept rows rows' keeps [] texts have = tt
   places_kept rows rows' keeps (flag name ∷ rest) texts have = places_kept rows rows' keeps rest texts have
   places_kept rows rows' keeps (option name greatest usual ∷ rest) texts have = places_kept rows rows' keeps rest texts have
+  places_kept rows rows' keeps (optional name greatest ∷ rest) texts have = places_kept rows rows' keeps rest texts have
   places_kept rows rows' keeps (wanted name ∷ rest) [] have = have
   places_kept rows rows' keeps (wanted name ∷ rest) (text ∷ texts) (first, have) = (keeps name (row_at name text) first, places_kept rows rows' keeps rest texts have)
   places_kept rows rows' keeps (number name greatest ∷ rest) [] have = have
@@ -353,6 +372,7 @@ module _ (level : Text) (c : List Rule) where
   given_all i [] texts rows have = refl
   given_all i (flag name ∷ rest) texts rows have = given_all (next_place i (flag name)) rest texts rows have
   given_all i (option name greatest usual ∷ rest) texts rows have = given_all (next_place i (option name greatest usual)) rest texts rows have
+  given_all i (optional name greatest ∷ rest) texts rows have = given_all (next_place i (optional name greatest)) rest texts rows have
   given_all i (wanted name ∷ rest) [] rows have = absurd have
   given_all i (wanted name ∷ rest) (text ∷ texts) rows (first, have) =
       ap (λ o. not (option_map_or (λ (r : Row). explicit_source r.source) o false) || list_any (λ a. a.required && not (is_given a.id rows)) (rules_from (next_place i (wanted name)) rest)) first
@@ -373,6 +393,11 @@ module _ (level : Text) (c : List Rule) where
       go : (b : Bool) → (if b || false then [] else given_default_fault (ruled i (option name greatest usual)) (usual ∷ [])) ≡ []
       go true = refl
       go false = rw (usual_accepted name greatest usual lawful) refl
+  one_default_fault i (optional name greatest) rows lawful = go (has_row name rows)
+    where
+      go : (b : Bool) → (if b || true then [] else given_default_fault (ruled i (optional name greatest)) []) ≡ []
+      go true = refl
+      go false = refl
   one_default_fault i (wanted name) rows lawful = go (has_row name rows)
     where
       go : (b : Bool) → (if b || true then [] else given_default_fault (ruled i (wanted name)) []) ≡ []
@@ -403,27 +428,27 @@ module _ (level : Text) (c : List Rule) where
       go true e later = rw e (ap (λ n. Some (row_at n (codes "true"))) ((bytes_eq-Decides other name).0 e))
       go false e later = rw e later
   flag_row_is name found (given other text ∷ uses) (is, once, more) =
-      rw (apart other name (ruled 1 (option other is.0 is.1)) (ruled 1 (flag name)) is.3 found (λ e. let bad : Some Set ≡ Some SetTrue = ap (λ (r : Rule). r.action) e in cc bad))
+      rw (apart other name (taking other is.0 is.1) (ruled 1 (flag name)) is.3 found (λ e. let bad : Some Set ≡ Some SetTrue = ap (λ (r : Rule). r.action) e in cc bad))
       (flag_row_is name found uses more)
 
   -- the option is not used, or used once
-  abbrev IsShown : Text → ℕ → Text → List Use → Type 0
-  IsShown name greatest usual uses =
-      ((row_of name (map use_row uses) ≡ None) × (text_after name usual uses ≡ usual))
-      ⊎ ((text : Text) × (row_of name (map use_row uses) ≡ Some (row_at name text)) × (text_after name usual uses ≡ text) × IsNumeral 10 text × (digits_value 10 text ≤ greatest))
+  abbrev IsShown : Text → ℕ → List Use → Type 0
+  IsShown name greatest uses =
+      ((row_of name (map use_row uses) ≡ None) × (text_after name uses ≡ None))
+      ⊎ ((text : Text) × (row_of name (map use_row uses) ≡ Some (row_at name text)) × (text_after name uses ≡ Some text) × IsNumeral 10 text × (digits_value 10 text ≤ greatest))
 
-  option_row_is : (name : Text) (greatest : ℕ) (usual : Text) → arg_by_id c name ≡ Some (ruled 1 (option name greatest usual)) → (uses : List Use) → AreWritten uses → IsShown name greatest usual uses
+  option_row_is : (name : Text) (greatest : ℕ) (usual : List Text) → arg_by_id c name ≡ Some (taking name greatest usual) → (uses : List Use) → AreWritten uses → IsShown name greatest uses
   option_row_is name greatest usual found [] written = inl (refl, refl)
   option_row_is name greatest usual found (alone other ∷ uses) (is, once, more) =
-      rw (apart other name (ruled 1 (flag other)) (ruled 1 (option name greatest usual)) is.1 found (λ e. let bad : Some SetTrue ≡ Some Set = ap (λ (r : Rule). r.action) e in cc bad))
+      rw (apart other name (ruled 1 (flag other)) (taking name greatest usual) is.1 found (λ e. let bad : Some SetTrue ≡ Some Set = ap (λ (r : Rule). r.action) e in cc bad))
       (option_row_is name greatest usual found uses more)
   option_row_is name greatest usual found (given other text ∷ uses) (is, once, more) = go (bytes_eq other name) refl (option_row_is name greatest usual found uses more)
     where
-      go : (b : Bool) → bytes_eq other name ≡ b → IsShown name greatest usual uses → IsShown name greatest usual (given other text ∷ uses)
+      go : (b : Bool) → bytes_eq other name ≡ b → IsShown name greatest uses → IsShown name greatest (given other text ∷ uses)
       go true e later =
           let same : other ≡ name = (bytes_eq-Decides other name).0 e in
-          let rules : Some (ruled 1 (option other is.0 is.1)) ≡ Some (ruled 1 (option name greatest usual)) = sym is.3 ∙ (ap (arg_by_id c) same ∙ found) in
-          let rule : ruled 1 (option other is.0 is.1) ≡ ruled 1 (option name greatest usual) = cc rules in
+          let rules : Some (taking other is.0 is.1) ≡ Some (taking name greatest usual) = sym is.3 ∙ (ap (arg_by_id c) same ∙ found) in
+          let rule : taking other is.0 is.1 ≡ taking name greatest usual = cc rules in
           let parsers : Some (Unsigned 0 is.0) ≡ Some (Unsigned 0 greatest) = ap (λ (r : Rule). r.parser) rule in
           let most : is.0 ≡ greatest = cc parsers in
           let least = is.6 in
@@ -451,6 +476,7 @@ module _ (level : Text) (c : List Rule) where
     AreStill rows [] = Unit {0}
     AreStill rows (flag name ∷ rest) = (row_of name rows ≡ row_of name (map use_row uses)) × AreStill rows rest
     AreStill rows (option name greatest usual ∷ rest) = (row_of name rows ≡ row_of name (map use_row uses)) × AreStill rows rest
+    AreStill rows (optional name greatest ∷ rest) = (row_of name rows ≡ row_of name (map use_row uses)) × AreStill rows rest
     AreStill rows (wanted name ∷ rest) = AreStill rows rest
     AreStill rows (number name greatest ∷ rest) = AreStill rows rest
 
@@ -460,6 +486,9 @@ module _ (level : Text) (c : List Rule) where
         let differ = neither (bytes_eq (name_of a) name) (is_named (name_of a) rest) other in
         (one_other i a name rows differ.0 ∙ first, still_after i a rows rest differ.1 still)
     still_after i a rows (option name greatest usual ∷ rest) other (first, still) =
+        let differ = neither (bytes_eq (name_of a) name) (is_named (name_of a) rest) other in
+        (one_other i a name rows differ.0 ∙ first, still_after i a rows rest differ.1 still)
+    still_after i a rows (optional name greatest ∷ rest) other (first, still) =
         let differ = neither (bytes_eq (name_of a) name) (is_named (name_of a) rest) other in
         (one_other i a name rows differ.0 ∙ first, still_after i a rows rest differ.1 still)
     still_after i a rows (wanted name ∷ rest) other still = still_after i a rows rest (neither (bytes_eq (name_of a) name) (is_named (name_of a) rest) other).1 still
@@ -473,6 +502,10 @@ module _ (level : Text) (c : List Rule) where
       none_after name (map use_row uses) (place_rows all texts) (places_apart name (ruled 1 (option name greatest usual)) here.0 refl 1 all found texts),
       still_first all found texts (next_place i (option name greatest usual)) rest more,
     )
+    still_first all found texts i (optional name greatest ∷ rest) (here, more) = (
+      none_after name (map use_row uses) (place_rows all texts) (places_apart name (ruled 1 (optional name greatest)) here.0 refl 1 all found texts),
+      still_first all found texts (next_place i (optional name greatest)) rest more,
+    )
     still_first all found texts i (wanted name ∷ rest) (here, more) = still_first all found texts (next_place i (wanted name)) rest more
     still_first all found texts i (number name greatest ∷ rest) (here, more) = still_first all found texts (next_place i (number name greatest)) rest more
 
@@ -485,16 +518,29 @@ module _ (level : Text) (c : List Rule) where
         (all_kept (next_place i (flag name)) rest name (default_at name (codes "false")) (with_default rows (ruled i (flag name))) (usual_new name (codes "false") rows is))
 
     option_shown : (i : ℕ) (name : Text) (greatest : ℕ) (usual : Text) (rest : List Argument) (rows : List Row) → is_lawful (option name greatest usual) ≡ true
-        → row_of name rows ≡ row_of name (map use_row uses) → IsShown name greatest usual uses
-        → HasNumber (fold with_default rows (rules_from i (option name greatest usual ∷ rest))) name greatest (digits_value 10 (text_after name usual uses))
+        → row_of name rows ≡ row_of name (map use_row uses) → IsShown name greatest uses
+        → HasNumber (fold with_default rows (rules_from i (option name greatest usual ∷ rest))) name greatest (digits_value 10 (unwrap_or (text_after name uses) usual))
     option_shown i name greatest usual rest rows lawful same (inl (none, is)) =
-        subst (λ t. HasNumber (fold with_default rows (rules_from i (option name greatest usual ∷ rest))) name greatest (digits_value 10 t)) (sym is)
+        subst (λ t. HasNumber (fold with_default rows (rules_from i (option name greatest usual ∷ rest))) name greatest (digits_value 10 (unwrap_or t usual))) (sym is)
         (usual_shown (fold with_default rows (rules_from i (option name greatest usual ∷ rest))) name greatest usual lawful
         (all_kept (next_place i (option name greatest usual)) rest name (default_at name usual) (with_default rows (ruled i (option name greatest usual))) (usual_new name usual rows (same ∙ none))))
     option_shown i name greatest usual rest rows lawful same (inr (text, found, is, numeral, least)) =
-        subst (λ t. HasNumber (fold with_default rows (rules_from i (option name greatest usual ∷ rest))) name greatest (digits_value 10 t)) (sym is)
+        subst (λ t. HasNumber (fold with_default rows (rules_from i (option name greatest usual ∷ rest))) name greatest (digits_value 10 (unwrap_or t usual))) (sym is)
         (number_shown (fold with_default rows (rules_from i (option name greatest usual ∷ rest))) name greatest text
         (all_kept i (option name greatest usual ∷ rest) name (row_at name text) rows (same ∙ found)) numeral least)
+
+    optional_shown : (i : ℕ) (name : Text) (greatest : ℕ) (rest : List Argument) (rows : List Row) → is_named name rest ≡ false
+        → row_of name rows ≡ row_of name (map use_row uses) → IsShown name greatest uses
+        → MayHaveNumber (fold with_default rows (rules_from i (optional name greatest ∷ rest))) name greatest (option_map (digits_value 10) (text_after name uses))
+    optional_shown i name greatest rest rows other same (inl (none, is)) =
+        subst (λ o. MayHaveNumber (fold with_default rows (rules_from i (optional name greatest ∷ rest))) name greatest (option_map (digits_value 10) o)) (sym is)
+        (ap (option_and_then row_text)
+        (all_others (next_place i (optional name greatest)) rest name (with_default rows (ruled i (optional name greatest))) other
+        ∙ (ap (row_of name) (no_default (has_row name rows) rows) ∙ (same ∙ none))))
+    optional_shown i name greatest rest rows other same (inr (text, found, is, numeral, least)) =
+        subst (λ o. MayHaveNumber (fold with_default rows (rules_from i (optional name greatest ∷ rest))) name greatest (option_map (digits_value 10) o)) (sym is)
+        (number_shown (fold with_default rows (rules_from i (optional name greatest ∷ rest))) name greatest text
+        (all_kept i (optional name greatest ∷ rest) name (row_at name text) rows (same ∙ found)) numeral least)
 
     plain_has : (i : ℕ) (arguments : List Argument) (asks : Asking arguments) (texts : List Text) (rows : List Row) → AreFound c i arguments → are_lawful arguments ≡ true → AreStill rows arguments
         → HavePlaces rows arguments texts → ArePlainArguments arguments asks uses texts request → HasArguments arguments asks (fold with_default rows (rules_from i arguments)) request
@@ -508,11 +554,18 @@ module _ (level : Text) (c : List Rule) where
           (places_kept rows (with_default rows (ruled i (flag name))) (λ n r e. one_kept i (flag name) n r rows e) rest texts have) plain,
     )
     plain_has i (option name greatest usual ∷ rest) asks texts rows (here, more) lawful (first, still) have plain = (
-      digits_value 10 (text_after name usual uses),
-      option_shown i name greatest usual rest rows (both (is_lawful (option name greatest usual)) _ lawful).0 first (option_row_is name greatest usual here.0 uses written),
-      plain_has (next_place i (option name greatest usual)) rest (asks (digits_value 10 (text_after name usual uses))) texts (with_default rows (ruled i (option name greatest usual))) more
+      digits_value 10 (unwrap_or (text_after name uses) usual),
+      option_shown i name greatest usual rest rows (both (is_lawful (option name greatest usual)) _ lawful).0 first (option_row_is name greatest (usual ∷ []) here.0 uses written),
+      plain_has (next_place i (option name greatest usual)) rest (asks (digits_value 10 (unwrap_or (text_after name uses) usual))) texts (with_default rows (ruled i (option name greatest usual))) more
           (lawful_rest (option name greatest usual) rest lawful) (still_after i (option name greatest usual) rows rest (fresh_name (option name greatest usual) rest lawful) still)
           (places_kept rows (with_default rows (ruled i (option name greatest usual))) (λ n r e. one_kept i (option name greatest usual) n r rows e) rest texts have) plain,
+    )
+    plain_has i (optional name greatest ∷ rest) asks texts rows (here, more) lawful (first, still) have plain = (
+      option_map (digits_value 10) (text_after name uses),
+      optional_shown i name greatest rest rows (fresh_name (optional name greatest) rest lawful) first (option_row_is name greatest [] here.0 uses written),
+      plain_has (next_place i (optional name greatest)) rest (asks (option_map (digits_value 10) (text_after name uses))) texts (with_default rows (ruled i (optional name greatest))) more
+          (lawful_rest (optional name greatest) rest lawful) (still_after i (optional name greatest) rows rest (fresh_name (optional name greatest) rest lawful) still)
+          (places_kept rows (with_default rows (ruled i (optional name greatest))) (λ n r e. one_kept i (optional name greatest) n r rows e) rest texts have) plain,
     )
     plain_has i (wanted name ∷ rest) asks [] rows found lawful still have plain = absurd plain
     plain_has i (wanted name ∷ rest) asks (text ∷ texts) rows (here, more) lawful still (first, have) (is, plain) = (
@@ -610,11 +663,12 @@ module _ (form : Form) (found : form_of form.name ≡ Some form) (uses : List Us
   rows_are : rows_after c [] words ≡ told
   rows_are = ap (λ (w : Walk). finished c w.held) walks ∙ finished_is
 
-  form_asks : Asks (form.name ∷ words) request
-  form_asks =
-      asks_by (form.name ∷ words) request form.name (rows_after c [] words) (named_fault form found words ∙ ap (λ k. or_else k []) level, named_met form found words)
+  form_read : AreReadAs (form.name ∷ words) request
+  form_read =
+      reads_by (form.name ∷ words) request form.name (rows_after c [] words) (named_fault form found words ∙ ap (λ k. or_else k []) level, named_met form found words)
       (form, found, subst (λ rs. HasArguments form.arguments form.asks rs request) (sym rows_are) told_has)
 
 pub plain_words_ask : (words : List (List ℕ)) (request : Request) → ArePlain words request → Asks words request
-plain_words_ask words_given request (form, found, uses, plain_uses, texts, plain, is) =
-    subst (λ ws. Asks ws request) (sym is) (form_asks form found uses plain_uses texts request plain)
+plain_words_ask words_given request (form, found, uses, plain_uses, texts, plain, whole, is) =
+    subst (λ ws. Asks ws request) (sym is)
+    (asks_whole (form.name ∷ flat_map words_of uses ++ texts) request (form_read form found uses plain_uses texts request plain) whole)

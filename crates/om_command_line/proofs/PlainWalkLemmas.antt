@@ -16,10 +16,10 @@ use Rattle.clap.specs.declared.builder.value_parser.ValueParser.TheVariants.{Uns
 use Rattle.clap.specs.declared.builder.value_parser.Reading.TheVariants.{AsWritten}
 use Rattle.clap.specs.declared.parser.matches.ValueSource.TheVariants.{CommandLine}
 use Rattle.clap.proofs.ValueTestLemmas.{Accepts-accepts}
-use Rattle.om_outcome.specs.CommandLine.{flag, option, wanted, number, Use, alone, given, IsArgument}
+use Rattle.om_outcome.specs.CommandLine.{flag, wanted, number, Use, alone, given, IsArgument}
 use Rattle.om_command_line.proofs.LevelLemmas.{set_adds}
 use Rattle.om_command_line.proofs.SetLemmas.{leaf}
-use Rattle.om_command_line.proofs.TableLemmas.{next_place, no_dashes, ruled, same_text, spelled, spells}
+use Rattle.om_command_line.proofs.TableLemmas.{next_place, no_dashes, ruled, same_text, spelled, spells, taking}
 
 -- ---- what clap sees in an argument
 
@@ -189,11 +189,11 @@ module _ (level : Text) (c : List Rule) where
         (refl, flag_rows),
       )
 
-    module _ (name text : Text) (greatest : ℕ) (usual : Text) (spelt : spells name ≡ true) (by_id : arg_by_id c name ≡ Some (ruled 1 (option name greatest usual)))
-        (by_long : arg_by_long c name ≡ Some (ruled 1 (option name greatest usual))) (absent : has_row name rows ≡ false) (is : IsArgument text)
+    module _ (name text : Text) (greatest : ℕ) (usual : List Text) (spelt : spells name ≡ true) (by_id : arg_by_id c name ≡ Some (taking name greatest usual))
+        (by_long : arg_by_long c name ≡ Some (taking name greatest usual)) (absent : has_row name rows ≡ false) (is : IsArgument text)
         (accepted : accepts false (Unsigned 0 greatest) text ≡ true) where
       abbrev option_rule : Rule
-      option_rule = ruled 1 (option name greatest usual)
+      option_rule = taking name greatest usual
 
       abbrev between : Held
       between = record (settled c h) { pending = Some (name, []) }

@@ -1,6 +1,6 @@
 -- What is read of the words.
 use Rattle.std.proofs.Common.{◌≡◌, ◌≢◌, ◌∙◌, ◌^◌, ℕ, Bool, true, false, List, [], ◌∷◌, Option, Some, None, Result, Ok, Err, refl, sym, ap, subst, inl, inr, unwrap_or, arith}
-use Rattle.std.specs.Prelude.{Box, if◌then◌else◌, find, option_map}
+use Rattle.std.specs.Prelude.{Box, if◌then◌else◌, find, option_and_then, option_map}
 use Rattle.std.specs.Box.{box_value}
 use Rattle.std.specs.List.{AllByRecursion}
 use Rattle.std.specs.Borrow.{Bor}
@@ -19,13 +19,13 @@ use Rattle.clap.specs.declared.parser.matches.Found.{Found}
 use Rattle.clap.proofs.OnLiterals.{clap_on_literals}
 use Rattle.clap.proofs.ValueTestLemmas.{Accepts-accepts, accepts-Accepts}
 use Rattle.clap.proofs.WalkLemmas.{first_value-rows, one_text-rows}
-use Rattle.om_outcome.specs.CommandLine.{command_set, Form, Request, Asks, IsUsage}
+use Rattle.om_outcome.specs.CommandLine.{command_set, Form, Request, AreReadAs, Asks, IsUsage, is_whole}
 use Rattle.om_command_line.specs.declared.read.Request.{Request as Reading}
 use Rattle.om_command_line.specs.declared.read.Unread.{Unread}
 use Rattle.om_command_line.specs.declared.read.Unread.TheVariants.{Usage, Memory}
-use Rattle.om_command_line.specs.Requests.{ReadsAsked, ReadsBy, ReadsMet, ReadsWords, number_in, number_of, request_of, word_in}
-use Rattle.om_command_line.proofs.AcceptedLemmas.{accepted_words_ask}
-use Rattle.om_command_line.proofs.RequestLemmas.{asked_words, request_told}
+use Rattle.om_command_line.specs.Requests.{ReadsAsked, ReadsBy, ReadsMet, ReadsWords, given_in, if_whole, number_of, request_of, word_in}
+use Rattle.om_command_line.proofs.AcceptedLemmas.{accepted_words_are_read}
+use Rattle.om_command_line.proofs.RequestLemmas.{asked_whole, asks_whole, one_reading, read_parts, request_told}
 
 -- ---- an argument
 
@@ -43,22 +43,22 @@ word_got found name r usual text is empty given =
 module _ {E : Type 0} (Gives : List ℕ → Result ℕ E → Type 0) (parses : (text : List ℕ) (r : Result ℕ E) → Gives text r → ParsesUnsigned 64 10 text r)
     (found : Found) (name : List ℕ) (r : Option ℕ) (none : one_text found name ≡ None → r ≡ None)
     (value : (text : List ℕ) → one_text found name ≡ Some text → ReadsOne Gives text r) where
-  parsed_is : (text : List ℕ) (r : Option ℕ) → ReadsOne Gives text r → unwrap_or r 0 ≡ number_of (Some text)
+  parsed_is : (text : List ℕ) (r : Option ℕ) → ReadsOne Gives text r → r ≡ number_of (Some text)
   parsed_is text (Some n) reads =
       let parsed = parses text (Ok n) reads in
       let accepted : accepts false (Unsigned 0 (2 ^ 64)) text ≡ true = Accepts-accepts false (Unsigned 0 (2 ^ 64)) text (parsed.0.0, parsed.0.1, omega arith, omega (arith, parsed.0.1)) in
-      parsed.1 ∙ sym (ap (λ b. if b then digits_value 10 (without_leading_plus text) else 0) accepted)
+      ap (λ m. Some m) parsed.1 ∙ sym (ap (λ b. if b then Some (digits_value 10 (without_leading_plus text)) else None) accepted)
   parsed_is text None reads = go (accepts false (Unsigned 0 (2 ^ 64)) text) refl
     where
-      go : (b : Bool) → accepts false (Unsigned 0 (2 ^ 64)) text ≡ b → 0 ≡ (if b then digits_value 10 (without_leading_plus text) else 0)
+      go : (b : Bool) → accepts false (Unsigned 0 (2 ^ 64)) text ≡ b → None ≡ (if b then Some (digits_value 10 (without_leading_plus text)) else None)
       go true e = let in_range = accepts-Accepts false (Unsigned 0 (2 ^ 64)) text e in absurd (parses text (Err reads.0) reads.1 (in_range.0, in_range.1))
       go false e = refl
 
-  pub number_got : unwrap_or r 0 ≡ number_in (rows_of found) name
-  number_got = go (one_text found name) refl ∙ ap number_of (one_text-rows found name)
+  pub given_got : r ≡ given_in (rows_of found) name
+  given_got = go (one_text found name) refl ∙ ap number_of (one_text-rows found name)
     where
-      go : (o : Option (List ℕ)) → one_text found name ≡ o → unwrap_or r 0 ≡ number_of (one_text found name)
-      go None e = ap (λ (o : Option ℕ). unwrap_or o 0) (none e) ∙ sym (ap number_of e)
+      go : (o : Option (List ℕ)) → one_text found name ≡ o → r ≡ number_of (one_text found name)
+      go None e = none e ∙ sym (ap number_of e)
       go (Some text) e = parsed_is text r (value text e) ∙ sym (ap number_of e)
 
 -- ---- the command's name
@@ -107,28 +107,45 @@ set_is_free : is_simple_and_free command_set ≡ true
 unfolding clap_on_literals
 set_is_free = refl
 
+-- it may be asked for, or it may not
+whole_some : (request other : Request) → if_whole request ≡ Some other → (is_whole request ≡ true) × (request ≡ other)
+whole_some request other e = go (is_whole request) refl e
+  where
+    go : (b : Bool) → is_whole request ≡ b → (if b then Some request else None) ≡ Some other → (is_whole request ≡ true) × (request ≡ other)
+    go true is e = (is, cc e)
+    go false is e = cc e
+
+whole_none : (request : Request) → if_whole request ≡ None → is_whole request ≡ false
+whole_none request e = go (is_whole request) refl e
+  where
+    go : (b : Bool) → is_whole request ≡ b → (if b then Some request else None) ≡ None → is_whole request ≡ false
+    go true is e = cc e
+    go false is e = is
+
 module _ (app : App) (set : app ≡ command_set) (words : List (List ℕ)) where
   met : (matches : ArgMatches) → HasMatchesOf app words matches → subcommand_rows_of matches ≡ subcommand_of command_set words
   met matches found = (found (ap is_simple set ∙ set_is_simple)).1 ∙ ap (λ a. subcommand_of a words) set
 
   -- where it accepts the words
-  accepted_asks : (matches : ArgMatches) → (is_simple_and_free app ≡ true → fault_of app words ≡ []) → HasMatchesOf app words matches → (result : Option Reading) → ReadsMet matches result
-      → (request : Request) × (option_map request_of result ≡ Some request) × Asks words request
-  accepted_asks matches accepts found result reads =
-      let asks = accepted_words_ask words (sym (ap (λ a. fault_of a words) set) ∙ accepts (ap is_simple_and_free set ∙ set_is_free)) in
-      let by = asked_words words asks.0 asks.1 in
-      (asks.0, sym (reads by.0 by.1 (met matches found ∙ by.2.1)) ∙ request_told by.0 by.1 asks.0 by.3, asks.1)
+  accepted_read : (matches : ArgMatches) → (is_simple_and_free app ≡ true → fault_of app words ≡ []) → HasMatchesOf app words matches → (result : Option Reading) → ReadsMet matches result
+      → (request : Request) × (if_whole request ≡ option_map request_of result) × AreReadAs words request
+  accepted_read matches accepts found result reads =
+      let read = accepted_words_are_read words (sym (ap (λ a. fault_of a words) set) ∙ accepts (ap is_simple_and_free set ∙ set_is_free)) in
+      let by = read_parts words read.0 read.1 in
+      (read.0, sym (ap (option_and_then if_whole) (request_told by.0 by.1 read.0 by.3)) ∙ reads by.0 by.1 (met matches found ∙ by.2.1), read.1)
 
   pub asked_read : (matches : ArgMatches) → (is_simple_and_free app ≡ true → fault_of app words ≡ []) → HasMatchesOf app words matches → (result : Result Reading Unread)
       → ReadsAsked matches result → ReadsWords words result
   asked_read matches accepts found (Ok reading) asks =
-      let one = accepted_asks matches accepts found (Some reading) asks in
-      let is : Some (request_of reading) ≡ Some one.0 = one.1 in
-      let same : request_of reading ≡ one.0 = cc is in
-      subst (Asks words) (sym same) one.2
-  asked_read matches accepts found (Err Usage) nothing =
-      let one = accepted_asks matches accepts found None nothing in
-      let bad : None ≡ Some one.0 = one.1 in
+      let one = accepted_read matches accepts found (Some reading) asks in
+      let is = whole_some one.0 (request_of reading) one.1 in
+      subst (Asks words) is.1 (asks_whole words one.0 one.2 is.0)
+  asked_read matches accepts found (Err Usage) nothing = λ request asks.
+      let one = accepted_read matches accepts found None nothing in
+      let parts = asked_whole words request asks in
+      let same = one_reading words request one.0 parts.0 one.2 in
+      let whole : is_whole one.0 ≡ true = subst (λ r. is_whole r ≡ true) same parts.1 in
+      let bad : true ≡ false = sym whole ∙ whole_none one.0 one.1 in
       cc bad
   asked_read matches accepts found (Err Memory) never = absurd never
 
@@ -136,7 +153,7 @@ module _ (app : App) (set : app ≡ command_set) (words : List (List ℕ)) where
   pub refused_words : (error : Error) → (is_simple_and_free app ≡ true → HasKind (fault_of app words) error) → kind_of error ≢ kinds.OutOfMemory → IsUsage words
   refused_words error refuses not_memory request asks = go (refuses (ap is_simple_and_free set ∙ set_is_free)) where
     none : fault_of app words ≡ []
-    none = ap (λ a. fault_of a words) set ∙ (asked_words words request asks).2.0
+    none = ap (λ a. fault_of a words) set ∙ (read_parts words request (asked_whole words request asks).0).2.0
 
     go : HasKind (fault_of app words) error → ⊥
     go (inl memory) = not_memory memory

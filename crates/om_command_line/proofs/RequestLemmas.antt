@@ -1,5 +1,5 @@
 -- What accepted words ask for is one thing.
-use Rattle.std.proofs.Common.{◌≡◌, ◌∙◌, ◌<◌, ◌^◌, ℕ, Bool, true, false, List, [], ◌∷◌, Option, Some, codes, refl, sym, ap, ap₂, unwrap_or, arith}
+use Rattle.std.proofs.Common.{◌≡◌, ◌∙◌, ◌<◌, ◌^◌, ℕ, Bool, true, false, List, [], ◌∷◌, Option, Some, None, codes, refl, sym, ap, ap₂, unwrap_or, arith}
 use Rattle.std.specs.Prelude.{if◌then◌else◌, option_map}
 use Rattle.std.specs.Str.{bytes_eq}
 use Rattle.std.specs.Str.Parse.{digits_value, without_leading_plus}
@@ -7,10 +7,10 @@ use Rattle.clap.specs.ValueTests.{accepts}
 use Rattle.clap.specs.Words.{Row, subcommand_of}
 use Rattle.clap.specs.declared.builder.value_parser.ValueParser.TheVariants.{Unsigned}
 use Rattle.clap.proofs.ValueTestLemmas.{Accepts-accepts}
-use Rattle.om_outcome.specs.CommandLine.{Accepted, Argument, flag, option, wanted, number, Asking, Form, HasArguments, HasFlag, HasNumber, HasWord, Request, AsksBy, Asks, command_set}
-use Rattle.om_command_line.specs.Requests.{asked, asked_by, flag_in, number_in, number_of, word_in}
+use Rattle.om_outcome.specs.CommandLine.{Accepted, Argument, flag, option, optional, wanted, number, Asking, Form, HasArguments, HasFlag, HasNumber, HasWord, MayHaveNumber, Request, AreReadAs, AsksBy, Asks, command_set, is_whole}
+use Rattle.om_command_line.specs.Requests.{asked, asked_by, flag_in, given_in, number_in, number_of, word_in}
 use Rattle.om_command_line.proofs.SetLemmas.{form_fits}
-use Rattle.om_command_line.proofs.TableLemmas.{are_lawful, both, is_lawful, lawful_rest, small_number, small_option}
+use Rattle.om_command_line.proofs.TableLemmas.{are_lawful, both, is_lawful, lawful_rest, small_number, small_option, small_optional}
 
 -- ---- a command may ask for one thing alone, which its arguments tell
 
@@ -24,12 +24,20 @@ flag_read false = refl
 flag_told : (rows : List Row) (name : List ℕ) (used : Bool) → HasFlag rows name used → used ≡ flag_in rows name
 flag_told rows name used has = flag_read used ∙ ap (λ text. bytes_eq text (codes "true")) (word_told rows name _ has)
 
-number_told : (rows : List Row) (name : List ℕ) (greatest n : ℕ) → greatest < 2 ^ 64 → HasNumber rows name greatest n → n ≡ number_in rows name
-number_told rows name greatest n small (text, has, numeral, writes, least) =
+given_told : (rows : List Row) (name : List ℕ) (greatest n : ℕ) → greatest < 2 ^ 64 → HasNumber rows name greatest n → Some n ≡ given_in rows name
+given_told rows name greatest n small (text, has, numeral, writes, least) =
     let accepted : accepts false (Unsigned 0 (2 ^ 64)) text ≡ true =
     Accepts-accepts false (Unsigned 0 (2 ^ 64)) text (numeral, omega (arith, writes, least, small), omega arith, omega (arith, writes, least, small)) in
-    let read : number_of (Some text) ≡ n = ap (λ b. if b then digits_value 10 (without_leading_plus text) else 0) accepted ∙ writes in
+    let read : number_of (Some text) ≡ Some n =
+    ap (λ b. if b then Some (digits_value 10 (without_leading_plus text)) else None) accepted ∙ ap (λ m. Some m) writes in
     sym (ap number_of has ∙ read)
+
+number_told : (rows : List Row) (name : List ℕ) (greatest n : ℕ) → greatest < 2 ^ 64 → HasNumber rows name greatest n → n ≡ number_in rows name
+number_told rows name greatest n small has = ap (λ (o : Option ℕ). unwrap_or o 0) (given_told rows name greatest n small has)
+
+optional_told : (rows : List Row) (name : List ℕ) (greatest : ℕ) (o : Option ℕ) → greatest < 2 ^ 64 → MayHaveNumber rows name greatest o → o ≡ given_in rows name
+optional_told rows name greatest None small has = sym (ap number_of has)
+optional_told rows name greatest (Some n) small has = given_told rows name greatest n small has
 
 pub arguments_told : (arguments : List Argument) (asks : Asking arguments) (rows : List Row) (request : Request) → are_lawful arguments ≡ true → HasArguments arguments asks rows request
     → request ≡ asked arguments asks rows
@@ -40,6 +48,10 @@ arguments_told (option name greatest usual ∷ rest) asks rows request lawful (n
     let small = small_option name greatest usual (both (is_lawful (option name greatest usual)) _ lawful).0 in
     arguments_told rest (asks n) rows request (lawful_rest (option name greatest usual) rest lawful) has
     ∙ ap (λ m. asked rest (asks m) rows) (number_told rows name greatest n small is)
+arguments_told (optional name greatest ∷ rest) asks rows request lawful (n, is, has) =
+    let small = small_optional name greatest (both (is_lawful (optional name greatest)) _ lawful).0 in
+    arguments_told rest (asks n) rows request (lawful_rest (optional name greatest) rest lawful) has
+    ∙ ap (λ m. asked rest (asks m) rows) (optional_told rows name greatest n small is)
 arguments_told (wanted name ∷ rest) asks rows request lawful (text, is, has) =
     arguments_told rest (asks text) rows request (lawful_rest (wanted name) rest lawful) has ∙ ap (λ t. asked rest (asks t) rows) (word_told rows name text is)
 arguments_told (number name greatest ∷ rest) asks rows request lawful (n, is, has) =
@@ -52,14 +64,23 @@ request_told command rows request (form, found, has) =
     ap (option_map (λ (f : Form). asked f.arguments f.asks rows)) found
     ∙ ap (λ r. Some r) (sym (arguments_told form.arguments form.asks rows request (form_fits command form found).0 has))
 
--- what accepted words ask for
-pub asks_by : (words : List (List ℕ)) (request : Request) (command : List ℕ) (rows : List Row) → Accepted words command rows → AsksBy command rows request → Asks words request
-unfolding Asks
-asks_by words request command rows accepted by = (command, rows, accepted, by)
+-- what accepted words are read as
+pub reads_by : (words : List (List ℕ)) (request : Request) (command : List ℕ) (rows : List Row) → Accepted words command rows → AsksBy command rows request → AreReadAs words request
+unfolding AreReadAs
+reads_by words request command rows accepted by = (command, rows, accepted, by)
 
-pub asked_words : (words : List (List ℕ)) (request : Request) → Asks words request → (command : List ℕ) × (rows : List Row) × Accepted words command rows × AsksBy command rows request
+pub read_parts : (words : List (List ℕ)) (request : Request) → AreReadAs words request → (command : List ℕ) × (rows : List Row) × Accepted words command rows × AsksBy command rows request
+unfolding AreReadAs
+read_parts words request read = read
+
+-- and what they ask for
+pub asks_whole : (words : List (List ℕ)) (request : Request) → AreReadAs words request → is_whole request ≡ true → Asks words request
 unfolding Asks
-asked_words words request asks = asks
+asks_whole words request read whole = (read, whole)
+
+pub asked_whole : (words : List (List ℕ)) (request : Request) → Asks words request → AreReadAs words request × (is_whole request ≡ true)
+unfolding Asks
+asked_whole words request asks = asks
 
 -- clap reads one command of words
 one_read : {X Y : Type 0} (read : Option (X × Y)) (x x' : X) (y y' : Y) → read ≡ Some (x, y) → read ≡ Some (x', y') → (x ≡ x') × (y ≡ y')
@@ -68,10 +89,14 @@ one_read {X} {Y} read x x' y y' is is' =
     let pair : ◌≡◌ {A = X × Y} (x, y) (x', y') = cc e in
     (ap (λ (p : X × Y). p.0) pair, ap (λ (p : X × Y). p.1) pair)
 
-pub one_request : (words : List (List ℕ)) (request other : Request) → Asks words request → Asks words other → request ≡ other
-one_request words request other asks asks' =
-    let one = asked_words words request asks in
-    let two = asked_words words other asks' in
+pub one_reading : (words : List (List ℕ)) (request other : Request) → AreReadAs words request → AreReadAs words other → request ≡ other
+one_reading words request other read read' =
+    let one = read_parts words request read in
+    let two = read_parts words other read' in
     let same = one_read (subcommand_of command_set words) one.0 two.0 one.1 two.1 one.2.1 two.2.1 in
     let told : Some request ≡ Some other = sym (request_told one.0 one.1 request one.3) ∙ (ap₂ asked_by same.0 same.1 ∙ request_told two.0 two.1 other two.3) in
     cc told
+
+pub one_request : (words : List (List ℕ)) (request other : Request) → Asks words request → Asks words other → request ≡ other
+one_request words request other asks asks' =
+    one_reading words request other (asked_whole words request asks).0 (asked_whole words other asks').0

@@ -10,12 +10,12 @@ use Rattle.std.proofs.lemmas.Slice.Eq.{bytes_eq-Decides}
 use Rattle.clap.specs.Lexer.{long_of, usize_max}
 use Rattle.clap.specs.Facts.{unwrap_or_range}
 use Rattle.clap.specs.Walk.{Rule, Text, action_of, arg_by_id, arg_by_index, arg_by_long, arg_by_short}
-use Rattle.clap.specs.Simple.{filled, filled_from, index_after, with_index}
+use Rattle.clap.specs.Simple.{filled, filled_from, index_after, new_rule, with_index}
 use Rattle.clap.specs.ValueTests.{accepts}
 use Rattle.clap.specs.declared.builder.action.ArgAction.TheVariants.{Set}
 use Rattle.clap.specs.declared.builder.range.ValueRange.{ValueRange}
 use Rattle.clap.specs.declared.builder.value_parser.ValueParser.TheVariants.{Unsigned}
-use Rattle.om_outcome.specs.CommandLine.{Argument, flag, option, wanted, number, rule_for}
+use Rattle.om_outcome.specs.CommandLine.{Argument, flag, option, optional, wanted, number, rule_for}
 
 -- ---- texts and tests
 
@@ -47,6 +47,11 @@ denied false e = refl
 abbrev pub ruled : ℕ → Argument → Rule
 ruled i a = with_index i (filled (rule_for a))
 
+-- an option with a number up to the greatest, and the texts where it is not used
+abbrev pub taking : Text → ℕ → List Text → Rule
+taking name greatest usual =
+    with_index 1 (filled (record (new_rule name) { long = Some name; parser = Some (Unsigned 0 greatest); defaults = usual }))
+
 abbrev pub rules_from : ℕ → List Argument → List Rule
 rules_from i arguments = filled_from i (map rule_for arguments)
 
@@ -56,6 +61,7 @@ next_place i a = index_after i (rule_for a)
 abbrev pub name_of : Argument → Text
 name_of (flag name) = name
 name_of (option name greatest usual) = name
+name_of (optional name greatest) = name
 name_of (wanted name) = name
 name_of (number name greatest) = name
 
@@ -82,6 +88,7 @@ abbrev pub is_lawful : Argument → Bool
 is_lawful (flag name) = spells name
 is_lawful (option name greatest usual) =
     spells name && (accepts false (Unsigned 0 greatest) usual && (nat_lt greatest (2 ^ 64) && bytes_eq (without_leading_plus usual) usual))
+is_lawful (optional name greatest) = spells name && nat_lt greatest (2 ^ 64)
 is_lawful (wanted name) = true
 is_lawful (number name greatest) = nat_lt greatest (2 ^ 64)
 
@@ -114,6 +121,9 @@ module _ (name : Text) (greatest : ℕ) (usual : Text) (lawful : is_lawful (opti
   usual_as_is =
       (bytes_eq-Decides (without_leading_plus usual) usual).0 (both (nat_lt greatest (2 ^ 64)) _ (both (accepts false (Unsigned 0 greatest) usual) _ rest_lawful).1).1
 
+pub small_optional : (name : Text) (greatest : ℕ) → is_lawful (optional name greatest) ≡ true → greatest < 2 ^ 64
+small_optional name greatest lawful = ltb-true greatest (2 ^ 64) (both (spells name) (nat_lt greatest (2 ^ 64)) lawful).1
+
 pub small_number : (name : Text) (greatest : ℕ) → is_lawful (number name greatest) ≡ true → greatest < 2 ^ 64
 small_number name greatest lawful = ltb-true greatest (2 ^ 64) lawful
 
@@ -123,6 +133,8 @@ IsFound c i (flag name) =
     (arg_by_id c name ≡ Some (ruled i (flag name))) × (arg_by_long c name ≡ Some (ruled i (flag name)))
 IsFound c i (option name greatest usual) =
     (arg_by_id c name ≡ Some (ruled i (option name greatest usual))) × (arg_by_long c name ≡ Some (ruled i (option name greatest usual)))
+IsFound c i (optional name greatest) =
+    (arg_by_id c name ≡ Some (ruled i (optional name greatest))) × (arg_by_long c name ≡ Some (ruled i (optional name greatest)))
 IsFound c i (wanted name) =
     (arg_by_id c name ≡ Some (ruled i (wanted name))) × (arg_by_index c i ≡ Some (ruled i (wanted name)))
 IsFound c i (number name greatest) =
@@ -135,6 +147,7 @@ AreFound c i (a ∷ rest) = IsFound c i a × AreFound c (next_place i a) rest
 found_here : (i : ℕ) (a : Argument) (c : List Rule) → IsFound (ruled i a ∷ c) i a
 found_here i (flag name) c = (rw (same_text name) refl, rw (same_text name) refl)
 found_here i (option name greatest usual) c = (rw (same_text name) refl, rw (same_text name) refl)
+found_here i (optional name greatest) c = (rw (same_text name) refl, rw (same_text name) refl)
 found_here i (wanted name) c = (rw (same_text name) refl, rw (eq-eqb i i refl) refl)
 found_here i (number name greatest) c = (rw (same_text name) refl, rw (eq-eqb i i refl) refl)
 
@@ -143,12 +156,14 @@ found_here i (number name greatest) c = (rw (same_text name) refl, rw (eq-eqb i 
 skip_id : (b : Argument) (j : ℕ) (c : List Rule) (n : Text) → bytes_eq (name_of b) n ≡ false → arg_by_id (ruled j b ∷ c) n ≡ arg_by_id c n
 skip_id (flag name) j c n e = rw e refl
 skip_id (option name greatest usual) j c n e = rw e refl
+skip_id (optional name greatest) j c n e = rw e refl
 skip_id (wanted name) j c n e = rw e refl
 skip_id (number name greatest) j c n e = rw e refl
 
 skip_long : (b : Argument) (j : ℕ) (c : List Rule) (n : Text) → bytes_eq (name_of b) n ≡ false → arg_by_long (ruled j b ∷ c) n ≡ arg_by_long c n
 skip_long (flag name) j c n e = rw e refl
 skip_long (option name greatest usual) j c n e = rw e refl
+skip_long (optional name greatest) j c n e = rw e refl
 skip_long (wanted name) j c n e = refl
 skip_long (number name greatest) j c n e = refl
 
@@ -162,6 +177,7 @@ skip_place j i few least = let next = next_up j few in ne_eqb j i (λ e. omega (
 skip_index : (b : Argument) (j : ℕ) (c : List Rule) (i : ℕ) → j < 1000 → next_place j b ≤ i → arg_by_index (ruled j b ∷ c) i ≡ arg_by_index c i
 skip_index (flag name) j c i few least = refl
 skip_index (option name greatest usual) j c i few least = refl
+skip_index (optional name greatest) j c i few least = refl
 skip_index (wanted name) j c i few least = rw (skip_place j i few least) refl
 skip_index (number name greatest) j c i few least = rw (skip_place j i few least) refl
 
@@ -169,6 +185,7 @@ found_past : (b : Argument) (j : ℕ) (c : List Rule) (i : ℕ) (a : Argument) �
     → IsFound c i a → IsFound (ruled j b ∷ c) i a
 found_past b j c i (flag name) e few least found = (skip_id b j c name e ∙ found.0, skip_long b j c name e ∙ found.1)
 found_past b j c i (option name greatest usual) e few least found = (skip_id b j c name e ∙ found.0, skip_long b j c name e ∙ found.1)
+found_past b j c i (optional name greatest) e few least found = (skip_id b j c name e ∙ found.0, skip_long b j c name e ∙ found.1)
 found_past b j c i (wanted name) e few least found = (skip_id b j c name e ∙ found.0, skip_index b j c i few least ∙ found.1)
 found_past b j c i (number name greatest) e few least found = (skip_id b j c name e ∙ found.0, skip_index b j c i few least ∙ found.1)
 
@@ -176,6 +193,7 @@ found_past b j c i (number name greatest) e few least found = (skip_id b j c nam
 next_within : (i : ℕ) (a : Argument) → i < 1000 → (i ≤ next_place i a) × (next_place i a ≤ i + 1)
 next_within i (flag name) few = (omega arith, omega arith)
 next_within i (option name greatest usual) few = (omega arith, omega arith)
+next_within i (optional name greatest) few = (omega arith, omega arith)
 next_within i (wanted name) few = let next = next_up i few in (omega (arith, next), omega (arith, next))
 next_within i (number name greatest) few = let next = next_up i few in (omega (arith, next), omega (arith, next))
 
@@ -204,6 +222,7 @@ pub no_short : (i : ℕ) (arguments : List Argument) (x : ℕ) → arg_by_short 
 no_short i [] x = refl
 no_short i (flag name ∷ rest) x = no_short (next_place i (flag name)) rest x
 no_short i (option name greatest usual ∷ rest) x = no_short (next_place i (option name greatest usual)) rest x
+no_short i (optional name greatest ∷ rest) x = no_short (next_place i (optional name greatest)) rest x
 no_short i (wanted name ∷ rest) x = no_short (next_place i (wanted name)) rest x
 no_short i (number name greatest ∷ rest) x = no_short (next_place i (number name greatest)) rest x
 
@@ -227,6 +246,7 @@ IsOwn c a = (arg_by_id c a.id ≡ Some a) × (TakesOne a ⊎ IsFlag a)
 own_rule : (c : List Rule) (i : ℕ) (a : Argument) → IsFound c i a → IsOwn c (ruled i a)
 own_rule c i (flag name) found = (found.0, inr (name, refl))
 own_rule c i (option name greatest usual) found = (found.0, inl (refl, refl))
+own_rule c i (optional name greatest) found = (found.0, inl (refl, refl))
 own_rule c i (wanted name) found = (found.0, inl (refl, refl))
 own_rule c i (number name greatest) found = (found.0, inl (refl, refl))
 

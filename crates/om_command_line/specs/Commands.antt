@@ -18,6 +18,7 @@ Form = Bor (List ℕ) × Bor (List Argument)
 abbrev pub argument_of : Argument → outcome.Argument
 argument_of (arguments.Flag name) = outcome.flag name.now
 argument_of (arguments.Option name greatest usual) = outcome.option name.now greatest usual.now
+argument_of (arguments.Optional name greatest) = outcome.optional name.now greatest
 argument_of (arguments.Word name) = outcome.wanted name.now
 argument_of (arguments.Number name greatest) = outcome.number name.now greatest
 

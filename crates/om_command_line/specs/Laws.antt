@@ -1,7 +1,7 @@
 -- The laws of the words.
 use Rattle.std.specs.Prelude.{ℕ, ◌≡◌, List, []}
 use Rattle.clap.specs.Words.{fault_of}
-use Rattle.om_outcome.specs.CommandLine.{command_set, Request, Asks, ArePlain}
+use Rattle.om_outcome.specs.CommandLine.{command_set, Request, AreReadAs, Asks, ArePlain}
 
 -- words ask for one thing at most
 abbrev pub HasOneRequest : Type 0
@@ -14,8 +14,9 @@ abbrev pub PlainWordsAsk : Type 0
 PlainWordsAsk =
     (words : List (List ℕ)) (request : Request) → ArePlain words request → Asks words request
 
--- words in which clap finds no fault ask for something
-abbrev pub AcceptedWordsAsk : Type 0
-AcceptedWordsAsk =
+-- words in which clap finds no fault are read as something; they ask for it, but for a certificate
+-- of one value
+abbrev pub AcceptedWordsAreRead : Type 0
+AcceptedWordsAreRead =
     (words : List (List ℕ)) → fault_of command_set words ≡ []
-    → (request : Request) × Asks words request
+    → (request : Request) × AreReadAs words request

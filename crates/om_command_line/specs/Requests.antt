@@ -1,5 +1,5 @@
 -- The words as texts, and what is asked for.
-use Rattle.std.specs.Prelude.{ℕ, ◌^◌, ◌≡◌, Bool, false, if◌then◌else◌, List, [], ◌∷◌, map, Option, Some, None, option_map, unwrap_or, codes, Result, Ok, Err, String, string_bytes}
+use Rattle.std.specs.Prelude.{ℕ, ◌^◌, ◌≡◌, Bool, false, if◌then◌else◌, List, [], ◌∷◌, map, Option, Some, None, option_map, option_and_then, unwrap_or, codes, Result, Ok, Err, String, string_bytes}
 use Rattle.std.specs.Str.{bytes_eq}
 use Rattle.std.specs.Str.Parse.{digits_value, without_leading_plus}
 use Rattle.std.specs.declared.alloc.Global.{Global}
@@ -7,8 +7,9 @@ use Rattle.clap.specs.ValueTests.{accepts}
 use Rattle.clap.specs.Words.{Row, first_of, found_of, one_of, rows_of, subcommand_rows_of}
 use Rattle.clap.specs.declared.builder.value_parser.ValueParser.TheVariants.{Unsigned}
 use Rattle.clap.specs.declared.parser.matches.ArgMatches.{ArgMatches}
-use Rattle.om_outcome.specs.CommandLine.{Argument, flag, option, wanted, number, Asking, form_of}
+use Rattle.om_outcome.specs.CommandLine.{Argument, flag, option, optional, wanted, number, Asking, form_of}
 use Rattle.om_outcome.specs.CommandLine as outcome
+use Rattle.om_outcome.specs.declared.reading.Reading.{Reading}
 use Rattle.om_outcome.specs.declared.style.Style.{Style}
 use Rattle.om_command_line.specs.declared.read.Request.{Request}
 use Rattle.om_command_line.specs.declared.read.Request.TheVariants as requests
@@ -19,31 +20,31 @@ abbrev pub texts : List (String Global) → List (List ℕ)
 texts words = map (λ word. string_bytes word) words
 
 abbrev pub request_of : Request → outcome.Request
-request_of (requests.Check file type limit) =
-    outcome.tell outcome.the_verdict file.now type.now limit
-request_of (requests.Show file type style limit) =
-    outcome.tell (outcome.the_text style) file.now type.now limit
-request_of (requests.Get file type path style limit) =
-    outcome.get file.now type.now path.now style limit
-request_of (requests.Edit file type script compat limit) =
-    outcome.edit file.now type.now script.now compat limit
-request_of (requests.Trees file type limit) =
-    outcome.tell outcome.the_trees file.now type.now limit
-request_of (requests.Dump limit) = outcome.dump limit
-request_of (requests.Same limit) = outcome.compare limit
-request_of (requests.Build file type) = outcome.own (outcome.build file.now type.now)
-request_of (requests.Verify file type certificate limit) =
-    outcome.own (outcome.verify file.now type.now certificate.now limit)
-request_of (requests.Certify file type limit) =
-    outcome.own (outcome.certify file.now type.now limit)
+request_of (requests.Check file type lines reading) =
+    outcome.tell outcome.the_verdict file.now type.now lines reading
+request_of (requests.Show file type style lines reading) =
+    outcome.tell (outcome.the_text style) file.now type.now lines reading
+request_of (requests.Get file type path style lines reading) =
+    outcome.get file.now type.now path.now style lines reading
+request_of (requests.Edit file type script compat lines reading) =
+    outcome.edit file.now type.now script.now compat lines reading
+request_of (requests.Trees file type lines reading) =
+    outcome.tell outcome.the_trees file.now type.now lines reading
+request_of (requests.Dump reading) = outcome.dump reading
+request_of (requests.Same reading) = outcome.compare reading
+request_of (requests.Build file type lines) = outcome.own (outcome.build file.now type.now lines)
+request_of (requests.Verify file type certificate lines reading) =
+    outcome.own (outcome.verify file.now type.now certificate.now lines reading)
+request_of (requests.Certify file type lines reading) =
+    outcome.own (outcome.certify file.now type.now lines reading)
 request_of (requests.Generate n count type) = outcome.own (outcome.generate n count type.now)
 request_of (requests.Scan limit) = outcome.own (outcome.scan limit)
 
 -- what `check` asks for, with a certificate or without
-abbrev pub check_asks : Bool → (file type : List ℕ) → ℕ → outcome.Request
-check_asks certified file type limit =
-    if certified then outcome.own (outcome.certify file type limit)
-    else outcome.tell outcome.the_verdict file type limit
+abbrev pub check_asks : Bool → (file type : List ℕ) → Bool → Reading → outcome.Request
+check_asks certified file type lines reading =
+    if certified then outcome.own (outcome.certify file type lines reading)
+    else outcome.tell outcome.the_verdict file type lines reading
 
 -- the arguments of a command
 abbrev pub arguments_of : ArgMatches → List Row
@@ -61,22 +62,40 @@ flag_in rows name = bytes_eq (word_in rows name) (codes "true")
 abbrev pub style_in : List Row → Style
 style_in rows = outcome.styled_by (flag_in rows (codes "pretty"))
 
--- the number of 64 bits in a text, or 0
-abbrev pub number_of : Option (List ℕ) → ℕ
-number_of None = 0
+-- the number of 64 bits in a text, if there is one
+abbrev pub number_of : Option (List ℕ) → Option ℕ
+number_of None = None
 number_of (Some text) =
-    if accepts false (Unsigned 0 (2 ^ 64)) text then digits_value 10 (without_leading_plus text)
-    else 0
+    if accepts false (Unsigned 0 (2 ^ 64)) text
+    then Some (digits_value 10 (without_leading_plus text))
+    else None
 
--- the number of this name
+-- the number of this name, if it is given
+abbrev pub given_in : List Row → List ℕ → Option ℕ
+given_in rows name = number_of (one_of name rows)
+
+-- the number of this name, or 0
 abbrev pub number_in : List Row → List ℕ → ℕ
-number_in rows name = number_of (one_of name rows)
+number_in rows name = unwrap_or (given_in rows name) 0
+
+-- how values are read, where this one is told of, if it is one alone
+abbrev pub choosing_in : List Row → Option ℕ → Reading
+choosing_in rows only =
+    outcome.read_by (number_in rows (codes "limit")) (number_in rows (codes "skip")) only
+
+-- how all values are read, and where one alone may be asked for
+abbrev pub reading_in : List Row → Reading
+reading_in rows = choosing_in rows None
+
+abbrev pub choice_in : List Row → Reading
+choice_in rows = choosing_in rows (given_in rows (codes "only"))
 
 -- what is asked for, where all arguments are there
 abbrev pub asked : (arguments : List Argument) → Asking arguments → List Row → outcome.Request
 asked [] asks rows = asks
 asked (flag name ∷ rest) asks rows = asked rest (asks (flag_in rows name)) rows
 asked (option name greatest usual ∷ rest) asks rows = asked rest (asks (number_in rows name)) rows
+asked (optional name greatest ∷ rest) asks rows = asked rest (asks (given_in rows name)) rows
 asked (wanted name ∷ rest) asks rows = asked rest (asks (word_in rows name)) rows
 asked (number name greatest ∷ rest) asks rows = asked rest (asks (number_in rows name)) rows
 
@@ -84,9 +103,14 @@ asked (number name greatest ∷ rest) asks rows = asked rest (asks (number_in ro
 abbrev pub asked_by : List ℕ → List Row → Option outcome.Request
 asked_by command rows = option_map (λ form. asked form.arguments form.asks rows) (form_of command)
 
+-- it, if words may ask for it
+abbrev pub if_whole : outcome.Request → Option outcome.Request
+if_whole request = if outcome.is_whole request then Some request else None
+
 -- what a command with these arguments asks for is read
 abbrev pub ReadsBy : List ℕ → List Row → Option Request → Type 0
-ReadsBy command rows result = asked_by command rows ≡ option_map request_of result
+ReadsBy command rows result =
+    option_and_then if_whole (asked_by command rows) ≡ option_map request_of result
 
 -- the same of the command that was met
 abbrev pub ReadsMet : ArgMatches → Option Request → Type 0

@@ -16,6 +16,8 @@ enum Argument<'a> {
     Flag(&'a str),
     /// `--NAME N`: a number up to the greatest, or the usual one where it is not used.
     Option(&'a str, u64, &'a str),
+    /// `--NAME N`: a number up to the greatest, or none.
+    Optional(&'a str, u64),
     /// A word that is known by its place.
     Word(&'a str),
     /// A number up to the greatest, known by its place.
@@ -28,6 +30,12 @@ type Form<'a> = (&'a str, &'a [Argument<'a>]);
 // The greatest limit of words on 64 bits in a value.
 const GREATEST_LIMIT: u64 = 1 << 40;
 
+// The greatest number of bytes that are passed over.
+const GREATEST_SKIP: u64 = 1 << 48;
+
+// The greatest number of a value that is told of alone.
+const GREATEST_ONLY: u64 = (1 << 63) - 1;
+
 // The greatest NUMBER of a value that is made.
 const GREATEST_NUMBER: u64 = 2147483647;
 
@@ -36,11 +44,17 @@ const GREATEST_COUNT: u64 = 1000000;
 
 const LIMIT: Argument<'static> = Argument::Option("limit", GREATEST_LIMIT, "134217728");
 
+const SKIP: Argument<'static> = Argument::Option("skip", GREATEST_SKIP, "0");
+
+const ONLY: Argument<'static> = Argument::Optional("only", GREATEST_ONLY);
+
 const COMPAT: Argument<'static> = Argument::Flag("compat32");
 
 const CERTIFIED: Argument<'static> = Argument::Flag("cert");
 
 const PRETTY: Argument<'static> = Argument::Flag("pretty");
+
+const LINES: Argument<'static> = Argument::Flag("lines");
 
 const FILE: Argument<'static> = Argument::Word("FILE");
 
@@ -57,15 +71,15 @@ const NUMBER: Argument<'static> = Argument::Number("NUMBER", GREATEST_NUMBER);
 const COUNT: Argument<'static> = Argument::Number("COUNT", GREATEST_COUNT);
 
 static FORMS: [Form<'static>; 11] = [
-    ("check", &[CERTIFIED, LIMIT, FILE, TYPE]),
-    ("show", &[PRETTY, LIMIT, FILE, TYPE]),
-    ("get", &[PRETTY, LIMIT, FILE, TYPE, PATH]),
-    ("edit", &[LIMIT, FILE, TYPE, SCRIPT, COMPAT]),
-    ("trees", &[LIMIT, FILE, TYPE]),
-    ("dump", &[LIMIT]),
-    ("same", &[LIMIT]),
-    ("build", &[FILE, TYPE]),
-    ("verify", &[LIMIT, FILE, TYPE, CERT]),
+    ("check", &[CERTIFIED, ONLY, LINES, LIMIT, SKIP, FILE, TYPE]),
+    ("show", &[PRETTY, ONLY, LINES, LIMIT, SKIP, FILE, TYPE]),
+    ("get", &[PRETTY, ONLY, LINES, LIMIT, SKIP, FILE, TYPE, PATH]),
+    ("edit", &[LINES, LIMIT, SKIP, FILE, TYPE, SCRIPT, COMPAT]),
+    ("trees", &[LINES, LIMIT, SKIP, FILE, TYPE]),
+    ("dump", &[ONLY, LIMIT, SKIP]),
+    ("same", &[LIMIT, SKIP]),
+    ("build", &[LINES, FILE, TYPE]),
+    ("verify", &[LINES, LIMIT, SKIP, FILE, TYPE, CERT]),
     ("gen", &[NUMBER, COUNT, TYPE]),
     ("scan", &[LIMIT]),
 ];
@@ -81,6 +95,9 @@ fn rule<'a>(alloc: Global, argument: Argument<'a>) -> Arg<'a>
             .long(name)
             .value_parser(ValueParser::unsigned(0, greatest))
             .default_value(usual),
+        Argument::Optional(name, greatest) => Arg::new(alloc, name)
+            .long(name)
+            .value_parser(ValueParser::unsigned(0, greatest)),
         Argument::Word(name) => Arg::new(alloc, name).required(true),
         Argument::Number(name, greatest) => Arg::new(alloc, name)
             .value_parser(ValueParser::unsigned(0, greatest))

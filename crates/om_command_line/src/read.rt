@@ -1,32 +1,36 @@
 //! What the words ask for.
 
-ghost use Rattle.std.specs.Prelude.{◌≡◌, ◌≢◌};
+ghost use Rattle.std.specs.Prelude.{◌≡◌, ◌≢◌, option_map};
 ghost use Rattle.clap.specs.Words.{kind_of};
 ghost use Rattle.clap.specs.declared.error.kind.ErrorKind.TheVariants as kinds;
 ghost use Rattle.om_command_line.specs.declared.read.Unread.TheVariants as unreads;
-ghost use Rattle.om_command_line.specs.Requests.{arguments_of, check_asks, flag_in, number_in, request_of, style_in, texts, word_in, ReadsAsked, ReadsBy, ReadsMet, ReadsWords};
+ghost use Rattle.om_command_line.specs.Requests.{arguments_of, check_asks, choice_in, choosing_in, flag_in, given_in, if_whole, number_in, reading_in, request_of, style_in, texts, word_in, ReadsAsked, ReadsBy, ReadsMet, ReadsWords};
 
 use crate::command_set::command_set;
 use clap::error::ErrorKind;
 use clap::{ArgMatches, Error};
+use om_outcome::reading::Reading;
 use om_outcome::style::Style;
 use std::alloc::{AllocError, Global};
 
-/// What the words ask for, with the limit of words on 64 bits in a value where values are read.
+/// What the words ask for: where texts are read, with whether a place in one is told by its line and
+/// column; where values are read, with how they are.
 #[derive(Clone, Copy)]
 pub enum Request<'a> {
     /// Whether the values of the input have the type.
     Check {
         file: &'a str,
         type_text: &'a str,
-        limit: u64,
+        lines: bool,
+        reading: Reading,
     },
     /// The texts of the values of the input, at the type.
     Show {
         file: &'a str,
         type_text: &'a str,
         style: Style,
-        limit: u64,
+        lines: bool,
+        reading: Reading,
     },
     /// The text of the part at the path, at the type.
     Get {
@@ -34,7 +38,8 @@ pub enum Request<'a> {
         type_text: &'a str,
         path_text: &'a str,
         style: Style,
-        limit: u64,
+        lines: bool,
+        reading: Reading,
     },
     /// The bytes of the values of the input at the type, after the lines of a script that edit
     /// them; where `compat` asks for that, a value that a reader on 32 bits cannot hold is refused.
@@ -43,39 +48,44 @@ pub enum Request<'a> {
         type_text: &'a str,
         script: &'a str,
         compat: bool,
-        limit: u64,
+        lines: bool,
+        reading: Reading,
     },
     /// Whether the search trees in the values of the input, which have the type, are sound.
     Trees {
         file: &'a str,
         type_text: &'a str,
-        limit: u64,
+        lines: bool,
+        reading: Reading,
     },
     /// The values of the input as they are.
     Dump {
-        limit: u64,
+        reading: Reading,
     },
     /// Whether the two values of the input are the same.
     Same {
-        limit: u64,
+        reading: Reading,
     },
     /// The bytes of the values that the lines of the input are, at the type.
     Build {
         file: &'a str,
         type_text: &'a str,
+        lines: bool,
     },
     /// Whether a certificate shows of each value whether it has the type.
     Verify {
         file: &'a str,
         type_text: &'a str,
         certificate: &'a str,
-        limit: u64,
+        lines: bool,
+        reading: Reading,
     },
     /// A certificate of the values of the input: why each has the type, or has not.
     Certify {
         file: &'a str,
         type_text: &'a str,
-        limit: u64,
+        lines: bool,
+        reading: Reading,
     },
     /// What is said of the value that is made from a number, with so many items, at the type.
     Generate {
@@ -130,29 +140,73 @@ fn style(arguments: &ArgMatches) -> Style
     }
 }
 
-// The number of this name.
+// The number of this name, if it is given.
+fn given(arguments: &ArgMatches, name: &str) -> Option<u64>
+    ensures { result ≡ given_in (arguments_of arguments.now) name.now }
+{
+    arguments.get_one::<u64>(name)
+}
+
+// The number of this name, or 0.
 fn number(arguments: &ArgMatches, name: &str) -> u64
     ensures { result ≡ number_in (arguments_of arguments.now) name.now }
 {
-    arguments.get_one::<u64>(name).unwrap_or(0)
+    given(arguments, name).unwrap_or(0)
 }
 
-// What `check` asks for: the lines, or a certificate.
-fn check_request<'a>(certified: bool, file: &'a str, type_text: &'a str, limit: u64) -> Request<'a>
-    ensures { request_of result ≡ check_asks certified file.now type_text.now limit }
+// How values are read, where this one is told of, if it is one alone.
+fn choosing(arguments: &ArgMatches, only: Option<u64>) -> Reading
+    ensures { result ≡ choosing_in (arguments_of arguments.now) only }
+{
+    Reading {
+        limit: number(arguments, "limit"),
+        skip: number(arguments, "skip"),
+        only,
+    }
+}
+
+// How all values are read.
+fn reading(arguments: &ArgMatches) -> Reading
+    ensures { result ≡ reading_in (arguments_of arguments.now) }
+{
+    choosing(arguments, None)
+}
+
+// How values are read, where one alone may be asked for.
+fn choice(arguments: &ArgMatches) -> Reading
+    ensures { result ≡ choice_in (arguments_of arguments.now) }
+{
+    choosing(arguments, given(arguments, "only"))
+}
+
+// What `check` asks for: the lines, or a certificate, which is one of all values.
+fn check_request<'a>(
+    certified: bool,
+    file: &'a str,
+    type_text: &'a str,
+    lines: bool,
+    reading: Reading,
+) -> Option<Request<'a>>
+    ensures { option_map request_of result
+        ≡ if_whole (check_asks certified file.now type_text.now lines reading) }
 {
     if certified {
-        Request::Certify {
-            file,
-            type_text,
-            limit,
+        match reading.only {
+            None => Some(Request::Certify {
+                file,
+                type_text,
+                lines,
+                reading,
+            }),
+            Some(_) => None,
         }
     } else {
-        Request::Check {
+        Some(Request::Check {
             file,
             type_text,
-            limit,
-        }
+            lines,
+            reading,
+        })
     }
 }
 
@@ -162,52 +216,66 @@ fn request_by<'a>(command: &str, arguments: &ArgMatches<'a>) -> Option<Request<'
 {
     let file = word(arguments, "FILE");
     let type_text = word(arguments, "TYPE");
-    let limit = number(arguments, "limit");
+    let lines = flag(arguments, "lines");
+    let reading = reading(arguments);
     match command {
         "check" => {
             let certified = flag(arguments, "cert");
-            Some(check_request(certified, file, type_text, limit))
+            check_request(certified, file, type_text, lines, choice(arguments))
         }
         "show" => Some(Request::Show {
             file,
             type_text,
             style: style(arguments),
-            limit,
+            lines,
+            reading: choice(arguments),
         }),
         "get" => Some(Request::Get {
             file,
             type_text,
             path_text: word(arguments, "PATH"),
             style: style(arguments),
-            limit,
+            lines,
+            reading: choice(arguments),
         }),
         "edit" => Some(Request::Edit {
             file,
             type_text,
             script: word(arguments, "SCRIPT"),
             compat: flag(arguments, "compat32"),
-            limit,
+            lines,
+            reading,
         }),
         "trees" => Some(Request::Trees {
             file,
             type_text,
-            limit,
+            lines,
+            reading,
         }),
-        "dump" => Some(Request::Dump { limit }),
-        "same" => Some(Request::Same { limit }),
-        "build" => Some(Request::Build { file, type_text }),
+        "dump" => Some(Request::Dump {
+            reading: choice(arguments),
+        }),
+        "same" => Some(Request::Same { reading }),
+        "build" => Some(Request::Build {
+            file,
+            type_text,
+            lines,
+        }),
         "verify" => Some(Request::Verify {
             file,
             type_text,
             certificate: word(arguments, "CERT"),
-            limit,
+            lines,
+            reading,
         }),
         "gen" => Some(Request::Generate {
             number: number(arguments, "NUMBER"),
             count: number(arguments, "COUNT"),
             type_text,
         }),
-        "scan" => Some(Request::Scan { limit }),
+        "scan" => Some(Request::Scan {
+            limit: reading.limit,
+        }),
         _ => None,
     }
 }

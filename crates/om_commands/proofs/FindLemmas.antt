@@ -2,7 +2,7 @@
 use Rattle.std.proofs.Common.{◌≡◌, ◌⊎◌, ℕ, Bool, List, Option, Some, Result, Ok, Err, inl, inr, refl, sym, ap, ◌∙◌, subst}
 use Rattle.std.specs.Prelude.{MatchResult}
 use Rattle.om_outcome.specs.Outcome as outcome
-use Rattle.om_outcome.specs.Outcome.{Found, opened, whole, Request, tell, get, edit, dump, compare, own, Stop, declarations, requested_type, script_line, Saying, the_part, Work, tells, edits, Task, task, limit_of, Language, Then, OrRefusal, ReadsFile, ReadsTypeOf, ReadsPathOf, ReadsScriptOf, TellsAt, EditsBy, FindsWork}
+use Rattle.om_outcome.specs.Outcome.{Found, opened, whole, Request, AskedType, asked_type, tell, get, edit, dump, compare, own, Stop, declarations, requested_type, script_line, Saying, the_part, Work, tells, edits, Task, task, limit_of, Language, Then, OrRefusal, ReadsFile, ReadsTypeOf, ReadsPathOf, ReadsScriptOf, TellsAt, EditsBy, FindsWork}
 use Rattle.om_promises.specs.Commands.{Fetches}
 use Rattle.om_promises.specs.Lawful.{IsOnce, IsInner, FailsAtFile}
 use Rattle.om_promises.specs.LawfulLanguage.{IsLawful}
@@ -55,25 +55,27 @@ then_read {X} {Y} name found first next reads result (given, h, m) = from given 
 module _ {D T E : Type 0} (language : Language D T E) (lawful : IsLawful language) where
   -- ---- what is found is one
 
-  text_once : (text : List ℕ) → IsOnce (language.ReadsDeclarations text)
-  text_once text (Ok d) (Ok e) h k = ap (λ d. Ok d) (lawful.same_declarations text d e h k)
-  text_once text (Ok d) (Err r) h k = absurd (lawful.declarations_once text d r h k)
-  text_once text (Err r) (Ok e) h k = absurd (lawful.declarations_once text e r k h)
-  text_once text (Err r) (Err s) h k = ap (λ r. Err r) (lawful.same_refusal text r s h k)
+  text_once : (lined : Bool) (text : List ℕ) → IsOnce (language.ReadsDeclarations lined text)
+  text_once lined text (Ok d) (Ok e) h k =
+      ap (λ d. Ok d) (lawful.same_declarations lined text d e h k)
+  text_once lined text (Ok d) (Err r) h k = absurd (lawful.declarations_once lined text d r h k)
+  text_once lined text (Err r) (Ok e) h k = absurd (lawful.declarations_once lined text e r k h)
+  text_once lined text (Err r) (Err s) h k =
+      ap (λ r. Err r) (lawful.same_refusal lined text r s h k)
 
-  requested_once : (d : D) (text : List ℕ) → IsOnce (language.ReadsType d text)
+  requested_once : (d : D) (text : AskedType) → IsOnce (language.ReadsType d text)
   requested_once d text (Ok t) (Ok u) h k = ap (λ t. Ok t) (lawful.same_type d text t u h k)
   requested_once d text (Ok t) (Err r) h k = absurd (lawful.type_once d text t r h k)
   requested_once d text (Err r) (Ok u) h k = absurd (lawful.type_once d text u r k h)
   requested_once d text (Err r) (Err s) h k =
       ap (λ r. Err r) (lawful.same_type_refusal d text r s h k)
 
-  lines_once : (text : List ℕ) → IsOnce (language.ReadsScript text)
-  lines_once text (Ok l) (Ok m) h k = ap (λ l. Ok l) (lawful.same_script text l m h k)
-  lines_once text (Ok l) (Err r) h k = absurd (lawful.script_once text l r h k)
-  lines_once text (Err r) (Ok m) h k = absurd (lawful.script_once text m r k h)
-  lines_once text (Err r) (Err s) h k =
-      ap (λ r. Err r) (lawful.same_script_refusal text r s h k)
+  lines_once : (lined : Bool) (text : List ℕ) → IsOnce (language.ReadsScript lined text)
+  lines_once lined text (Ok l) (Ok m) h k = ap (λ l. Ok l) (lawful.same_script lined text l m h k)
+  lines_once lined text (Ok l) (Err r) h k = absurd (lawful.script_once lined text l r h k)
+  lines_once lined text (Err r) (Ok m) h k = absurd (lawful.script_once lined text m r k h)
+  lines_once lined text (Err r) (Err s) h k =
+      ap (λ r. Err r) (lawful.same_script_refusal lined text r s h k)
 
   path_once : (text : List ℕ) → IsOnce (ReadsPathOf language text)
   path_once text (Ok p) (Ok q) h k = ap (λ p. Ok p) (lawful.same_path text p q h k)
@@ -82,56 +84,57 @@ module _ {D T E : Type 0} (language : Language D T E) (lawful : IsLawful languag
   path_once text (Err s) (Err t) (none, is) (none', is') = ap (λ s. Err s) (is ∙ sym is')
 
   pub type_once :
-      (file : List ℕ → Found) (typed : List ℕ × List ℕ)
+      (file : List ℕ → Found) (typed : List ℕ × AskedType)
       → IsOnce (ReadsTypeOf language file typed)
   type_once file typed =
       Then_once (ReadsFile typed.0 (file typed.0))
-      (λ text. Then (OrRefusal (language.ReadsDeclarations text) declarations)
+      (λ text. Then (OrRefusal (language.ReadsDeclarations typed.1.lines text) declarations)
       (λ decls. OrRefusal (language.ReadsType decls typed.1) requested_type))
       (reads_once typed.0 (file typed.0))
-      (λ text. Then_once (OrRefusal (language.ReadsDeclarations text) declarations)
+      (λ text. Then_once (OrRefusal (language.ReadsDeclarations typed.1.lines text) declarations)
       (λ decls. OrRefusal (language.ReadsType decls typed.1) requested_type)
-      (refusal_once (language.ReadsDeclarations text) declarations (text_once text))
+      (refusal_once (language.ReadsDeclarations typed.1.lines text) declarations (text_once typed.1.lines text))
       (λ decls. refusal_once (language.ReadsType decls typed.1) requested_type
       (requested_once decls typed.1)))
 
   tells_once :
-      (file : List ℕ → Found) (typed : List ℕ × List ℕ) (saying : Saying)
+      (file : List ℕ → Found) (typed : List ℕ × AskedType) (saying : Saying)
       → IsOnce (TellsAt language file typed saying)
   tells_once file typed saying =
       Then_once (ReadsTypeOf language file typed) (λ type found. found ≡ Ok (tells saying type))
       (type_once file typed) (λ type found other h k. h ∙ sym k)
 
   script_once :
-      (script : List ℕ → Found) (name : List ℕ) → IsOnce (ReadsScriptOf language script name)
-  script_once script name =
+      (lined : Bool) (script : List ℕ → Found) (name : List ℕ)
+      → IsOnce (ReadsScriptOf language lined script name)
+  script_once lined script name =
       Then_once (ReadsFile name (script name))
-      (λ text. OrRefusal (language.ReadsScript text) (λ refusal. script_line refusal.0 refusal.1))
-      (reads_once name (script name))
-      (λ text. refusal_once (language.ReadsScript text)
-      (λ refusal. script_line refusal.0 refusal.1) (lines_once text))
+      (λ text. OrRefusal (language.ReadsScript lined text)
+      (λ refusal. script_line refusal.0 refusal.1)) (reads_once name (script name))
+      (λ text. refusal_once (language.ReadsScript lined text)
+      (λ refusal. script_line refusal.0 refusal.1) (lines_once lined text))
 
   edits_once :
-      (files : outcome.Fetches) (typed : List ℕ × List ℕ) (name : List ℕ) (compat : Bool)
+      (files : outcome.Fetches) (typed : List ℕ × AskedType) (name : List ℕ) (compat : Bool)
       → IsOnce (EditsBy language files typed name compat)
   edits_once files typed name compat =
       Then_once (ReadsTypeOf language files.file typed)
-      (λ type. Then (ReadsScriptOf language files.script name)
+      (λ type. Then (ReadsScriptOf language typed.1.lines files.script name)
       (λ script found. found ≡ Ok (edits type script compat)))
       (type_once files.file typed)
-      (λ type. Then_once (ReadsScriptOf language files.script name)
+      (λ type. Then_once (ReadsScriptOf language typed.1.lines files.script name)
       (λ script found. found ≡ Ok (edits type script compat))
-      (script_once files.script name) (λ script found other h k. h ∙ sym k))
+      (script_once typed.1.lines files.script name) (λ script found other h k. h ∙ sym k))
 
   work_once :
       (files : outcome.Fetches) (request : Request) → IsOnce (FindsWork language files request)
-  work_once files (tell saying f t most) r s h k = tells_once files.file (f, t) saying r s h k
-  work_once files (get f t text style most) r s h k =
+  work_once files (tell saying f t lined most) r s h k = tells_once files.file (f, asked_type t lined) saying r s h k
+  work_once files (get f t text style lined most) r s h k =
       Then_once (ReadsPathOf language text)
-      (λ path. TellsAt language files.file (f, t) (the_part path style))
-      (path_once text) (λ path. tells_once files.file (f, t) (the_part path style)) r s h k
-  work_once files (edit f t script compat most) r s h k =
-      edits_once files (f, t) script compat r s h k
+      (λ path. TellsAt language files.file (f, asked_type t lined) (the_part path style))
+      (path_once text) (λ path. tells_once files.file (f, asked_type t lined) (the_part path style)) r s h k
+  work_once files (edit f t script compat lined most) r s h k =
+      edits_once files (f, asked_type t lined) script compat r s h k
   work_once files (dump most) r s h k = h ∙ sym k
   work_once files (compare most) r s h k = h ∙ sym k
   work_once files (own request) r s h k = absurd h
@@ -156,30 +159,30 @@ module _ {D T E : Type 0} (language : Language D T E) (lawful : IsLawful languag
   -- ---- it is by the files that are wanted
 
   pub type_by :
-      (file other : List ℕ → Found) (typed : List ℕ × List ℕ) (result : Result T Stop)
+      (file other : List ℕ → Found) (typed : List ℕ × AskedType) (result : Result T Stop)
       → file typed.0 ≡ other typed.0
       → ReadsTypeOf language file typed result → ReadsTypeOf language other typed result
   type_by file other typed result same (text, reads, next) =
       (text, subst (λ found. ReadsFile typed.0 found text) same reads, next)
 
   tells_by :
-      (file other : List ℕ → Found) (typed : List ℕ × List ℕ) (saying : Saying)
+      (file other : List ℕ → Found) (typed : List ℕ × AskedType) (saying : Saying)
       (result : Result (Work T E) Stop) → file typed.0 ≡ other typed.0
       → TellsAt language file typed saying result → TellsAt language other typed saying result
   tells_by file other typed saying result same (type, reads, next) =
       (type, type_by file other typed type same reads, next)
 
   script_by :
-      (script other : List ℕ → Found) (name : List ℕ) (result : Result (List E) Stop)
-      → script name ≡ other name
-      → ReadsScriptOf language script name result → ReadsScriptOf language other name result
-  script_by script other name result same (text, reads, next) =
+      (lined : Bool) (script other : List ℕ → Found) (name : List ℕ) (result : Result (List E) Stop)
+      → script name ≡ other name → ReadsScriptOf language lined script name result
+      → ReadsScriptOf language lined other name result
+  script_by lined script other name result same (text, reads, next) =
       (text, subst (λ found. ReadsFile name found text) same reads, next)
 
   -- what is found by the lines of SCRIPT
-  abbrev Lines : Fetches → List ℕ → Bool → Result (Work T E) Stop → T → Type 0
-  Lines files name compat result type =
-      Then (ReadsScriptOf language (files 1) name)
+  abbrev Lines : Bool → Fetches → List ℕ → Bool → Result (Work T E) Stop → T → Type 0
+  Lines lined files name compat result type =
+      Then (ReadsScriptOf language lined (files 1) name)
       (λ lines found. found ≡ Ok (edits type lines compat)) result
 
   work_by :
@@ -188,29 +191,29 @@ module _ {D T E : Type 0} (language : Language D T E) (lawful : IsLawful languag
       → files turn name ≡ others turn name)
       → FindsWork language (by_turns files) request result
       → FindsWork language (by_turns others) request result
-  work_by (tell saying f t most) files others result same h =
-      tells_by (files 0) (others 0) (f, t) saying result
-      (same 0 f (inl (refl, record { has_path = tt; type = t; typed = refl }))) h
-  work_by (get f t text style most) files others result same (Err s, none, next) = (Err s, none, next)
-  work_by (get f t text style most) files others result same (Ok path, is_path, h) = (
+  work_by (tell saying f t lined most) files others result same h =
+      tells_by (files 0) (others 0) (f, asked_type t lined) saying result
+      (same 0 f (inl (refl, record { has_path = tt; type = asked_type t lined; typed = refl }))) h
+  work_by (get f t text style lined most) files others result same (Err s, none, next) = (Err s, none, next)
+  work_by (get f t text style lined most) files others result same (Ok path, is_path, h) = (
     Ok path,
     is_path,
-    tells_by (files 0) (others 0) (f, t) (the_part path style) result
-        (same 0 f (inl (refl, record { has_path = (path, is_path); type = t; typed = refl }))) h,
+    tells_by (files 0) (others 0) (f, asked_type t lined) (the_part path style) result
+        (same 0 f (inl (refl, record { has_path = (path, is_path); type = asked_type t lined; typed = refl }))) h,
   )
-  work_by (edit f t script compat most) files others result same (type, reads, next) =
-      (type, type_by (files 0) (others 0) (f, t) type wanted reads, from type reads next) where
+  work_by (edit f t script compat lined most) files others result same (type, reads, next) =
+      (type, type_by (files 0) (others 0) (f, asked_type t lined) type wanted reads, from type reads next) where
         wanted : files 0 f ≡ others 0 f
-        wanted = same 0 f (inl (refl, record { has_path = tt; type = t; typed = refl }))
+        wanted = same 0 f (inl (refl, record { has_path = tt; type = asked_type t lined; typed = refl }))
 
-        from : (type : Result T Stop) → ReadsTypeOf language (files 0) (f, t) type
-            → MatchResult type (Lines files script compat result) (λ stop. result ≡ Err stop)
-            → MatchResult type (Lines others script compat result) (λ stop. result ≡ Err stop)
+        from : (type : Result T Stop) → ReadsTypeOf language (files 0) (f, asked_type t lined) type
+            → MatchResult type (Lines lined files script compat result) (λ stop. result ≡ Err stop)
+            → MatchResult type (Lines lined others script compat result) (λ stop. result ≡ Err stop)
         from (Err s) reads is = is
         from (Ok type) reads (lines, read, is) =
-            let asked : WantsScript language (edit f t script compat most) files script =
-            record { scripted = refl; typed = (f, t); is_typed = refl; type = type; reads = reads } in
-            (lines, script_by (files 1) (others 1) script lines (same 1 script (inr (refl, asked))) read, is)
+            let asked : WantsScript language (edit f t script compat lined most) files script =
+            record { scripted = refl; typed = (f, asked_type t lined); is_typed = refl; type = type; reads = reads } in
+            (lines, script_by lined (files 1) (others 1) script lines (same 1 script (inr (refl, asked))) read, is)
   work_by (dump most) files others result same h = h
   work_by (compare most) files others result same h = h
   work_by (own request) files others result same h = h
@@ -226,16 +229,16 @@ module _ {D T E : Type 0} (language : Language D T E) (lawful : IsLawful languag
   -- ---- each of them is read, or stops the run
 
   pub type_read :
-      (file : List ℕ → Found) (typed : List ℕ × List ℕ) (result : Result T Stop)
+      (file : List ℕ → Found) (typed : List ℕ × AskedType) (result : Result T Stop)
       → ReadsTypeOf language file typed result → IsRead typed.0 (file typed.0) result
   type_read file typed =
       then_read typed.0 (file typed.0) (ReadsFile typed.0 (file typed.0))
-      (λ text. Then (OrRefusal (language.ReadsDeclarations text) declarations)
+      (λ text. Then (OrRefusal (language.ReadsDeclarations typed.1.lines text) declarations)
       (λ decls. OrRefusal (language.ReadsType decls typed.1) requested_type))
       (file_read typed.0 (file typed.0))
 
   tells_read :
-      (file : List ℕ → Found) (typed : List ℕ × List ℕ) (saying : Saying)
+      (file : List ℕ → Found) (typed : List ℕ × AskedType) (saying : Saying)
       (result : Result (Work T E) Stop) → TellsAt language file typed saying result
       → IsRead typed.0 (file typed.0) result
   tells_read file typed saying =
@@ -243,46 +246,47 @@ module _ {D T E : Type 0} (language : Language D T E) (lawful : IsLawful languag
       (λ type found. found ≡ Ok (tells saying type)) (type_read file typed)
 
   script_read :
-      (script : List ℕ → Found) (name : List ℕ) (result : Result (List E) Stop)
-      → ReadsScriptOf language script name result → IsRead name (script name) result
-  script_read script name =
+      (lined : Bool) (script : List ℕ → Found) (name : List ℕ) (result : Result (List E) Stop)
+      → ReadsScriptOf language lined script name result → IsRead name (script name) result
+  script_read lined script name =
       then_read name (script name) (ReadsFile name (script name))
-      (λ text. OrRefusal (language.ReadsScript text) (λ refusal. script_line refusal.0 refusal.1))
-      (file_read name (script name))
+      (λ text. OrRefusal (language.ReadsScript lined text)
+      (λ refusal. script_line refusal.0 refusal.1)) (file_read name (script name))
 
   edits_read :
-      (files : outcome.Fetches) (typed : List ℕ × List ℕ) (name : List ℕ) (compat : Bool)
+      (files : outcome.Fetches) (typed : List ℕ × AskedType) (name : List ℕ) (compat : Bool)
       (result : Result (Work T E) Stop) → EditsBy language files typed name compat result
       → IsRead typed.0 (files.file typed.0) result
   edits_read files typed name compat =
       then_read typed.0 (files.file typed.0) (ReadsTypeOf language files.file typed)
-      (λ type. Then (ReadsScriptOf language files.script name)
+      (λ type. Then (ReadsScriptOf language typed.1.lines files.script name)
       (λ script found. found ≡ Ok (edits type script compat))) (type_read files.file typed)
 
   -- FILE of the words is the one that is wanted
   same_file :
-      (f t name : List ℕ) (files : Fetches) (result : Result (Work T E) Stop)
-      → (type : List ℕ) → ◌≡◌ {A = Option (List ℕ × List ℕ)} (Some (f, t)) (Some (name, type))
+      (f : List ℕ) (t : AskedType) (name : List ℕ) (files : Fetches)
+      (result : Result (Work T E) Stop) (type : AskedType)
+      → ◌≡◌ {A = Option (List ℕ × AskedType)} (Some (f, t)) (Some (name, type))
       → IsRead f (files 0 f) result → IsRead name (files 0 name) result
   same_file f t name files result type same =
-      let both : ◌≡◌ {A = List ℕ × List ℕ} (f, t) (name, type) = cc in
+      let both : ◌≡◌ {A = List ℕ × AskedType} (f, t) (name, type) = cc in
       subst (λ n. IsRead n (files 0 n) result) (ap (λ p. p.0) both)
 
   file_wanted :
       (request : Request) (files : Fetches) (result : Result (Work T E) Stop) (name : List ℕ)
       → FindsWork language (by_turns files) request result → WantsFile language request name
       → IsRead name (files 0 name) result
-  file_wanted (tell saying f t most) files result name h w =
-      same_file f t name files result w.type w.typed
-      (tells_read (files 0) (f, t) saying result h)
-  file_wanted (get f t text style most) files result name (Err s, (none, is), next) w =
+  file_wanted (tell saying f t lined most) files result name h w =
+      same_file f (asked_type t lined) name files result w.type w.typed
+      (tells_read (files 0) (f, asked_type t lined) saying result h)
+  file_wanted (get f t text style lined most) files result name (Err s, (none, is), next) w =
       absurd (lawful.path_once text w.has_path.0 w.has_path.1 none)
-  file_wanted (get f t text style most) files result name (Ok path, is_path, h) w =
-      same_file f t name files result w.type w.typed
-      (tells_read (files 0) (f, t) (the_part path style) result h)
-  file_wanted (edit f t script compat most) files result name h w =
-      same_file f t name files result w.type w.typed
-      (edits_read (by_turns files) (f, t) script compat result h)
+  file_wanted (get f t text style lined most) files result name (Ok path, is_path, h) w =
+      same_file f (asked_type t lined) name files result w.type w.typed
+      (tells_read (files 0) (f, asked_type t lined) (the_part path style) result h)
+  file_wanted (edit f t script compat lined most) files result name h w =
+      same_file f (asked_type t lined) name files result w.type w.typed
+      (edits_read (by_turns files) (f, asked_type t lined) script compat result h)
   file_wanted (dump most) files result name h w = let e = w.typed in absurd (cc e)
   file_wanted (compare most) files result name h w = let e = w.typed in absurd (cc e)
   file_wanted (own request) files result name h w = absurd h
@@ -291,28 +295,30 @@ module _ {D T E : Type 0} (language : Language D T E) (lawful : IsLawful languag
       (request : Request) (files : Fetches) (result : Result (Work T E) Stop) (name : List ℕ)
       → FindsWork language (by_turns files) request result
       → WantsScript language request files name → IsRead name (files 1 name) result
-  script_wanted (tell saying f t most) files result name h w = let e = w.scripted in absurd (cc e)
-  script_wanted (get f t text style most) files result name h w = let e = w.scripted in absurd (cc e)
-  script_wanted (edit f t script compat most) files result name (given, reads, next) w =
-      from given (type_once (files 0) (f, t) (Ok w.type) given first reads) next where
-        both : ◌≡◌ {A = List ℕ × List ℕ} (f, t) w.typed
-        both = let e : ◌≡◌ {A = Option (List ℕ × List ℕ)} (Some (f, t)) (Some w.typed) = w.is_typed in cc e
+  script_wanted (tell saying f t lined most) files result name h w = let e = w.scripted in absurd (cc e)
+  script_wanted (get f t text style lined most) files result name h w = let e = w.scripted in absurd (cc e)
+  script_wanted (edit f t script compat lined most) files result name (given, reads, next) w =
+      from given (type_once (files 0) (f, asked_type t lined) (Ok w.type) given first reads) next where
+        both : ◌≡◌ {A = List ℕ × AskedType} (f, asked_type t lined) w.typed
+        both =
+            let e : ◌≡◌ {A = Option (List ℕ × AskedType)} (Some (f, asked_type t lined)) (Some w.typed) =
+            w.is_typed in cc e
 
-        first : ReadsTypeOf language (files 0) (f, t) (Ok w.type)
+        first : ReadsTypeOf language (files 0) (f, asked_type t lined) (Ok w.type)
         first = subst (λ p. ReadsTypeOf language (files 0) p (Ok w.type)) (sym both) w.reads
 
         same : script ≡ name
         same = let e : ◌≡◌ {A = Option (List ℕ)} (Some script) (Some name) = w.scripted in cc e
 
         from : (given : Result T Stop) → Ok w.type ≡ given
-            → MatchResult given (Lines files script compat result) (λ stop. result ≡ Err stop)
+            → MatchResult given (Lines lined files script compat result) (λ stop. result ≡ Err stop)
             → IsRead name (files 1 name) result
         from (Err s) e next = absurd (cc e)
         from (Ok type) e next =
             subst (λ n. IsRead n (files 1 n) result) same
-            (then_read script (files 1 script) (ReadsScriptOf language (files 1) script)
-            (λ lines found. found ≡ Ok (edits type lines compat)) (script_read (files 1) script)
-            result next)
+            (then_read script (files 1 script) (ReadsScriptOf language lined (files 1) script)
+            (λ lines found. found ≡ Ok (edits type lines compat))
+            (script_read lined (files 1) script) result next)
   script_wanted (dump most) files result name h w = let e = w.scripted in absurd (cc e)
   script_wanted (compare most) files result name h w = let e = w.scripted in absurd (cc e)
   script_wanted (own request) files result name h w = absurd h
@@ -340,7 +346,7 @@ module _ {D T E : Type 0} (language : Language D T E) (lawful : IsLawful languag
   ComesOf name found stop = IsInner stop ⊎ ReadsFile name found (Err stop)
 
   pub type_inside :
-      (file : List ℕ → Found) (typed : List ℕ × List ℕ) (stop : Stop)
+      (file : List ℕ → Found) (typed : List ℕ × AskedType) (stop : Stop)
       → ReadsTypeOf language file typed (Err stop) → ComesOf typed.0 (file typed.0) stop
   type_inside file typed stop (Err s, fault, is) =
       let same : s ≡ stop = cc is in
@@ -352,7 +358,7 @@ module _ {D T E : Type 0} (language : Language D T E) (lawful : IsLawful languag
       inl (subst IsInner (sym e) tt)
 
   tells_inside :
-      (file : List ℕ → Found) (typed : List ℕ × List ℕ) (saying : Saying) (stop : Stop)
+      (file : List ℕ → Found) (typed : List ℕ × AskedType) (saying : Saying) (stop : Stop)
       → TellsAt language file typed saying (Err stop) → ComesOf typed.0 (file typed.0) stop
   tells_inside file typed saying stop (Ok type, reads, told) = absurd (cc told)
   tells_inside file typed saying stop (Err s, reads, is) =
@@ -360,12 +366,12 @@ module _ {D T E : Type 0} (language : Language D T E) (lawful : IsLawful languag
       subst (ComesOf typed.0 (file typed.0)) same (type_inside file typed s reads)
 
   script_inside :
-      (script : List ℕ → Found) (name : List ℕ) (stop : Stop)
-      → ReadsScriptOf language script name (Err stop) → ComesOf name (script name) stop
-  script_inside script name stop (Err s, fault, is) =
+      (lined : Bool) (script : List ℕ → Found) (name : List ℕ) (stop : Stop)
+      → ReadsScriptOf language lined script name (Err stop) → ComesOf name (script name) stop
+  script_inside lined script name stop (Err s, fault, is) =
       let same : s ≡ stop = cc is in
       inr (subst (λ s. ReadsFile name (script name) (Err s)) same fault)
-  script_inside script name stop (Ok text, reads, (refusal, refuses, e)) =
+  script_inside lined script name stop (Ok text, reads, (refusal, refuses, e)) =
       inl (subst IsInner (sym e) tt)
 
   -- the stop is none of the outside, or a file that is wanted stops the run
@@ -390,29 +396,29 @@ module _ {D T E : Type 0} (language : Language D T E) (lawful : IsLawful languag
   work_inside :
       (request : Request) (files : Fetches) (stop : Stop)
       → FindsWork language (by_turns files) request (Err stop) → IsInside request files stop
-  work_inside (tell saying f t most) files stop h =
-      at_file (tell saying f t most) files stop 0 f
-      (inl (refl, record { has_path = tt; type = t; typed = refl }))
-      (tells_inside (files 0) (f, t) saying stop h)
-  work_inside (get f t text style most) files stop (Err s, (none, e), is) =
+  work_inside (tell saying f t lined most) files stop h =
+      at_file (tell saying f t lined most) files stop 0 f
+      (inl (refl, record { has_path = tt; type = asked_type t lined; typed = refl }))
+      (tells_inside (files 0) (f, asked_type t lined) saying stop h)
+  work_inside (get f t text style lined most) files stop (Err s, (none, e), is) =
       let same : stop ≡ s = cc is in inl (subst IsInner (sym (same ∙ e)) tt)
-  work_inside (get f t text style most) files stop (Ok path, is_path, h) =
-      at_file (get f t text style most) files stop 0 f
-      (inl (refl, record { has_path = (path, is_path); type = t; typed = refl }))
-      (tells_inside (files 0) (f, t) (the_part path style) stop h)
-  work_inside (edit f t script compat most) files stop (Err s, reads, is) =
+  work_inside (get f t text style lined most) files stop (Ok path, is_path, h) =
+      at_file (get f t text style lined most) files stop 0 f
+      (inl (refl, record { has_path = (path, is_path); type = asked_type t lined; typed = refl }))
+      (tells_inside (files 0) (f, asked_type t lined) (the_part path style) stop h)
+  work_inside (edit f t script compat lined most) files stop (Err s, reads, is) =
       let same : s ≡ stop = cc is in
-      at_file (edit f t script compat most) files stop 0 f
-      (inl (refl, record { has_path = tt; type = t; typed = refl }))
-      (subst (ComesOf f (files 0 f)) same (type_inside (files 0) (f, t) s reads))
-  work_inside (edit f t script compat most) files stop (Ok type, reads, (Ok lines, read, told)) =
+      at_file (edit f t script compat lined most) files stop 0 f
+      (inl (refl, record { has_path = tt; type = asked_type t lined; typed = refl }))
+      (subst (ComesOf f (files 0 f)) same (type_inside (files 0) (f, asked_type t lined) s reads))
+  work_inside (edit f t script compat lined most) files stop (Ok type, reads, (Ok lines, read, told)) =
       absurd (cc told)
-  work_inside (edit f t script compat most) files stop (Ok type, reads, (Err s, read, is)) =
+  work_inside (edit f t script compat lined most) files stop (Ok type, reads, (Err s, read, is)) =
       let same : s ≡ stop = cc is in
-      let asked : WantsScript language (edit f t script compat most) files script =
-      record { scripted = refl; typed = (f, t); is_typed = refl; type = type; reads = reads } in
-      at_file (edit f t script compat most) files stop 1 script (inr (refl, asked))
-      (subst (ComesOf script (files 1 script)) same (script_inside (files 1) script s read))
+      let asked : WantsScript language (edit f t script compat lined most) files script =
+      record { scripted = refl; typed = (f, asked_type t lined); is_typed = refl; type = type; reads = reads } in
+      at_file (edit f t script compat lined most) files stop 1 script (inr (refl, asked))
+      (subst (ComesOf script (files 1 script)) same (script_inside lined (files 1) script s read))
   work_inside (dump most) files stop h = absurd (cc h)
   work_inside (compare most) files stop h = absurd (cc h)
   work_inside (own request) files stop h = absurd h
@@ -431,9 +437,9 @@ module _ {D T E : Type 0} (language : Language D T E) (lawful : IsLawful languag
       (request : Request) (files : Fetches) (turn : ℕ)
       → IsOnce (Wants language request files turn)
   wants_once request files turn name other (inl (now, w)) (inl (now', v)) =
-      let e : ◌≡◌ {A = Option (List ℕ × List ℕ)} (Some (name, w.type)) (Some (other, v.type)) =
+      let e : ◌≡◌ {A = Option (List ℕ × AskedType)} (Some (name, w.type)) (Some (other, v.type)) =
       sym w.typed ∙ v.typed in
-      let both : ◌≡◌ {A = List ℕ × List ℕ} (name, w.type) (other, v.type) = cc e in
+      let both : ◌≡◌ {A = List ℕ × AskedType} (name, w.type) (other, v.type) = cc e in
       ap (λ p. p.0) both
   wants_once request files turn name other (inl (now, w)) (inr (now', v)) = absurd (cc (now, now'))
   wants_once request files turn name other (inr (now, w)) (inl (now', v)) = absurd (cc (now, now'))

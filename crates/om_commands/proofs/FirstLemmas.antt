@@ -24,13 +24,14 @@ module _ {D T E : Type 0} (language : Language D T E) where
   module _ (a : Task T E) where
     -- values at the front are items at the front
     cut_of :
-        (bytes : List ℕ) (trees : List Tree) (rest : List ℕ)
-        → SpellAll a.limit bytes trees rest → Cut (commands language) a bytes (items_of trees) rest
-    cut_of bytes [] rest same = same
-    cut_of bytes (tree ∷ trees) rest (first, more, same, spelled, all) = (
+        (before : List Item) (bytes : List ℕ) (trees : List Tree) (rest : List ℕ)
+        → SpellAll a.limit bytes trees rest
+        → Cut (commands language) a before bytes (items_of trees) rest
+    cut_of before bytes [] rest same = same
+    cut_of before bytes (tree ∷ trees) rest (first, more, same, spelled, all) = (
       more,
       record { tree = tree; is = refl; spelled = (first, more, same, spelled, refl) },
-      cut_of more trees rest all,
+      cut_of (before ++ value tree ∷ []) more trees rest all,
     )
 
     say_of :
@@ -53,7 +54,7 @@ module _ {D T E : Type 0} (language : Language D T E) where
         → SayFirst language a bytes trees said rest
         → SaysFirst (commands language) a bytes (items_of trees) said rest
     says_first bytes trees said rest h = record {
-      cut = cut_of bytes trees rest h.spelled;
+      cut = cut_of [] bytes trees rest h.spelled;
       all_say = say_of [] [] refl trees said h.all_say;
     }
 

@@ -1,6 +1,6 @@
 -- The type of what is to be done was read.
 use Rattle.std.proofs.Common.{◌≡◌, ℕ, Bool, List, Ok, Err, sym, subst}
-use Rattle.om_outcome.specs.Outcome.{Fetches, Request, tell, get, edit, dump, compare, own, Saying, the_part, Work, tells, edits, dumps, compares, Language, ReadsTypeOf, TellsAt, EditsBy, FindsWork}
+use Rattle.om_outcome.specs.Outcome.{Fetches, Request, AskedType, asked_type, tell, get, edit, dump, compare, own, Saying, the_part, Work, tells, edits, dumps, compares, Language, ReadsTypeOf, TellsAt, EditsBy, FindsWork}
 use Rattle.om_promises.specs.LawfulLanguage.{IsGiven}
 
 -- the type of the work was read
@@ -12,27 +12,27 @@ IsGivenWork language compares = Unit {0}
 
 module _ {D T E : Type 0} (language : Language D T E) (files : Fetches) where
   -- the type of the work was read
-  pub type_given : (f u : List ℕ) (t : T) → ReadsTypeOf language files.file (f, u) (Ok t) → IsGiven language t
+  pub type_given : (f : List ℕ) (u : AskedType) (t : T) → ReadsTypeOf language files.file (f, u) (Ok t) → IsGiven language t
   type_given f u t (Err s, h, other) = absurd (cc other)
   type_given f u t (Ok text, h, (Err s, g, other)) = absurd (cc other)
   type_given f u t (Ok text, h, (Ok d, g, given)) = (text, u, d, g, given)
 
-  tells_given : (f u : List ℕ) (saying : Saying) (work : Work T E) → TellsAt language files.file (f, u) saying (Ok work) → IsGivenWork language work
+  tells_given : (f : List ℕ) (u : AskedType) (saying : Saying) (work : Work T E) → TellsAt language files.file (f, u) saying (Ok work) → IsGivenWork language work
   tells_given f u saying work (Err s, reads, same) = absurd (cc same)
   tells_given f u saying work (Ok t, reads, told) =
       let is : work ≡ tells saying t = cc in subst (IsGivenWork language) (sym is) (type_given f u t reads)
 
-  edits_given : (f u script : List ℕ) (compat : Bool) (work : Work T E) → EditsBy language files (f, u) script compat (Ok work) → IsGivenWork language work
+  edits_given : (f : List ℕ) (u : AskedType) (script : List ℕ) (compat : Bool) (work : Work T E) → EditsBy language files (f, u) script compat (Ok work) → IsGivenWork language work
   edits_given f u script compat work (Err s, reads, same) = absurd (cc same)
   edits_given f u script compat work (Ok t, reads, (Err s, lines, same)) = absurd (cc same)
   edits_given f u script compat work (Ok t, reads, (Ok ls, lines, told)) =
       let is : work ≡ edits t ls compat = cc in subst (IsGivenWork language) (sym is) (type_given f u t reads)
 
   pub work_given : (request : Request) (work : Work T E) → FindsWork language files request (Ok work) → IsGivenWork language work
-  work_given (tell saying f u most) work h = tells_given f u saying work h
-  work_given (get f u text style most) work (Err s, reads, same) = absurd (cc same)
-  work_given (get f u text style most) work (Ok path, reads, h) = tells_given f u (the_part path style) work h
-  work_given (edit f u script compat most) work h = edits_given f u script compat work h
+  work_given (tell saying f u lined most) work h = tells_given f (asked_type u lined) saying work h
+  work_given (get f u text style lined most) work (Err s, reads, same) = absurd (cc same)
+  work_given (get f u text style lined most) work (Ok path, reads, h) = tells_given f (asked_type u lined) (the_part path style) work h
+  work_given (edit f u script compat lined most) work h = edits_given f (asked_type u lined) script compat work h
   work_given (dump most) work h = let is : work ≡ dumps = cc in subst (IsGivenWork language) (sym is) tt
   work_given (compare most) work h = let is : work ≡ compares = cc in subst (IsGivenWork language) (sym is) tt
   work_given (own request) work h = absurd h

@@ -329,12 +329,12 @@ module _ {D T E : Type 0} (language : Language D T E) (lawful : IsLawful languag
 
     pub lawful_at : AreLawfulAt (commands language) a
     lawful_at = record {
-      first_once = item_once;
+      first_once = λ items. item_once;
       says_once = said_once;
       stops_once = stop_once;
       ends_once = end_reply_once;
-      front = item_front;
-      item_stays = item_stays language a;
+      front = λ items. item_front;
+      item_stays = λ items. item_stays language a;
       stop_stays = stop_stays;
       stops_inside = λ items bytes stop h. why_inner h.trees bytes stop h.why;
       ends_inside = λ items bytes stop h. ends_inner a.work h.trees h.end stop h.ends;

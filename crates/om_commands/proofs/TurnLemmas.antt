@@ -1,6 +1,6 @@
 -- The commands on values take their files turn by turn: FILE, and then SCRIPT.
 use Rattle.std.proofs.Common.{◌≡◌, ◌<◌, ℕ, List, Option, Some, Ok, Err, inl, inr, refl, sym, ap, ◌∙◌, arith}
-use Rattle.om_outcome.specs.Outcome.{Found, opened, whole, Request, tell, get, edit, dump, compare, own, script_of, Language, ReadsTypeOf}
+use Rattle.om_outcome.specs.Outcome.{Found, opened, whole, Request, AskedType, tell, get, edit, dump, compare, own, script_of, Language, ReadsTypeOf}
 use Rattle.om_promises.specs.Commands.{Fetches}
 use Rattle.om_promises.specs.Lawful.{AreInTurns}
 use Rattle.om_promises.specs.LawfulLanguage.{IsLawful}
@@ -21,9 +21,9 @@ module _ {D T E : Type 0} (language : Language D T E) (lawful : IsLawful languag
   script_path :
       (request : Request) (name : List ℕ) → script_of request ≡ Some name
       → HasPath language request
-  script_path (tell saying f t most) name e = absurd (cc e)
-  script_path (get f t text style most) name e = absurd (cc e)
-  script_path (edit f t script compat most) name e = tt
+  script_path (tell saying f t lined most) name e = absurd (cc e)
+  script_path (get f t text style lined most) name e = absurd (cc e)
+  script_path (edit f t script compat lined most) name e = tt
   script_path (dump most) name e = absurd (cc e)
   script_path (compare most) name e = absurd (cc e)
   script_path (own request) name e = absurd (cc e)
@@ -59,7 +59,7 @@ module _ {D T E : Type 0} (language : Language D T E) (lawful : IsLawful languag
 
   -- where the type is read, FILE is
   pub file_whole :
-      (file : List ℕ → Found) (typed : List ℕ × List ℕ) (type : T)
+      (file : List ℕ → Found) (typed : List ℕ × AskedType) (type : T)
       → ReadsTypeOf language file typed (Ok type)
       → (bytes : List ℕ) × (file typed.0 ≡ opened (whole bytes))
   file_whole file typed type (Err s, reads, e) = absurd (cc e)
@@ -76,8 +76,8 @@ module _ {D T E : Type 0} (language : Language D T E) (lawful : IsLawful languag
       absurd (not_between turn later less then now)
   after_read request files turn later name other less (inl (then, v)) (inr (now, w)) =
       let read = file_whole (files 0) w.typed w.type w.reads in
-      let both : ◌≡◌ {A = Option (List ℕ × List ℕ)} (Some (name, v.type)) (Some w.typed) = sym v.typed ∙ w.is_typed in
-      let same : ◌≡◌ {A = List ℕ × List ℕ} (name, v.type) w.typed = cc both in
+      let both : ◌≡◌ {A = Option (List ℕ × AskedType)} (Some (name, v.type)) (Some w.typed) = sym v.typed ∙ w.is_typed in
+      let same : ◌≡◌ {A = List ℕ × AskedType} (name, v.type) w.typed = cc both in
       let first : name ≡ w.typed.0 = ap (λ p. p.0) same in
       (read.0, ap (λ t. files t name) then ∙ (ap (λ n. files 0 n) first ∙ read.1))
 

@@ -4,7 +4,7 @@ use Rattle.om_model.specs.declared.refusal.ReadRefusal.{ReadRefusal}
 use Rattle.om_format.specs.Stream.{SpellAll, End, clean, refused, cut, IsTail}
 use Rattle.om_format.specs.Tree.{Tree}
 use Rattle.om_outcome.specs.Outcome as outcome
-use Rattle.om_outcome.specs.Outcome.{Request, typed_by, path_of, script_of, limit_of, Stop, value, Said, Reply, stops, Language, Work, tells, edits, dumps, compares, Task, task, Then, ReadsTypeOf, FindsWork}
+use Rattle.om_outcome.specs.Outcome.{Request, AskedType, typed_by, path_of, script_of, limit_of, Stop, value, Said, Reply, stops, Language, Work, tells, edits, dumps, compares, Task, task, Then, ReadsTypeOf, FindsWork}
 use Rattle.om_outcome.specs.RefusalText.{refusal_text, truncated_text}
 use Rattle.om_promises.specs.Commands.{Item, value as value_item, Fetches, Commands}
 
@@ -28,13 +28,13 @@ module _ {D T E : Type 0} (language : Language D T E) where
   -- FILE is wanted where PATH, if there is one, is a path
   pub record WantsFile (request : Request) (name : List ℕ) : Type 0 where
     pub has_path : HasPath request
-    pub type : List ℕ
+    pub type : AskedType
     pub typed : typed_by request ≡ Some (name, type)
 
   -- SCRIPT is wanted where FILE and TYPE are read
   pub record WantsScript (request : Request) (files : Fetches) (name : List ℕ) : Type 0 where
     pub scripted : script_of request ≡ Some name
-    pub typed : List ℕ × List ℕ
+    pub typed : List ℕ × AskedType
     pub is_typed : typed_by request ≡ Some typed
     pub type : T
     pub reads : ReadsTypeOf language (files 0) typed (Ok type)
@@ -108,7 +108,7 @@ module _ {D T E : Type 0} (language : Language D T E) where
     Wants = Wants;
     Finds = Finds;
     Reads = λ a. Unit {0};
-    IsFirst = λ a. IsFirstValue a.limit;
+    IsFirst = λ a items. IsFirstValue a.limit;
     Says = λ a. SaysOf a.work;
     Stops = StopsHere;
     Ends = EndsHere;

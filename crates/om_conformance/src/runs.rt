@@ -6,7 +6,8 @@
 //! and `put=N` where the call N of each of out and err does, `put_out=N` and `put_err=N` of one of
 //! them; several numbers stand with commas. `out=N` or `err=N` is there where so many bytes fit,
 //! `piece=N` where a take gives at most so many bytes, and `script=` with hexadecimal digits where
-//! there is a file `script` of these bytes.
+//! there is a file `script` of these bytes; so `file=` in the place of `=`, for a text of more than
+//! one line, and `word=` for one word more, behind the others.
 
 use om_edge::{MemFiles, MemSink, MemSource};
 use om_outcome::status::Status;
@@ -24,9 +25,9 @@ struct Given {
     words: Vec<String>,
 }
 
-/// What a setting has behind `=`.
-fn setting<'a>(given: &'a Given, name: &str) -> Option<&'a str> {
-    for setting in given.settings.as_str().split(' ') {
+/// What a setting has behind `=`, among settings with blanks between.
+fn setting_in<'a>(settings: &'a str, name: &str) -> Option<&'a str> {
+    for setting in settings.split(' ') {
         match setting.split_once('=') {
             Some((key, text)) => {
                 if key == name {
@@ -37,6 +38,11 @@ fn setting<'a>(given: &'a Given, name: &str) -> Option<&'a str> {
         }
     }
     None
+}
+
+/// What a setting has behind `=`.
+fn setting<'a>(given: &'a Given, name: &str) -> Option<&'a str> {
+    setting_in(given.settings.as_str(), name)
 }
 
 /// The number of a setting.
@@ -88,6 +94,10 @@ fn files_of(alloc: Global, given: &Given) -> io::Result<Vec<(String, Vec<u8>)>> 
         let name = String::from_str(alloc, "f.ml")?;
         let text = Vec::from_slice(alloc, text.as_slice())?;
         pairs.push((name, text))?;
+    }
+    if let Some(digits) = setting(given, "file") {
+        let name = String::from_str(alloc, "f.ml")?;
+        pairs.push((name, decoded(alloc, digits)?))?;
     }
     if let Some(digits) = setting(given, "script") {
         let name = String::from_str(alloc, "script")?;
@@ -235,6 +245,14 @@ fn file_of(alloc: Global, text: &str) -> io::Result<Option<Vec<u8>>> {
     }
 }
 
+// The word that hexadecimal digits stand for.
+fn decoded_word(alloc: Global, digits: &str) -> io::Result<String> {
+    match String::from_utf8(decoded(alloc, digits)?) {
+        Ok(word) => Ok(word),
+        Err(_) => Err(ErrorKind::InvalidInput.into()),
+    }
+}
+
 // What a question gives.
 fn given_by(alloc: Global, question: &str) -> io::Result<Given> {
     let mut parts = question.split('\t');
@@ -246,6 +264,9 @@ fn given_by(alloc: Global, question: &str) -> io::Result<Given> {
     let mut words = Vec::new(alloc);
     for word in parts {
         words.push(String::from_str(alloc, word)?)?;
+    }
+    if let Some(digits) = setting_in(settings, "word") {
+        words.push(decoded_word(alloc, digits)?)?;
     }
     Ok(Given {
         settings: String::from_str(alloc, settings)?,

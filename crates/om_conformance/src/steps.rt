@@ -20,6 +20,7 @@ use om_check::{Steps, Typing, Verdict, check};
 use om_edge::StdSink;
 use om_edit::{EditRefusal, apply, refusal_text};
 use om_fault::is_fault;
+use om_lines::Places;
 use om_model::path::Path;
 use om_path::{Action, read_script};
 use om_print::show;
@@ -175,7 +176,7 @@ fn put_refusal(rt: &HostRuntime, table: &TypeTable, refusal: &EditRefusal) -> io
     if !all_below(table.stored.as_slice(), table.store.len()) {
         return Err(ErrorKind::InvalidInput.into());
     }
-    let Ok(text) = refusal_text(rt.alloc(), table, refusal) else {
+    let Ok(text) = refusal_text(rt.alloc(), table, &Places::Bytes, refusal) else {
         return Err(ErrorKind::OutOfMemory.into());
     };
     rt.stdout().write_all(text.as_slice())

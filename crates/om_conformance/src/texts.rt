@@ -4,6 +4,7 @@
 ghost use Rattle.om_types.specs.Accepted.{AreWellFormed};
 
 use om_decl::{DeclFault, fault_text, read_decls, read_type};
+use om_lines::Places;
 use om_model::Memory;
 use om_model::list::List;
 use om_plain_types::{
@@ -15,10 +16,7 @@ use std::io;
 use std::io::ErrorKind;
 
 fn text_of(alloc: Global, fault: &DeclFault) -> Result<List<u8>, Memory> {
-    match fault {
-        DeclFault::Memory => Err(Memory),
-        _ => fault_text(alloc, fault),
-    }
+    fault_text(alloc, &Places::Bytes, fault)
 }
 
 // Prints a fault behind the name of what it was found in.

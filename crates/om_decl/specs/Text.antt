@@ -1,20 +1,21 @@
--- The texts of faults: a name, and the place.
-use Rattle.std.specs.Prelude.{ℕ, List, [], ◌++◌, codes, decimal}
+-- The texts of faults: a name, and the place, as places are told.
+use Rattle.std.specs.Prelude.{ℕ, ◌≡◌, List, [], ◌++◌, Option, Some, None, codes}
 use Rattle.om_lex.specs.declared.lexeme.LexFault.{LexFault}
 use Rattle.om_lex.specs.declared.lexeme.LexFault.TheVariants as lexer
 use Rattle.om_types.specs.Scope as scope
 use Rattle.om_decl.specs.Answer.{Answer, accepted, no_lexemes, no_text, too_deep, broken}
 
-abbrev pub placed_text : List ℕ → ℕ → List ℕ
-placed_text name place = name ++ codes " at " ++ decimal place
+-- a name, and a place as it is told
+abbrev pub placed_text : (name place : List ℕ) → List ℕ
+placed_text name place = name ++ codes " at " ++ place
 
 -- a fault of the lexer has a name of its own; want of memory is no answer
-abbrev pub lexer_text : LexFault → List ℕ
-lexer_text (lexer.BadByte place) = placed_text (codes "BadByte") place
-lexer_text (lexer.OpenString place) = placed_text (codes "OpenString") place
-lexer_text (lexer.OpenComment place) = placed_text (codes "OpenComment") place
-lexer_text (lexer.TooBig place) = placed_text (codes "TooBig") place
-lexer_text lexer.Memory = []
+abbrev pub lexer_text : (told : ℕ → List ℕ) → LexFault → List ℕ
+lexer_text told (lexer.BadByte place) = placed_text (codes "BadByte") (told place)
+lexer_text told (lexer.OpenString place) = placed_text (codes "OpenString") (told place)
+lexer_text told (lexer.OpenComment place) = placed_text (codes "OpenComment") (told place)
+lexer_text told (lexer.TooBig place) = placed_text (codes "TooBig") (told place)
+lexer_text told lexer.Memory = []
 
 abbrev pub rule_name : scope.Rule → List ℕ
 rule_name scope.twice = codes "Twice"
@@ -29,10 +30,16 @@ rule_name scope.tag_clash = codes "TagClash"
 rule_name scope.hash_clash = codes "HashClash"
 rule_name scope.float_in_group = codes "FloatInGroup"
 
--- the text of an answer that is a fault
-abbrev pub answer_text : {Tree : Type 0} → Answer Tree → List ℕ
-answer_text (accepted tree) = []
-answer_text (no_lexemes fault) = lexer_text fault
-answer_text (no_text place) = placed_text (codes "Syntax") place
-answer_text (too_deep place) = placed_text (codes "TooDeep") place
-answer_text (broken rule place) = placed_text (rule_name rule) place
+-- the text of an answer that is a fault, where places are told so
+abbrev pub answer_text : {Tree : Type 0} → (told : ℕ → List ℕ) → Answer Tree → List ℕ
+answer_text told (accepted tree) = []
+answer_text told (no_lexemes fault) = lexer_text told fault
+answer_text told (no_text place) = placed_text (codes "Syntax") (told place)
+answer_text told (too_deep place) = placed_text (codes "TooDeep") (told place)
+answer_text told (broken rule place) = placed_text (rule_name rule) (told place)
+
+-- the text is that of an answer; where there is none, no text is
+abbrev pub IsTextOf : {Tree : Type 0} → (told : ℕ → List ℕ) → Option (Answer Tree) → List ℕ
+    → Type 0
+IsTextOf told None text = ⊥
+IsTextOf told (Some answer) text = text ≡ answer_text told answer

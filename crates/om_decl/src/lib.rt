@@ -13,4 +13,4 @@ pub mod told;
 pub use accept::{read_decls, read_type};
 pub use fault::DeclFault;
 pub use read::{Named, NamedType, read_names, read_type_names};
-pub use text::fault_text;
+pub use text::{fault_text, lexer_text, syntax_text};

@@ -1,5 +1,5 @@
 -- A type that was read is sound over well-formed declarations, so a value that has it has each closed instance of it.
-use Rattle.std.proofs.Common.{ℕ, false, List, Ok, Err, sym, subst}
+use Rattle.std.proofs.Common.{ℕ, Bool, false, List, Ok, Err, refl, sym, subst}
 use Rattle.om_model.specs.declared.value.Val.{Val}
 use Rattle.om_model.specs.declared.value.Obj.{Obj}
 use Rattle.om_types.specs.declared.decl.Decl.{Decl}
@@ -25,7 +25,8 @@ use Rattle.om_decl.specs.Read.{IsDeclared, IsTypeOf}
 use Rattle.om_decl.proofs.FileLemmas.{files_well_formed}
 use Rattle.om_decl.proofs.SoundLemmas as sounds
 use Rattle.om_declared.specs.declared.types.Requested.{Requested}
-use Rattle.om_declared.specs.Language.{TypeOver, declared_types, ReachesFew}
+use Rattle.om_outcome.specs.Outcome.{AskedType, asked_type}
+use Rattle.om_declared.specs.Language.{TypeOver, declared_types, ReachesFew, IsAccepted}
 use Rattle.om_declared.specs.Types.{IsReady}
 use Rattle.om_promises.specs.LawfulLanguage.{IsGiven}
 
@@ -71,8 +72,8 @@ module _ (files_well : FilesAreWellFormed) (types_sound : TypesAreSound) where
   pub given_sound : (t : TypeOver) → IsGiven declared_types t → IsSoundOver t
   given_sound t (text, type, decls, declared, is) =
       let well : AreWellFormed t.decls = subst AreWellFormed (sym is.over) (decls_well text decls declared) in
-      let written : IsTypeOf t.decls type t.type = subst (λ d. IsTypeOf d type t.type) (sym is.over) is.written in
-      record { well = well; sound = type_sound t.decls type t.type well written; few = subst (λ d. ReachesFew d t.type) (sym is.over) is.few }
+      let written : IsTypeOf t.decls type.text t.type = subst (λ d. IsTypeOf d type.text t.type) (sym is.over) is.written in
+      record { well = well; sound = type_sound t.decls type.text t.type well written; few = subst (λ d. ReachesFew d t.type) (sym is.over) is.few }
 
 -- ---- instances
 
@@ -89,3 +90,12 @@ module _ (r : Requested) (ready : IsReady r) (graph : List Obj) (v : Val) where
   -- and one with a fault has not each
   pub ready_some_not : (fault : Fault) → IsFault (declared_shapes r.decls) graph v r.ty fault → HasEachInstance r.decls graph v r.ty → ⊥
   ready_some_not fault is each = faults_are_of_instances r.decls r.ty (types_of r.table) ready.well ready.sound ready.made.reached graph v fault is each
+
+-- ---- places
+
+-- the same type, at which places are told so
+abbrev pub lined : TypeOver → Bool → TypeOver
+lined t lines = record { decls = t.decls; type = t.type; lines = lines }
+
+pub accepted_lined : (decls : List Decl) (asked : AskedType) (t : TypeOver) (lines : Bool) → IsAccepted decls asked t → IsAccepted decls (asked_type asked.text lines) (lined t lines)
+accepted_lined decls asked t lines a = record { over = a.over; written = a.written; few = a.few; lined = refl }

@@ -25,10 +25,11 @@ use Rattle.om_canonical.proofs.SameTree.{one_tree_only}
 use Rattle.om_edit.specs.EditedValues.{Edited}
 use Rattle.om_edit.specs.Grafts.{Other}
 use Rattle.om_edit.specs.Laws.{EditsHaveOneAnswer}
+use Rattle.om_lines.specs.Lines.{place_in}
 use Rattle.om_format.specs.Compat.{too_large_for_32}
 use Rattle.om_path.specs.declared.fault.PathFault.{PathFault}
 use Rattle.om_trees.specs.Laws.{TreeVerdictsAreOne}
-use Rattle.om_outcome.specs.Outcome.{Said, Saying, the_verdict, the_text, the_part, the_trees, Unedited, untyped}
+use Rattle.om_outcome.specs.Outcome.{AskedType, Said, Saying, the_verdict, the_text, the_part, the_trees, Unedited, untyped}
 use Rattle.om_declared.proofs.GivenLemmas.{given_sound}
 use Rattle.om_declared.specs.Language.{TypeOver, declared_types, ReadsPath, IsRefusal, ReachesFew, IsTooMuch, IsAccepted, IsToldOf, judged, IsTypeLine, IsBytesLine, lines_of_value, AreDone, AreBytesIn, AreBytesOf, AreBytesAfter, bytes_for, ReadsType, ReadsScript, script_refusal}
 use Rattle.om_promises.specs.LawfulLanguage.{IsGiven, IsLawful}
@@ -50,11 +51,12 @@ module _ {Tree : Type 0} (Is : List ℕ → Answer Tree → Type 0) (once : HasO
   trees_once : (tree other : Tree) → Is text (accepted tree) → Is text (accepted other) → tree ≡ other
   trees_once tree other one two = accepted_once tree other (once text (accepted tree) (accepted other) one two)
 
-  never_refused : (tree : Tree) (refusal : List ℕ) → Is text (accepted tree) → IsRefusal (Is text) refusal → ⊥
-  never_refused tree refusal one r = r.refuses tree (once text r.answer (accepted tree) r.is one)
+  module _ (told : ℕ → List ℕ) where
+    never_refused : (tree : Tree) (refusal : List ℕ) → Is text (accepted tree) → IsRefusal told (Is text) refusal → ⊥
+    never_refused tree refusal one r = r.refuses tree (once text r.answer (accepted tree) r.is one)
 
-  refusals_once : (refusal other : List ℕ) → IsRefusal (Is text) refusal → IsRefusal (Is text) other → refusal ≡ other
-  refusals_once refusal other r s = r.spelled ∙ (ap answer_text (once text r.answer s.answer r.is s.is) ∙ sym s.spelled)
+    refusals_once : (refusal other : List ℕ) → IsRefusal told (Is text) refusal → IsRefusal told (Is text) other → refusal ≡ other
+    refusals_once refusal other r s = r.spelled ∙ (ap (answer_text told) (once text r.answer s.answer r.is s.is) ∙ sym s.spelled)
 
 -- ---- paths
 
@@ -89,19 +91,19 @@ module _ (once : (text : List ℕ) → scripts.HasOneScriptAnswer text) (text : 
     back (Err fault) (Ok lines) e = absurd (cc e)
     back (Err fault) (Err other) e = let same : fault ≡ other = cc e in ap (λ f. Err f) same
 
-  lines_or_refusal : (lines : List ScriptLine) (refusal : ℕ × List ℕ) → ReadsScript text (Ok lines) → ReadsScript text (Err refusal) → ⊥
-  lines_or_refusal lines refusal is (fault, its, told) =
+  lines_or_refusal : (lined : Bool) (lines : List ScriptLine) (refusal : ℕ × List ℕ) → ReadsScript lined text (Ok lines) → ReadsScript lined text (Err refusal) → ⊥
+  lines_or_refusal lined lines refusal is (fault, its, told) =
       let k : ◌≡◌ {A = Result (List ScriptLine) ScriptFault} (Ok lines) (Err fault) = script_answers (Ok lines) (Err fault) is its in cc k
 
-  one_lines : (lines other : List ScriptLine) → ReadsScript text (Ok lines) → ReadsScript text (Ok other) → lines ≡ other
-  one_lines lines other is its =
+  one_lines : (lined : Bool) (lines other : List ScriptLine) → ReadsScript lined text (Ok lines) → ReadsScript lined text (Ok other) → lines ≡ other
+  one_lines lined lines other is its =
       let k : ◌≡◌ {A = Result (List ScriptLine) ScriptFault} (Ok lines) (Ok other) = script_answers (Ok lines) (Ok other) is its in cc k
 
-  one_refusal : (refusal other : ℕ × List ℕ) → ReadsScript text (Err refusal) → ReadsScript text (Err other) → refusal ≡ other
-  one_refusal refusal other (fault, is, told) (fault', its, told') =
+  one_refusal : (lined : Bool) (refusal other : ℕ × List ℕ) → ReadsScript lined text (Err refusal) → ReadsScript lined text (Err other) → refusal ≡ other
+  one_refusal lined refusal other (fault, is, told) (fault', its, told') =
       let k : ◌≡◌ {A = Result (List ScriptLine) ScriptFault} (Err fault) (Err fault') = script_answers (Err fault) (Err fault') is its in
       let same : fault ≡ fault' = cc k in
-      let both : ◌≡◌ {A = Option (ℕ × List ℕ)} (Some refusal) (Some other) = sym told ∙ (ap script_refusal same ∙ told') in cc both
+      let both : ◌≡◌ {A = Option (ℕ × List ℕ)} (Some refusal) (Some other) = sym told ∙ (ap (script_refusal lined) same ∙ told') in cc both
 
 -- ---- bytes
 
@@ -110,9 +112,9 @@ one_bytes : (compat : Bool) (graph : List Obj) (v : Val) (answer other : Result 
 one_bytes compat graph v answer other (tree, is, told) (tree', is', told') =
     told ∙ (ap (λ t. bytes_for compat t (too_large_for_32 t)) (one_tree_only graph v tree tree' is is') ∙ sym told')
 
-bytes_after_once : (compat : Bool) (edited : Edited Ty) (answer other : Result (List ℕ) Unedited) → AreBytesAfter compat edited answer → AreBytesAfter compat edited other → answer ≡ other
-bytes_after_once compat (Ok edited) answer other is its = one_bytes compat edited.0 edited.1 answer other is its
-bytes_after_once compat (Err refused) answer other is its = is ∙ sym its
+bytes_after_once : (lined compat : Bool) (edited : Edited Ty) (answer other : Result (List ℕ) Unedited) → AreBytesAfter lined compat edited answer → AreBytesAfter lined compat edited other → answer ≡ other
+bytes_after_once lined compat (Ok edited) answer other is its = one_bytes compat edited.0 edited.1 answer other is its
+bytes_after_once lined compat (Err refused) answer other is its = is ∙ sym its
 
 module _ (files_once : HasOneAnswer IsFileAnswer) (types_once : (decls : List Decl) → HasOneAnswer (IsTypeAnswer decls))
     (paths_once : (text : List ℕ) → paths.HasOneAnswer text) (scripts_once : (text : List ℕ) → scripts.HasOneScriptAnswer text) (edits_once : EditsHaveOneAnswer) (files_well : FilesAreWellFormed) (types_sound : TypesAreSound) (never_both : NeverBoth) where
@@ -124,20 +126,24 @@ module _ (files_once : HasOneAnswer IsFileAnswer) (types_once : (decls : List De
   same_types decls text t u one other =
       one.stands ∙ (ap type_of_texpr (trees_once (IsTypeAnswer decls) (types_once decls) text one.tree other.tree one.answer other.answer) ∙ sym other.stands)
 
-  never_too_much : (decls : List Decl) (text refusal : List ℕ) (t : TypeOver) → IsAccepted decls text t → IsTooMuch decls text refusal → ⊥
-  never_too_much decls text refusal t a much =
-      let same : t.type ≡ much.type = same_types decls text t.type much.type a.written much.written in
+  never_too_much : (decls : List Decl) (asked : AskedType) (refusal : List ℕ) (t : TypeOver) → IsAccepted decls asked t → IsTooMuch decls asked.text refusal → ⊥
+  never_too_much decls asked refusal t a much =
+      let same : t.type ≡ much.type = same_types decls asked.text t.type much.type a.written much.written in
       few_not_many decls much.type a.few.types (rw (← same) a.few.reached) a.few.few much.many
 
-  type_or_refusal : (decls : List Decl) (text : List ℕ) (t : TypeOver) (refusal : List ℕ) → IsAccepted decls text t → ReadsType decls text (Err refusal) → ⊥
-  type_or_refusal decls text t refusal a (inl r) = never_refused (IsTypeAnswer decls) (types_once decls) text a.written.tree refusal a.written.answer r
-  type_or_refusal decls text t refusal a (inr much) = never_too_much decls text refusal t a much
+  type_or_refusal : (decls : List Decl) (asked : AskedType) (t : TypeOver) (refusal : List ℕ) → IsAccepted decls asked t → ReadsType decls asked (Err refusal) → ⊥
+  type_or_refusal decls asked t refusal a (inl r) =
+      never_refused (IsTypeAnswer decls) (types_once decls) asked.text (place_in asked.lines asked.text) a.written.tree refusal a.written.answer r
+  type_or_refusal decls asked t refusal a (inr much) = never_too_much decls asked refusal t a much
 
-  type_refusals : (decls : List Decl) (text refusal other : List ℕ) → ReadsType decls text (Err refusal) → ReadsType decls text (Err other) → refusal ≡ other
-  type_refusals decls text refusal other (inl r) (inl s) = refusals_once (IsTypeAnswer decls) (types_once decls) text refusal other r s
-  type_refusals decls text refusal other (inl r) (inr s) = absurd (never_refused (IsTypeAnswer decls) (types_once decls) text s.written.tree refusal s.written.answer r)
-  type_refusals decls text refusal other (inr r) (inl s) = absurd (never_refused (IsTypeAnswer decls) (types_once decls) text r.written.tree other r.written.answer s)
-  type_refusals decls text refusal other (inr r) (inr s) = r.spelled ∙ sym s.spelled
+  type_refusals : (decls : List Decl) (asked : AskedType) (refusal other : List ℕ) → ReadsType decls asked (Err refusal) → ReadsType decls asked (Err other) → refusal ≡ other
+  type_refusals decls asked refusal other (inl r) (inl s) =
+      refusals_once (IsTypeAnswer decls) (types_once decls) asked.text (place_in asked.lines asked.text) refusal other r s
+  type_refusals decls asked refusal other (inl r) (inr s) =
+      absurd (never_refused (IsTypeAnswer decls) (types_once decls) asked.text (place_in asked.lines asked.text) s.written.tree refusal s.written.answer r)
+  type_refusals decls asked refusal other (inr r) (inl s) =
+      absurd (never_refused (IsTypeAnswer decls) (types_once decls) asked.text (place_in asked.lines asked.text) r.written.tree other r.written.answer s)
+  type_refusals decls asked refusal other (inr r) (inr s) = r.spelled ∙ sym s.spelled
 
   -- a value has the type or a fault, and not both
   module _ (t : TypeOver) (well : AreWellFormed t.decls) (sound : IsSoundType t.decls t.type) (few : ReachesFew t.decls t.type) (graph : List Obj) (v : Val) where
@@ -160,7 +166,7 @@ module _ (files_once : HasOneAnswer IsFileAnswer) (types_once : (decls : List De
     bytes_once : (others : List Other) (lines : List ScriptLine) (compat : Bool) (answer other : Result (List ℕ) Unedited) → IsBytesLine t others lines compat graph v answer → IsBytesLine t others lines compat graph v other → answer ≡ other
     bytes_once others lines compat answer other (inl is) (inl its) =
         let same : is.edited ≡ its.edited = edits_once.in_order t.decls t.type few.types well sound few.reached others lines graph v is.edited its.edited is.made its.made in
-        bytes_after_once compat its.edited answer other (subst (λ e. AreBytesAfter compat e answer) same is.bytes) its.bytes
+        bytes_after_once t.lines compat its.edited answer other (subst (λ e. AreBytesAfter t.lines compat e answer) same is.bytes) its.bytes
     bytes_once others lines compat answer other (inr is) (inr its) =
         is.is ∙ (ap (λ text. Err (untyped text)) (no_line_once (declared_shapes t.decls) graph v t.type type_text is.text its.text is.why its.why) ∙ sym its.is)
     bytes_once others lines compat answer other (inl is) (inr its) = absurd (never_both t.decls t.type few.types well sound few.reached graph v its.why.fault its.why.least.is_fault is.has)
@@ -192,18 +198,19 @@ module _ (files_once : HasOneAnswer IsFileAnswer) (types_once : (decls : List De
 
   pub declared_lawful : TreeVerdictsAreOne → IsLawful declared_types
   declared_lawful verdicts_once = record {
-    declarations_once = λ text d refusal is refused. never_refused IsFileAnswer files_once text is.tree refusal is.answer refused;
-    same_declarations = same_decls;
-    same_refusal = λ text refusal other. refusals_once IsFileAnswer files_once text refusal other;
-    type_once = λ d text t refusal is refused. type_or_refusal d text t refusal is refused;
-    same_type = λ d text t u one other.
-        let types = same_types d text t.type u.type one.written other.written in
-        ap (λ d. let t : TypeOver = record { decls = d; type = t.type } in t) (one.over ∙ sym other.over)
-        ∙ ap (λ x. let t : TypeOver = record { decls = u.decls; type = x } in t) types;
+    declarations_once = λ lined text d refusal is refused. never_refused IsFileAnswer files_once text (place_in lined text) is.tree refusal is.answer refused;
+    same_declarations = λ lined. same_decls;
+    same_refusal = λ lined text refusal other. refusals_once IsFileAnswer files_once text (place_in lined text) refusal other;
+    type_once = λ d asked t refusal is refused. type_or_refusal d asked t refusal is refused;
+    same_type = λ d asked t u one other.
+        let types = same_types d asked.text t.type u.type one.written other.written in
+        ap (λ d. let t : TypeOver = record { decls = d; type = t.type; lines = t.lines } in t) (one.over ∙ sym other.over)
+        ∙ (ap (λ x. let t : TypeOver = record { decls = u.decls; type = x; lines = t.lines } in t) types
+        ∙ ap (λ l. let t : TypeOver = record { decls = u.decls; type = u.type; lines = l } in t) (one.lined ∙ sym other.lined));
     same_type_refusal = type_refusals;
-    script_once = λ text lines refusal is refused. lines_or_refusal scripts_once text lines refusal is refused;
-    same_script = λ text lines other is its. one_lines scripts_once text lines other is its;
-    same_script_refusal = λ text refusal other is its. one_refusal scripts_once text refusal other is its;
+    script_once = λ lined text lines refusal is refused. lines_or_refusal scripts_once text lined lines refusal is refused;
+    same_script = λ lined text lines other is its. one_lines scripts_once text lined lines other is its;
+    same_script_refusal = λ lined text refusal other is its. one_refusal scripts_once text lined refusal other is its;
     bytes_once = edited_once;
     path_once = λ text path is none. no_fault paths_once text path is none;
     same_path = λ text path other is its. one_path paths_once text path is other its;

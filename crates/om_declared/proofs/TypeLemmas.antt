@@ -1,5 +1,5 @@
 -- What a FILE and a TYPE are read as.
-use Rattle.std.proofs.Common.{◌≡◌, ◌⊎◌, ◌≤◌, ℕ, List, length, Some, None, Option, Result, Ok, Err, inl, inr, refl, ap, ◌∙◌, arith}
+use Rattle.std.proofs.Common.{◌≡◌, ◌⊎◌, ◌≤◌, ℕ, Bool, List, length, Some, None, Option, Result, Ok, Err, inl, inr, refl, ap, ◌∙◌, arith}
 use Rattle.std.specs.Prelude.{◌≢◌, MatchOption, codes}
 use Rattle.std.proofs.lemmas.List.{length-map}
 use Rattle.om_types.specs.Nodes.{type_at}
@@ -14,8 +14,9 @@ use Rattle.om_decl.specs.declared.fault.DeclFault.TheVariants as faults
 use Rattle.om_decl.specs.Answer.{Answer, accepted, IsFileAnswer, IsTypeAnswer}
 use Rattle.om_decl.specs.Fault.{told, IsRefused}
 use Rattle.om_decl.specs.Read.{IsTypeOf}
-use Rattle.om_decl.specs.Text.{answer_text, lexer_text, placed_text}
-use Rattle.om_outcome.specs.Outcome.{at_end, Taken, Found, opened, missing, failed, Stop, cannot_open, declarations, requested_type, script_line, out_of_memory, fault_of}
+use Rattle.om_decl.specs.Text.{answer_text, lexer_text, placed_text, IsTextOf}
+use Rattle.om_lines.specs.Lines.{place_in, place_on}
+use Rattle.om_outcome.specs.Outcome.{at_end, Taken, Found, AskedType, opened, missing, failed, Stop, cannot_open, declarations, requested_type, script_line, out_of_memory, fault_of}
 use Rattle.om_stops.specs.declared.stop.Stop as codes_of
 use Rattle.om_stops.specs.declared.stop.Stop.TheVariants as stops
 use Rattle.om_declared.specs.declared.types.Requested.{Requested}
@@ -26,9 +27,9 @@ use Rattle.om_path.specs.ScriptAnswer.{IsScriptAnswer, UnlessMemory as UnlessMem
 use Rattle.om_path.specs.declared.edits.Script.{Script}
 use Rattle.om_path.specs.declared.edits.ScriptFault.{ScriptFault}
 use Rattle.om_path.specs.declared.edits.ScriptFault.TheVariants as script_faults
-use Rattle.om_declared.specs.Language.{IsRefusal, ReadsPath, ReadsScript}
+use Rattle.om_declared.specs.Language.{IsRefusal, ReadsPath, ReadsScript, script_refusal}
 use Rattle.om_stops.specs.Stops.{stop_of}
-use Rattle.om_declared.specs.Types.{StopsBy, IsDeclarationsStop, IsTypeStop, IsScriptStop, GivesDeclarations, GivesRequested, GivesType, GivesScript}
+use Rattle.om_declared.specs.Types.{StopsBy, TellsRefusal, IsDeclarationsStop, IsTypeStop, IsScriptStop, GivesDeclarations, GivesRequested, GivesType, GivesScript}
 
 -- ---- faults
 
@@ -50,76 +51,56 @@ told_refuses (faults.HashClash place one two) tree e = cc e
 told_refuses (faults.FloatInGroup place) tree e = cc e
 told_refuses faults.Memory tree e = cc e
 
--- the stop of a fault but for out of memory
-pub declarations_told : (fault : DeclFault) → fault ≢ faults.Memory → IsDeclarationsStop fault (stops.Declarations fault)
-declarations_told (faults.Lex fault) some = refl
-declarations_told (faults.Syntax place) some = refl
-declarations_told (faults.TooDeep place) some = refl
-declarations_told (faults.Twice place) some = refl
-declarations_told (faults.UnknownName place) some = refl
-declarations_told (faults.Arity place) some = refl
-declarations_told (faults.UnboundVar place) some = refl
-declarations_told (faults.Cyclic place) some = refl
-declarations_told (faults.Irregular place) some = refl
-declarations_told (faults.TooManyConstructors place) some = refl
-declarations_told (faults.NotVariant place) some = refl
-declarations_told (faults.TagClash place) some = refl
-declarations_told (faults.HashClash place one two) some = refl
-declarations_told (faults.FloatInGroup place) some = refl
-declarations_told faults.Memory some = absurd (some refl)
+-- the stop tells the text of what a fault tells
+module _ {Tree : Type 0} (lines : Bool) (text : List ℕ) (places : ℕ → List ℕ) (same : places ≡ place_in lines text) (refusal : List ℕ) (stop : codes_of.Stop) (refused : List ℕ → Stop)
+    (is : stop_of stop ≡ refused refusal) where
+  pub refusal_told : (found : Option (Answer Tree)) → IsTextOf places found refusal
+      → MatchOption found (stop_of stop ≡ out_of_memory) (λ answer. TellsRefusal (refused (answer_text (place_in lines text) answer)) stop)
+  refusal_told None none = absurd none
+  refusal_told (Some answer) spelled = inl (is ∙ ap refused (spelled ∙ ap (λ told. answer_text told answer) same))
 
-pub type_told : (fault : DeclFault) → fault ≢ faults.Memory → IsTypeStop fault (stops.RequestedType fault)
-type_told (faults.Lex fault) some = refl
-type_told (faults.Syntax place) some = refl
-type_told (faults.TooDeep place) some = refl
-type_told (faults.Twice place) some = refl
-type_told (faults.UnknownName place) some = refl
-type_told (faults.Arity place) some = refl
-type_told (faults.UnboundVar place) some = refl
-type_told (faults.Cyclic place) some = refl
-type_told (faults.Irregular place) some = refl
-type_told (faults.TooManyConstructors place) some = refl
-type_told (faults.NotVariant place) some = refl
-type_told (faults.TagClash place) some = refl
-type_told (faults.HashClash place one two) some = refl
-type_told (faults.FloatInGroup place) some = refl
-type_told faults.Memory some = absurd (some refl)
+-- or that memory ran out
+pub memory_told : {X : Type 0} (found : Option X) (told : X → Stop) → MatchOption found (stop_of stops.Memory ≡ out_of_memory) (λ x. TellsRefusal (told x) stops.Memory)
+memory_told None told = refl
+memory_told (Some x) told = inr refl
 
 -- ---- stops
 
 -- what the fault tells is refused, or memory ran out
-stops_by : {Tree : Type 0} (fault : DeclFault) (Is : Answer Tree → Type 0) (tells : List ℕ → Stop) (stop : codes_of.Stop) → IsRefused Is fault
-    → MatchOption (told {Tree = Tree} fault) (stop_of stop ≡ out_of_memory) (λ answer. stop_of stop ≡ tells (answer_text answer)) → StopsBy (IsRefusal Is) tells stop
-stops_by {Tree} fault Is tells stop refused is = at (told fault) refl refused is where
+stops_by : {Tree : Type 0} (places : ℕ → List ℕ) (fault : DeclFault) (Is : Answer Tree → Type 0) (tells : List ℕ → Stop) (stop : codes_of.Stop) → IsRefused Is fault
+    → MatchOption (told {Tree = Tree} fault) (stop_of stop ≡ out_of_memory) (λ answer. TellsRefusal (tells (answer_text places answer)) stop) → StopsBy (IsRefusal places Is) tells stop
+stops_by {Tree} places fault Is tells stop refused is = at (told fault) refl refused is where
   at : (found : Option (Answer Tree)) → told fault ≡ found → MatchOption found (Unit {0}) Is
-      → MatchOption found (stop_of stop ≡ out_of_memory) (λ answer. stop_of stop ≡ tells (answer_text answer)) → StopsBy (IsRefusal Is) tells stop
+      → MatchOption found (stop_of stop ≡ out_of_memory) (λ answer. TellsRefusal (tells (answer_text places answer)) stop) → StopsBy (IsRefusal places Is) tells stop
   at None e refused is = inr is
-  at (Some answer) e refused is =
-      inl (answer_text answer, record { answer = answer; is = refused; refuses = λ tree same. told_refuses fault tree (e ∙ ap Some same); spelled = refl }, is)
+  at (Some answer) e refused (inr memory) = inr memory
+  at (Some answer) e refused (inl is) =
+      inl (answer_text places answer, record { answer = answer; is = refused; refuses = λ tree same. told_refuses fault tree (e ∙ ap Some same); spelled = refl }, is)
 
-pub declarations_refused : (text : List ℕ) (fault : DeclFault) (stop : codes_of.Stop) → IsRefused (IsFileAnswer text) fault → IsDeclarationsStop fault stop
-    → GivesDeclarations text (Err stop)
-declarations_refused text fault stop refused is = stops_by fault (IsFileAnswer text) declarations stop refused is
+pub declarations_refused : (lines : Bool) (text : List ℕ) (fault : DeclFault) (stop : codes_of.Stop) → IsRefused (IsFileAnswer text) fault → IsDeclarationsStop lines text fault stop
+    → GivesDeclarations lines text (Err stop)
+declarations_refused lines text fault stop refused is = stops_by (place_in lines text) fault (IsFileAnswer text) declarations stop refused is
 
-pub type_refused : (decls : List Decl) (text : List ℕ) (fault : DeclFault) (stop : codes_of.Stop) → IsRefused (IsTypeAnswer decls text) fault → IsTypeStop fault stop
-    → GivesRequested decls text (Err stop)
-type_refused decls text fault stop refused is = at (stops_by fault (IsTypeAnswer decls text) requested_type stop refused is) where
-  at : StopsBy (IsRefusal (IsTypeAnswer decls text)) requested_type stop → GivesRequested decls text (Err stop)
+pub type_refused : (decls : List Decl) (asked : AskedType) (fault : DeclFault) (stop : codes_of.Stop) → IsRefused (IsTypeAnswer decls asked.text) fault
+    → IsTypeStop asked.lines asked.text fault stop → GivesRequested decls asked (Err stop)
+type_refused decls asked fault stop refused is = at (stops_by (place_in asked.lines asked.text) fault (IsTypeAnswer decls asked.text) requested_type stop refused is) where
+  at : StopsBy (IsRefusal (place_in asked.lines asked.text) (IsTypeAnswer decls asked.text)) requested_type stop → GivesRequested decls asked (Err stop)
   at (inl (refusal, is, same)) = inl (refusal, inl is, same)
   at (inr memory) = inr memory
 
-pub type_too_many : (decls : List Decl) (text : List ℕ) (t : Ty) → IsTypeOf decls text t → ReachesTooMany decls t → GivesRequested decls text (Err stops.TooManyTypes)
-type_too_many decls text t written many =
+pub type_too_many : (decls : List Decl) (asked : AskedType) (t : Ty) → IsTypeOf decls asked.text t → ReachesTooMany decls t → GivesRequested decls asked (Err stops.TooManyTypes)
+type_too_many decls asked t written many =
     inl (codes "TooManyTypes", inr (record { type = t; written = written; many = many; spelled = refl }), refl)
 
 -- a table is made
-pub type_given : (decls : List Decl) (text : List ℕ) (t : Ty) (table : TypeTable) → AreWellFormed decls → IsTypeOf decls text t → IsSoundType decls t → IsTypeTable decls t table
-    → GivesRequested decls text (Ok (record { decls = decls; ty = t; table = table }))
-type_given decls text t table well written sound made = (
+pub type_given : (decls : List Decl) (asked : AskedType) (t : Ty) (table : TypeTable) → AreWellFormed decls → IsTypeOf decls asked.text t → IsSoundType decls t → IsTypeTable decls t table
+    → GivesRequested decls asked (Ok (record { decls = decls; ty = t; table = table; lines = asked.lines }))
+type_given decls asked t table well written sound made = (
   record {
     over = refl;
     written = written;
     few = record { types = types_of table; reached = made.reached; few = few_types };
+    lined = refl;
   },
   record { well = well; sound = sound; made = made },
 ) where
@@ -128,7 +109,7 @@ type_given decls text t table well written sound made = (
 
 -- ---- FILE and TYPE
 
-module _ (file type : List ℕ) where
+module _ (file : List ℕ) (type : AskedType) where
   abbrev pub Gives : Found → Result Requested codes_of.Stop → Type 0
   Gives found result = GivesType file type found result
 
@@ -145,16 +126,22 @@ module _ (file type : List ℕ) where
     abbrev same : taken.until ≡ at_end → opened taken ≡ opened (record { bytes = taken.bytes; until = at_end })
     same e = ap (λ u. opened (record { bytes = taken.bytes; until = u })) e
 
-    pub reads_declarations : taken.until ≡ at_end → (stop : codes_of.Stop) → GivesDeclarations taken.bytes (Err stop) → Gives (opened taken) (Err stop)
+    pub reads_declarations : taken.until ≡ at_end → (stop : codes_of.Stop) → GivesDeclarations type.lines taken.bytes (Err stop) → Gives (opened taken) (Err stop)
     reads_declarations e stop (inl (refusal, refuses, is)) =
         inl (Ok taken.bytes, same e, (Err (declarations refusal), (refusal, refuses, refl), ap Err is))
     reads_declarations e stop (inr memory) = inr memory
 
-    pub reads_type : taken.until ≡ at_end → (decls : List Decl) → GivesDeclarations taken.bytes (Ok decls) → (result : Result Requested codes_of.Stop) → GivesRequested decls type result
+    pub reads_type : taken.until ≡ at_end → (decls : List Decl) → GivesDeclarations type.lines taken.bytes (Ok decls) → (result : Result Requested codes_of.Stop) → GivesRequested decls type result
         → Gives (opened taken) result
     reads_type e decls declared (Ok r) gives = ((Ok taken.bytes, same e, (Ok decls, declared.0, gives.0)), gives.1)
     reads_type e decls declared (Err stop) (inl (refusal, refuses, is)) = inl (Ok taken.bytes, same e, (Ok decls, declared.0, (refusal, refuses, is)))
     reads_type e decls declared (Err stop) (inr memory) = inr memory
+
+-- a type that is given keeps how its places are told
+pub given_lines : (file : List ℕ) (type : AskedType) (found : Found) (r : Requested) → GivesType file type found (Ok r) → r.lines ≡ type.lines
+given_lines file type found r ((Err stop, fault, e), ready) = absurd (cc e)
+given_lines file type found r ((Ok text, read, (Err stop, refusal, e)), ready) = absurd (cc e)
+given_lines file type found r ((Ok text, read, (Ok decls, declared, is)), ready) = is.lined
 
 -- ---- PATH
 
@@ -167,20 +154,27 @@ path_refused text path_faults.Memory some is = absurd (some refl)
 -- ---- SCRIPT
 
 -- the stop tells the line of the text that is at fault
-abbrev StopsByLine : List ℕ → codes_of.Stop → Type 0
-StopsByLine text stop = (refusal : ℕ × List ℕ) × ReadsScript text (Err refusal) × (stop_of stop ≡ script_line refusal.0 refusal.1)
+abbrev StopsByLine : Bool → List ℕ → codes_of.Stop → Type 0
+StopsByLine lines text stop = (refusal : ℕ × List ℕ) × ReadsScript lines text (Err refusal) × (stop_of stop ≡ script_line refusal.0 refusal.1)
 
 -- a fault but for out of memory is that of a text that is no script
-lines_refused : (text : List ℕ) (fault : ScriptFault) → UnlessMemoryInScript (λ f. IsScriptAnswer text (Err f)) fault → (stop : codes_of.Stop) → IsScriptStop fault stop
-    → StopsByLine text stop ⊎ (stop_of stop ≡ out_of_memory)
-lines_refused text (script_faults.Lex number fault) refused stop is = inl ((number, lexer_text fault), (script_faults.Lex number fault, refused, refl), is)
-lines_refused text (script_faults.Syntax number place) refused stop is = inl ((number, placed_text (codes "Syntax") place), (script_faults.Syntax number place, refused, refl), is)
-lines_refused text (script_faults.Later number) refused stop is = inl ((number, codes "Later"), (script_faults.Later number, refused, refl), is)
-lines_refused text script_faults.Memory refused stop is = inr is
+lines_refused : (lines : Bool) (text : List ℕ) (fault : ScriptFault) → UnlessMemoryInScript (λ f. IsScriptAnswer text (Err f)) fault → (stop : codes_of.Stop) → IsScriptStop lines fault stop
+    → StopsByLine lines text stop ⊎ (stop_of stop ≡ out_of_memory)
+lines_refused lines text fault refused stop is = at fault refused is where
+  by_line : (fault : ScriptFault) (refusal : ℕ × List ℕ) → script_refusal lines fault ≡ Some refusal → IsScriptAnswer text (Err fault) → TellsRefusal (script_line refusal.0 refusal.1) stop
+      → StopsByLine lines text stop ⊎ (stop_of stop ≡ out_of_memory)
+  by_line fault refusal is answer (inl tells) = inl (refusal, (fault, answer, is), tells)
+  by_line fault refusal is answer (inr memory) = inr memory
 
-module _ (name : List ℕ) where
+  at : (fault : ScriptFault) → UnlessMemoryInScript (λ f. IsScriptAnswer text (Err f)) fault → IsScriptStop lines fault stop → StopsByLine lines text stop ⊎ (stop_of stop ≡ out_of_memory)
+  at (script_faults.Lex number fault) refused is = by_line (script_faults.Lex number fault) (number, lexer_text (place_on lines number) fault) refl refused is
+  at (script_faults.Syntax number place) refused is = by_line (script_faults.Syntax number place) (number, placed_text (codes "Syntax") (place_on lines number place)) refl refused is
+  at (script_faults.Later number) refused is = by_line (script_faults.Later number) (number, codes "Later") refl refused is
+  at script_faults.Memory refused is = inr is
+
+module _ (lines : Bool) (name : List ℕ) where
   abbrev pub GivesLines : Found → Result Script codes_of.Stop → Type 0
-  GivesLines found result = GivesScript name found result
+  GivesLines found result = GivesScript lines name found result
 
   pub script_missing : (stop : codes_of.Stop) → stop_of stop ≡ cannot_open name → GivesLines missing (Err stop)
   script_missing stop e = inl (Err (cannot_open name), refl, ap Err e)
@@ -198,9 +192,9 @@ module _ (name : List ℕ) where
     pub script_read : taken.until ≡ at_end → (script : Script) → IsScriptAnswer taken.bytes (Ok script) → GivesLines (opened taken) (Ok script)
     script_read e script is = (Ok taken.bytes, all_taken e, is)
 
-    pub script_refused : taken.until ≡ at_end → (fault : ScriptFault) → UnlessMemoryInScript (λ f. IsScriptAnswer taken.bytes (Err f)) fault → (stop : codes_of.Stop) → IsScriptStop fault stop
+    pub script_refused : taken.until ≡ at_end → (fault : ScriptFault) → UnlessMemoryInScript (λ f. IsScriptAnswer taken.bytes (Err f)) fault → (stop : codes_of.Stop) → IsScriptStop lines fault stop
         → GivesLines (opened taken) (Err stop)
-    script_refused e fault refused stop is = at (lines_refused taken.bytes fault refused stop is) where
-      at : StopsByLine taken.bytes stop ⊎ (stop_of stop ≡ out_of_memory) → GivesLines (opened taken) (Err stop)
+    script_refused e fault refused stop is = at (lines_refused lines taken.bytes fault refused stop is) where
+      at : StopsByLine lines taken.bytes stop ⊎ (stop_of stop ≡ out_of_memory) → GivesLines (opened taken) (Err stop)
       at (inl (refusal, reads, same)) = inl (Ok taken.bytes, all_taken e, (refusal, reads, same))
       at (inr memory) = inr memory

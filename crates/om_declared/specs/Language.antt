@@ -24,6 +24,7 @@ use Rattle.om_edit.specs.EditedLines.{AreEdited}
 use Rattle.om_edit.specs.EditedValues.{Edited}
 use Rattle.om_edit.specs.Grafts.{Other}
 use Rattle.om_edit.specs.Reasons.{reason_text}
+use Rattle.om_lines.specs.Lines.{place_in, place_on}
 use Rattle.om_path.specs.Answer.{IsAnswer}
 use Rattle.om_path.specs.declared.fault.PathFault.{PathFault}
 use Rattle.om_path.specs.declared.fault.PathFault.TheVariants as path_faults
@@ -39,12 +40,14 @@ use Rattle.om_trees.specs.declared.verdict.TreeVerdict.{TreeVerdict}
 use Rattle.om_tree_check.specs.VerdictText.{is_sound, verdict_text}
 use Rattle.om_outcome.specs.declared.style.Style.{Style}
 use Rattle.om_outcome.specs.RefusalText.{compat_text}
-use Rattle.om_outcome.specs.Outcome.{Language, Said, Saying, the_verdict, the_text, the_part, the_trees, Unedited, untyped, refused_line, too_large, line}
+use Rattle.om_outcome.specs.Outcome.{AskedType, Language, Said, Saying, the_verdict, the_text, the_part, the_trees, Unedited, untyped, refused_line, too_large, line}
 
--- a type over declarations
+-- a type over declarations, and whether the places of what is refused at it are told by line and
+-- column
 pub record TypeOver : Type 0 where
   pub decls : List Decl
   pub type : Ty
+  pub lines : Bool
 
 -- ---- lines
 
@@ -115,10 +118,11 @@ AreBytesOf compat graph v answer =
     (tree : Tree) × IsTreeOf graph v tree × (answer ≡ bytes_for compat tree (too_large_for_32 tree))
 
 -- those of what the lines made, or the line that is refused
-abbrev pub AreBytesAfter : Bool → Edited Ty → Result (List ℕ) Unedited → Type 0
-AreBytesAfter compat (Ok edited) answer = AreBytesOf compat edited.0 edited.1 answer
-AreBytesAfter compat (Err refused) answer =
-    answer ≡ Err (refused_line refused.0 (reason_text type_text refused.1))
+abbrev pub AreBytesAfter : (lines compat : Bool) → Edited Ty → Result (List ℕ) Unedited → Type 0
+AreBytesAfter lines compat (Ok edited) answer = AreBytesOf compat edited.0 edited.1 answer
+AreBytesAfter lines compat (Err refused) answer =
+    answer
+    ≡ Err (refused_line refused.0 (reason_text type_text (place_on lines refused.0) refused.1))
 
 -- the value has the type, and each closed instance of it, and these are the bytes of what the
 -- lines make of it, after these values
@@ -129,7 +133,7 @@ pub record IsEdited (t : TypeOver) (others : List Other) (lines : List ScriptLin
   pub edited : Edited Ty
   pub made : AreEdited (shape t.decls) (names_of t.decls) (Equal t.decls) t.type others lines graph
       v edited
-  pub bytes : AreBytesAfter compat edited answer
+  pub bytes : AreBytesAfter t.lines compat edited answer
 
 -- it has not the type, nor each closed instance of it
 pub record IsUntyped (t : TypeOver) (graph : List Obj) (v : Val) (answer : Result (List ℕ) Unedited)
@@ -168,16 +172,18 @@ AreBytesIn t script compat earlier tree answer =
 
 -- ---- what is read
 
--- the text is that of an answer, and the answer accepts nothing
-pub record IsRefusal {T : Type 0} (Is : Answer T → Type 0) (refusal : List ℕ) : Type 0 where
+-- the text is that of an answer, where places are told so, and the answer accepts nothing
+pub record IsRefusal {T : Type 0} (told : ℕ → List ℕ) (Is : Answer T → Type 0) (refusal : List ℕ)
+    : Type 0 where
   pub answer : Answer T
   pub is : Is answer
   pub refuses : (tree : T) → answer ≢ accepted tree
-  pub spelled : refusal ≡ answer_text answer
+  pub spelled : refusal ≡ answer_text told answer
 
-abbrev pub ReadsDeclarations : List ℕ → Result (List Decl) (List ℕ) → Type 0
-ReadsDeclarations text (Ok decls) = IsDeclared text decls
-ReadsDeclarations text (Err refusal) = IsRefusal (IsFileAnswer text) refusal
+abbrev pub ReadsDeclarations : (lines : Bool) → List ℕ → Result (List Decl) (List ℕ) → Type 0
+ReadsDeclarations lines text (Ok decls) = IsDeclared text decls
+ReadsDeclarations lines text (Err refusal) =
+    IsRefusal (place_in lines text) (IsFileAnswer text) refusal
 
 -- the type reaches these types, at most 65,536
 pub record ReachesFew (decls : List Decl) (t : Ty) : Type 0 where
@@ -192,16 +198,18 @@ pub record IsTooMuch (decls : List Decl) (text refusal : List ℕ) : Type 0 wher
   pub many : ReachesTooMany decls type
   pub spelled : refusal ≡ codes "TooManyTypes"
 
--- the text is this type over these declarations, and reaches few types
-pub record IsAccepted (decls : List Decl) (text : List ℕ) (t : TypeOver) : Type 0 where
+-- the text that is asked for is this type over these declarations, and reaches few types
+pub record IsAccepted (decls : List Decl) (asked : AskedType) (t : TypeOver) : Type 0 where
   pub over : t.decls ≡ decls
-  pub written : IsTypeOf decls text t.type
+  pub written : IsTypeOf decls asked.text t.type
   pub few : ReachesFew decls t.type
+  pub lined : t.lines ≡ asked.lines
 
-abbrev pub ReadsType : List Decl → List ℕ → Result TypeOver (List ℕ) → Type 0
-ReadsType decls text (Ok t) = IsAccepted decls text t
-ReadsType decls text (Err refusal) =
-    IsRefusal (IsTypeAnswer decls text) refusal ⊎ IsTooMuch decls text refusal
+abbrev pub ReadsType : List Decl → AskedType → Result TypeOver (List ℕ) → Type 0
+ReadsType decls asked (Ok t) = IsAccepted decls asked t
+ReadsType decls asked (Err refusal) =
+    IsRefusal (place_in asked.lines asked.text) (IsTypeAnswer decls asked.text) refusal
+    ⊎ IsTooMuch decls asked.text refusal
 
 -- the text is this path, or no path
 abbrev pub ReadsPath : List ℕ → Option (List ℕ) → Type 0
@@ -209,18 +217,20 @@ ReadsPath text (Some path) = IsAnswer text (Ok path)
 ReadsPath text None = (fault : PathFault) × (fault ≢ path_faults.Memory) × IsAnswer text (Err fault)
 
 -- the line of a script that is at fault, and its text; out of memory is no fault
-abbrev pub script_refusal : ScriptFault → Option (ℕ × List ℕ)
-script_refusal (script_faults.Lex number fault) = Some (number, lexer_text fault)
-script_refusal (script_faults.Syntax number place) =
-    Some (number, placed_text (codes "Syntax") place)
-script_refusal (script_faults.Later number) = Some (number, codes "Later")
-script_refusal script_faults.Memory = None
+abbrev pub script_refusal : (lines : Bool) → ScriptFault → Option (ℕ × List ℕ)
+script_refusal lines (script_faults.Lex number fault) =
+    Some (number, lexer_text (place_on lines number) fault)
+script_refusal lines (script_faults.Syntax number place) =
+    Some (number, placed_text (codes "Syntax") (place_on lines number place))
+script_refusal lines (script_faults.Later number) = Some (number, codes "Later")
+script_refusal lines script_faults.Memory = None
 
 -- the text is a script of these lines, or has this fault
-abbrev pub ReadsScript : List ℕ → Result (List ScriptLine) (ℕ × List ℕ) → Type 0
-ReadsScript text (Ok lines) = AreEdits 1 text (Ok lines)
-ReadsScript text (Err refusal) =
-    (fault : ScriptFault) × AreEdits 1 text (Err fault) × (script_refusal fault ≡ Some refusal)
+abbrev pub ReadsScript : (lines : Bool) → List ℕ → Result (List ScriptLine) (ℕ × List ℕ) → Type 0
+ReadsScript lines text (Ok edits) = AreEdits 1 text (Ok edits)
+ReadsScript lines text (Err refusal) =
+    (fault : ScriptFault) × AreEdits 1 text (Err fault)
+    × (script_refusal lines fault ≡ Some refusal)
 
 abbrev pub declared_types : Language (List Decl) TypeOver ScriptLine
 declared_types = record {

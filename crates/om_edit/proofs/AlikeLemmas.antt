@@ -1,6 +1,6 @@
 -- What a table of types says of edits is what its types say.
 use Rattle.std.proofs.Common.{ℕ, suc, ◌≡◌, ◌∙◌, List, [], ◌∷◌, ◌++◌, length, Option, Some, None, Result, Ok, Err, refl, ap, sym, subst}
-use Rattle.std.specs.Prelude.{slice_get, option_map, option_and_then, codes, decimal}
+use Rattle.std.specs.Prelude.{slice_get, option_map, option_and_then, codes}
 use Rattle.om_model.specs.declared.value.Val.{Val}
 use Rattle.om_model.specs.declared.value.Val.TheVariants as vals
 use Rattle.om_model.specs.declared.value.Obj.{Obj}
@@ -95,40 +95,41 @@ module _ (decls : List Decl) (t : Ty) (table : TypeTable) (is : IsTypeTable decl
   pub text_is : (i : ℕ) (u : Ty) → Is i u → text_at table i ≡ type_text u
   text_is i u at = ap text_or_none at
 
-  refusal_text_same : (r : Refusal ℕ) (s : Refusal Ty) → RefusalsAgree Is r s
-      → literal_text (text_at table) (misread r) ≡ literal_text type_text (misread s)
-  refusal_text_same (misfit_at k i) (misfit_at j u) same =
-      ap (λ k. codes "Misfit at " ++ decimal k ++ codes ": expected " ++ text_at table i) same.0
-      ∙ ap (λ text. codes "Misfit at " ++ decimal j ++ codes ": expected " ++ text) (text_is i u same.1)
-  refusal_text_same (int_range_at k) (int_range_at j) same = ap (λ k. codes "IntRange at " ++ decimal k) same
-  refusal_text_same (label_at k) (label_at j) same = ap (λ k. codes "Label at " ++ decimal k) same
-  refusal_text_same (misfit_at k i) (int_range_at j) same = absurd same
-  refusal_text_same (misfit_at k i) (label_at j) same = absurd same
-  refusal_text_same (int_range_at k) (misfit_at j u) same = absurd same
-  refusal_text_same (int_range_at k) (label_at j) same = absurd same
-  refusal_text_same (label_at k) (misfit_at j u) same = absurd same
-  refusal_text_same (label_at k) (int_range_at j) same = absurd same
+  module _ (told : ℕ → List ℕ) where
+    refusal_text_same : (r : Refusal ℕ) (s : Refusal Ty) → RefusalsAgree Is r s
+        → literal_text (text_at table) told (misread r) ≡ literal_text type_text told (misread s)
+    refusal_text_same (misfit_at k i) (misfit_at j u) same =
+        ap (λ k. codes "Misfit at " ++ told k ++ codes ": expected " ++ text_at table i) same.0
+        ∙ ap (λ text. codes "Misfit at " ++ told j ++ codes ": expected " ++ text) (text_is i u same.1)
+    refusal_text_same (int_range_at k) (int_range_at j) same = ap (λ k. codes "IntRange at " ++ told k) same
+    refusal_text_same (label_at k) (label_at j) same = ap (λ k. codes "Label at " ++ told k) same
+    refusal_text_same (misfit_at k i) (int_range_at j) same = absurd same
+    refusal_text_same (misfit_at k i) (label_at j) same = absurd same
+    refusal_text_same (int_range_at k) (misfit_at j u) same = absurd same
+    refusal_text_same (int_range_at k) (label_at j) same = absurd same
+    refusal_text_same (label_at k) (misfit_at j u) same = absurd same
+    refusal_text_same (label_at k) (int_range_at j) same = absurd same
 
-  pub literal_text_same : (r : Reason ℕ) (s : Reason Ty) → ReasonsAgree r s → literal_text (text_at table) r ≡ literal_text type_text s
-  literal_text_same (no_literal place) (no_literal other) same = ap (λ place. codes "Syntax at " ++ decimal place) same
-  literal_text_same (misread r) (misread s) same = refusal_text_same r s same
-  literal_text_same (no_field side n) (no_field other m) same = refl
-  literal_text_same not_block not_block same = refl
-  literal_text_same (ill_typed fault) (ill_typed other) same = refl
-  literal_text_same r s same = absurd same
+    pub literal_text_same : (r : Reason ℕ) (s : Reason Ty) → ReasonsAgree r s → literal_text (text_at table) told r ≡ literal_text type_text told s
+    literal_text_same (no_literal place) (no_literal other) same = ap (λ place. codes "Syntax at " ++ told place) same
+    literal_text_same (misread r) (misread s) same = refusal_text_same r s same
+    literal_text_same (no_field side n) (no_field other m) same = refl
+    literal_text_same not_block not_block same = refl
+    literal_text_same (ill_typed fault) (ill_typed other) same = refl
+    literal_text_same r s same = absurd same
 
-  reason_text_same : (r : Reason ℕ) (s : Reason Ty) → ReasonsAgree r s → reason_text (text_at table) r ≡ reason_text type_text s
-  reason_text_same (no_field side n) (no_field other m) same =
-      ap (λ side. reason_text (text_at table) (no_field side n)) same.0 ∙ ap (λ n. reason_text (text_at table) (no_field other n)) same.1
-  reason_text_same not_block not_block same = refl
-  reason_text_same (no_literal place) (no_literal other) same = ap in_script (literal_text_same (no_literal place) (no_literal other) same)
-  reason_text_same (misread r) (misread s) same = ap in_script (literal_text_same (misread r) (misread s) same)
-  reason_text_same (ill_typed fault) (ill_typed other) same = ap (λ fault. reason_text (text_at table) (ill_typed fault)) same
-  reason_text_same r s same = absurd same
+    reason_text_same : (r : Reason ℕ) (s : Reason Ty) → ReasonsAgree r s → reason_text (text_at table) told r ≡ reason_text type_text told s
+    reason_text_same (no_field side n) (no_field other m) same =
+        ap (λ side. reason_text (text_at table) told (no_field side n)) same.0 ∙ ap (λ n. reason_text (text_at table) told (no_field other n)) same.1
+    reason_text_same not_block not_block same = refl
+    reason_text_same (no_literal place) (no_literal other) same = ap in_script (literal_text_same (no_literal place) (no_literal other) same)
+    reason_text_same (misread r) (misread s) same = ap in_script (literal_text_same (misread r) (misread s) same)
+    reason_text_same (ill_typed fault) (ill_typed other) same = ap (λ fault. reason_text (text_at table) told (ill_typed fault)) same
+    reason_text_same r s same = absurd same
 
   pub say_the_same : (answer : Answer ℕ) (other : Answer Ty) → AnswersAgree answer other → SayTheSame table answer other
   say_the_same (Ok made) (Ok other) same = same
-  say_the_same (Err r) (Err s) same = reason_text_same r s same
+  say_the_same (Err r) (Err s) same = λ told. reason_text_same told r s same
   say_the_same (Ok made) (Err s) same = absurd same
   say_the_same (Err r) (Ok other) same = absurd same
 

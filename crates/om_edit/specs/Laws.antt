@@ -50,11 +50,12 @@ pub record EditsHaveOneAnswer : Type 0 where
       → (others : List Other) (lines : List ScriptLine) (graph : List Obj) (root : Val)
       → IsAtMostOne (AreDeclaredEdits decls t others lines graph root)
 
--- the same value, or reasons of one text
+-- the same value, or reasons of one text, however places are told
 abbrev pub SayTheSame : TypeTable → Answer ℕ → Answer Ty → Type 0
 SayTheSame table (Ok edited) (Ok other) = edited ≡ other
 SayTheSame table (Err reason) (Err other) =
-    reason_text (text_at table) reason ≡ reason_text type_text other
+    (told : ℕ → List ℕ)
+    → reason_text (text_at table) told reason ≡ reason_text type_text told other
 SayTheSame table (Ok edited) (Err other) = ⊥
 SayTheSame table (Err reason) (Ok other) = ⊥
 

@@ -1,4 +1,4 @@
--- Why an edit is refused, over any types, and the text of it.
+-- Why an edit is refused, over any types, and the text of it, as places are told.
 use Rattle.std.specs.Prelude.{ℕ, Option, Some, None, List, [], ◌++◌, codes, decimal}
 use Rattle.om_model.specs.PathText.{path_text}
 use Rattle.om_types.specs.declared.fault.Fault.{Fault}
@@ -37,14 +37,14 @@ fault_places (Clash first second) = path_text first ++ codes " and " ++ path_tex
 abbrev pub in_script : List ℕ → List ℕ
 in_script text = codes "Literal " ++ text
 
-module _ {T : Type 0} (type_text : T → List ℕ) where
+module _ {T : Type 0} (type_text : T → List ℕ) (told : ℕ → List ℕ) where
   -- why there is no value of a literal; of another reason this says nothing
   abbrev pub literal_text : Reason T → List ℕ
-  literal_text (no_literal place) = codes "Syntax at " ++ decimal place
+  literal_text (no_literal place) = codes "Syntax at " ++ told place
   literal_text (misread (misfit_at place t)) =
-      codes "Misfit at " ++ decimal place ++ codes ": expected " ++ type_text t
-  literal_text (misread (int_range_at place)) = codes "IntRange at " ++ decimal place
-  literal_text (misread (label_at place)) = codes "Label at " ++ decimal place
+      codes "Misfit at " ++ told place ++ codes ": expected " ++ type_text t
+  literal_text (misread (int_range_at place)) = codes "IntRange at " ++ told place
+  literal_text (misread (label_at place)) = codes "Label at " ++ told place
   literal_text reason = []
 
   abbrev pub reason_text : Reason T → List ℕ

@@ -3,11 +3,13 @@
 ghost use Rattle.std.specs.Prelude.{◌≡◌, ◌<◌, ◌++◌, length, All, IfOk, OnOk, codes, decimal};
 ghost use Rattle.om_model.specs.PathText.{path_text};
 ghost use Rattle.om_literal.specs.Reading.{misfit_at};
+ghost use Rattle.om_lines.specs.Places.{told_by};
 ghost use Rattle.om_fault.specs.Text.{text_at};
 ghost use Rattle.om_edit.specs.Reasons.{misread, side_text, fault_places, literal_reason, reason_of, literal_text as why_text, literal_or_none, reason_or_none};
 
 use crate::refusal::{EditRefusal, Side};
 use itoa::Buffer;
+use om_lines::Places;
 use om_literal::LiteralFault;
 use om_model::Memory;
 use om_model::list::List;
@@ -20,17 +22,19 @@ use std::alloc::Global;
 pub fn refusal_text(
     alloc: Global,
     table: &TypeTable,
+    places: &Places<'_>,
     refusal: &EditRefusal,
 ) -> Result<List<u8>, Memory>
     requires within { All (λ i. i < length table.now.store) table.now.stored }
     ensures { IfOk result
-        (λ text. text ≡ reason_or_none (text_at table.now) (reason_of refusal.now)) }
+        (λ text. text
+        ≡ reason_or_none (text_at table.now) (told_by places.now) (reason_of refusal.now)) }
 {
     let mut text = Vec::new(alloc);
     match refusal {
         EditRefusal::NoField(side, step) => put_no_field(&mut text, *side, *step)?,
         EditRefusal::NotBlock => put(&mut text, b"NotBlock")?,
-        EditRefusal::Literal(fault) => put_literal(&mut text, alloc, table, *fault)?,
+        EditRefusal::Literal(fault) => put_literal(&mut text, alloc, table, places, *fault)?,
         EditRefusal::IllTyped(fault) => {
             put(&mut text, b"IllTyped at ")?;
             put_places(&mut text, alloc, fault)?;
@@ -61,14 +65,16 @@ fn put_no_field(text: &mut Vec<u8>, side: Side, step: usize) -> Result<(), Memor
 pub fn literal_text(
     alloc: Global,
     table: &TypeTable,
+    places: &Places<'_>,
     fault: LiteralFault,
 ) -> Result<List<u8>, Memory>
     requires within { All (λ i. i < length table.now.store) table.now.stored }
     ensures { IfOk result
-        (λ text. text ≡ literal_or_none (text_at table.now) (literal_reason fault)) }
+        (λ text. text
+        ≡ literal_or_none (text_at table.now) (told_by places.now) (literal_reason fault)) }
 {
     let mut text = Vec::new(alloc);
-    put_fault(&mut text, alloc, table, fault)?;
+    put_fault(&mut text, alloc, table, places, fault)?;
     Ok(List::of(text))
 }
 
@@ -77,18 +83,20 @@ fn put_literal(
     text: &mut Vec<u8>,
     alloc: Global,
     table: &TypeTable,
+    places: &Places<'_>,
     fault: LiteralFault,
 ) -> Result<(), Memory>
     requires within { All (λ i. i < length table.now.store) table.now.stored }
     ensures { OnOk result
         (text.new.items
-        ≡ text.old.items ++ reason_or_none (text_at table.now) (literal_reason fault)) }
+        ≡ text.old.items
+        ++ reason_or_none (text_at table.now) (told_by places.now) (literal_reason fault)) }
 {
     match fault {
         LiteralFault::Memory => Ok(()),
         _ => {
             put(text, b"Literal ")?;
-            put_fault(text, alloc, table, fault)
+            put_fault(text, alloc, table, places, fault)
         }
     }
 }
@@ -98,18 +106,20 @@ fn put_fault(
     text: &mut Vec<u8>,
     alloc: Global,
     table: &TypeTable,
+    places: &Places<'_>,
     fault: LiteralFault,
 ) -> Result<(), Memory>
     requires within { All (λ i. i < length table.now.store) table.now.stored }
     ensures { OnOk result
         (text.new.items
-        ≡ text.old.items ++ literal_or_none (text_at table.now) (literal_reason fault)) }
+        ≡ text.old.items
+        ++ literal_or_none (text_at table.now) (told_by places.now) (literal_reason fault)) }
 {
     match fault {
-        LiteralFault::Syntax(place) => put_at(text, b"Syntax at ", place),
-        LiteralFault::Misfit(place, ty) => put_misfit(text, alloc, table, place, ty),
-        LiteralFault::IntRange(place) => put_at(text, b"IntRange at ", place),
-        LiteralFault::Label(place) => put_at(text, b"Label at ", place),
+        LiteralFault::Syntax(place) => put_at(text, places, b"Syntax at ", place),
+        LiteralFault::Misfit(place, ty) => put_misfit(text, alloc, table, places, place, ty),
+        LiteralFault::IntRange(place) => put_at(text, places, b"IntRange at ", place),
+        LiteralFault::Label(place) => put_at(text, places, b"Label at ", place),
         LiteralFault::Memory => Ok(()),
     }
 }
@@ -119,25 +129,28 @@ fn put_misfit(
     text: &mut Vec<u8>,
     alloc: Global,
     table: &TypeTable,
+    places: &Places<'_>,
     place: u64,
     ty: usize,
 ) -> Result<(), Memory>
     requires within { All (λ i. i < length table.now.store) table.now.stored }
     ensures { OnOk result
         (text.new.items
-        ≡ text.old.items ++ why_text (text_at table.now) (misread (misfit_at place ty))) }
+        ≡ text.old.items
+        ++ why_text (text_at table.now) (told_by places.now) (misread (misfit_at place ty))) }
 {
-    put_at(text, b"Misfit at ", place)?;
+    put_at(text, places, b"Misfit at ", place)?;
     put(text, b": expected ")?;
     put_type(text, alloc, table, ty)
 }
 
 /// Puts what is at a byte.
-fn put_at(text: &mut Vec<u8>, what: &[u8], place: u64) -> Result<(), Memory>
-    ensures { OnOk result (text.new.items ≡ text.old.items ++ (what.now ++ decimal place)) }
+fn put_at(text: &mut Vec<u8>, places: &Places<'_>, what: &[u8], place: u64) -> Result<(), Memory>
+    ensures { OnOk result
+        (text.new.items ≡ text.old.items ++ (what.now ++ told_by places.now place)) }
 {
     put(text, what)?;
-    put_number(text, place)
+    places.put(text, place)
 }
 
 /// Puts a type, if the table has one of this number.

@@ -3,7 +3,7 @@ use Rattle.std.proofs.Common.{◌≡◌, ◌≢◌, ◌⊎◌, ℕ, List, [], Bo
 use Rattle.std.specs.Prelude.{◌↔◌, ◌&&◌, if◌then◌else◌}
 use Rattle.om_outcome.specs.declared.status.Status.{Status}
 use Rattle.om_outcome.specs.declared.status.Status.TheVariants as statuses
-use Rattle.om_outcome.specs.Outcome.{IsUsage, Stop, usage, declarations, requested_type, out_of_memory, status_of, ending_of, Said, Reply, says, stops, Replies, replies, stopped, Language}
+use Rattle.om_outcome.specs.Outcome.{IsUsage, asked_type, Stop, usage, declarations, requested_type, out_of_memory, status_of, ending_of, Said, Reply, says, stops, Replies, replies, stopped, Language}
 use Rattle.om_edge.specs.Sink.{Puts}
 use Rattle.om_generate.specs.Generated.{item_declarations}
 use Rattle.om_promises.specs.Account.{Completes, Breaks, Account}
@@ -49,7 +49,7 @@ module _ {D T E : Type 0} (language : Language D T E) where
       pub is : all ≡ stopped stop
       pub why : (IsUsage words × (stop ≡ usage))
           ⊎ ((asked : Asked) × AskFor language words asked × (status_of stop ≡ statuses.Types)
-          × IsRefusedType language item_declarations asked.type)
+          × IsRefusedType language item_declarations (asked_type asked.type false))
 
     module _ (given : Given) where
       -- what an outcome says
@@ -113,7 +113,7 @@ module _ {D T E : Type 0} (language : Language D T E) where
             by : (IsUsage words × (s.stop ≡ usage))
                 ⊎ ((asked : Asked) × AskFor language words asked
                 × (status_of s.stop ≡ statuses.Types)
-                × IsRefusedType language item_declarations asked.type)
+                × IsRefusedType language item_declarations (asked_type asked.type false))
                 → IsDue language words (status_of s.stop)
             by (inl (none, is)) = inl (none, ap (λ s. status_of s) is)
             by (inr (asked, ask, is, refused)) =
@@ -145,7 +145,7 @@ module _ {D T E : Type 0} (language : Language D T E) where
 
       stop_outcome :
           (asked : Asked) → AskFor language words asked
-          → IsRefusedType language item_declarations asked.type → HasOutcome statuses.Types
+          → IsRefusedType language item_declarations (asked_type asked.type false) → HasOutcome statuses.Types
       stop_outcome asked (request, asks, is) (inl (refusal, refuses)) = (
         stopped (declarations refusal),
         (
@@ -348,7 +348,7 @@ module _ {D T E : Type 0} (language : Language D T E) where
                 → (IsUsage words × (s.stop ≡ usage))
                 ⊎ ((asked : Asked) × AskFor language words asked
                 × (status_of s.stop ≡ statuses.Types)
-                × IsRefusedType language item_declarations asked.type) → IsPut
+                × IsRefusedType language item_declarations (asked_type asked.type false)) → IsPut
             by well (inl (none, is)) =
                 absurd (usage_not (subst (λ s. IsWellOrNo (status_of s)) is well))
             by well (inr (asked, ask, is, refused)) = absurd (types_not (subst IsWellOrNo is well))

@@ -1,7 +1,7 @@
 -- TYPE is read once over the declarations of the items, as over those of a file that holds them.
-use Rattle.std.proofs.Common.{◌≡◌, ℕ, List, [], Some, None, Result, Ok, Err, inl, inr, refl, sym, ap, ◌∙◌, subst}
+use Rattle.std.proofs.Common.{◌≡◌, ℕ, false, List, [], Some, None, Result, Ok, Err, inl, inr, refl, sym, ap, ◌∙◌, subst}
 use Rattle.om_outcome.specs.declared.status.Status.TheVariants.{Types}
-use Rattle.om_outcome.specs.Outcome.{Found, opened, whole, Request, Stop, status_of, Language, Then, ReadsTypeOf}
+use Rattle.om_outcome.specs.Outcome.{Found, opened, whole, Request, asked_type, Stop, status_of, Language, Then, ReadsTypeOf}
 use Rattle.om_generate.specs.Generated.{item_declarations}
 use Rattle.om_promises.specs.Commands.{Fetches}
 use Rattle.om_promises.specs.Lawful.{IsOnce, IsInner}
@@ -25,20 +25,20 @@ same_asked request asked other h k = let same : Some asked ≡ Some other = sym 
 module _ {D T E : Type 0} (language : Language D T E) where
   as_typed :
       (text : List ℕ) (result : Result T Stop) → ReadsItemType language text result
-      → ReadsTypeOf language items_file ([], text) result
+      → ReadsTypeOf language items_file ([], asked_type text false) result
   as_typed text result h = (Ok item_declarations, refl, h)
 
   -- the type was read
   item_type_given :
       (text : List ℕ) (type : T) → ReadsItemType language text (Ok type) → IsGiven language type
   item_type_given text type h =
-      type_given language (record { file = items_file; script = items_file }) [] text type
-      (as_typed text (Ok type) h)
+      type_given language (record { file = items_file; script = items_file }) []
+      (asked_type text false) type (as_typed text (Ok type) h)
 
   -- a stop there tells that TYPE is refused
   pub refused_type :
       (text : List ℕ) (stop : Stop) → ReadsItemType language text (Err stop)
-      → (status_of stop ≡ Types) × IsRefusedType language item_declarations text
+      → (status_of stop ≡ Types) × IsRefusedType language item_declarations (asked_type text false)
   refused_type text stop (Err s, (refusal, refuses, e), is) =
       let same : stop ≡ s = cc is in
       (ap (λ s. status_of s) (same ∙ e), inl (refusal, refuses))
@@ -48,13 +48,13 @@ module _ {D T E : Type 0} (language : Language D T E) where
   module _ (lawful : IsLawful language) where
     item_type_once : (text : List ℕ) → IsOnce (ReadsItemType language text)
     item_type_once text result other h k =
-        type_once language lawful items_file ([], text) result other
+        type_once language lawful items_file ([], asked_type text false) result other
         (as_typed text result h) (as_typed text other k)
 
     item_type_inside :
         (text : List ℕ) (stop : Stop) → ReadsItemType language text (Err stop) → IsInner stop
     item_type_inside text stop h =
-        by (type_inside language lawful items_file ([], text) stop (as_typed text (Err stop) h))
+        by (type_inside language lawful items_file ([], asked_type text false) stop (as_typed text (Err stop) h))
       where
         by : ComesOf language lawful [] (opened (whole item_declarations)) stop → IsInner stop
         by (inl inner) = inner

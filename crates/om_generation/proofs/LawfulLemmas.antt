@@ -45,12 +45,12 @@ module _ {D T E : Type 0} (language : Language D T E) where
 
     lawful_at : AreLawfulAt (generation language) a
     lawful_at = record {
-      first_once = λ bytes are_bytes item other more rest h k. absurd h;
+      first_once = λ items bytes are_bytes item other more rest h k. absurd h;
       says_once = λ items item said other h k. absurd h;
       stops_once = λ items bytes are_bytes stop other h k. absurd h;
       ends_once = λ items bytes are_bytes. ends_once items bytes;
-      front = λ bytes item more h. absurd h;
-      item_stays = λ bytes item more later h. h;
+      front = λ items bytes item more h. absurd h;
+      item_stays = λ items bytes item more later h. h;
       stop_stays = λ items bytes later stop h. h;
       stops_inside = λ items bytes stop h. absurd h;
       ends_inside = λ items bytes stop h. absurd h;

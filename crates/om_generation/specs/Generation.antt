@@ -1,9 +1,9 @@
 -- The command on a value that is made from a number, in the general form: it wants no file and
 -- reads no input, and its last reply is the line of the value.
-use Rattle.std.specs.Prelude.{ℕ, ◌≡◌, List, [], Option, Some, None, Result, Ok}
+use Rattle.std.specs.Prelude.{ℕ, ◌≡◌, false, List, [], Option, Some, None, Result, Ok}
 use Rattle.om_format.specs.Iso.{IsTreeOf}
 use Rattle.om_format.specs.Tree.{Tree}
-use Rattle.om_outcome.specs.Outcome.{Request, own, generate, Stop, declarations, requested_type, Said, Reply, says, stops, Language, the_verdict, Then, OrRefusal, line}
+use Rattle.om_outcome.specs.Outcome.{Request, asked_type, own, generate, Stop, declarations, requested_type, Said, Reply, says, stops, Language, the_verdict, Then, OrRefusal, line}
 use Rattle.om_generate.specs.Generated.{item_declarations, generated}
 use Rattle.om_generate.specs.Line.{generated_text}
 use Rattle.om_promises.specs.Commands.{Item, Fetches, Commands}
@@ -34,11 +34,11 @@ abbrev pub IsMadeTree : (number count : ℕ) → Tree → Type 0
 IsMadeTree number count tree = IsTreeOf (generated number count).0 (generated number count).1 tree
 
 module _ {D T E : Type 0} (language : Language D T E) where
-  -- TYPE, over the declarations of the items
+  -- TYPE, over the declarations of the items; places in it are told by the numbers of bytes
   abbrev pub ReadsItemType : List ℕ → Result T Stop → Type 0
   ReadsItemType text =
-      Then (OrRefusal (language.ReadsDeclarations item_declarations) declarations) (λ decls.
-      OrRefusal (language.ReadsType decls text) requested_type)
+      Then (OrRefusal (language.ReadsDeclarations false item_declarations) declarations) (λ decls.
+      OrRefusal (language.ReadsType decls (asked_type text false)) requested_type)
 
   abbrev pub Finds : Request → Fetches → Result (Making T) Stop → Type 0
   Finds request files result =
@@ -63,7 +63,7 @@ module _ {D T E : Type 0} (language : Language D T E) where
     Wants = λ request files turn name. ⊥;
     Finds = Finds;
     Reads = λ a. ⊥;
-    IsFirst = λ a bytes item more. ⊥;
+    IsFirst = λ a items bytes item more. ⊥;
     Says = λ a items item said. ⊥;
     Stops = λ a items bytes stop. ⊥;
     Ends = EndsWithLine;

@@ -10,7 +10,7 @@
 use Rattle.std.specs.Prelude.{ℕ, ◌≡◌, ◌≢◌, ◌↔◌, ◌⊎◌, Bool, true, false, List, Some, Ok}
 use Rattle.om_outcome.specs.declared.status.Status.{Status}
 use Rattle.om_outcome.specs.declared.status.Status.TheVariants.{Well, No, Usage, Types, Value, Script, ReadFault, OpenFault, TooLong, Compat, Certificate}
-use Rattle.om_outcome.specs.Outcome.{nothing, Request, Asks, IsUsage, Said, Language}
+use Rattle.om_outcome.specs.Outcome.{nothing, Request, asked_type, Asks, IsUsage, Said, Language}
 use Rattle.om_edge.specs.Sink.{Puts}
 use Rattle.om_generate.specs.Generated.{item_declarations}
 use Rattle.om_promises.specs.Call.{Call}
@@ -23,9 +23,9 @@ module _ {D T E : Type 0} (language : Language D T E) where
   -- TYPE is read, and this is said of the value
   pub record IsToldOf (asked : Asked) (said : Said) : Type 0 where
     pub decls : D
-    pub are_declared : language.ReadsDeclarations item_declarations (Ok decls)
+    pub are_declared : language.ReadsDeclarations false item_declarations (Ok decls)
     pub type : T
-    pub is_type : language.ReadsType decls asked.type (Ok type)
+    pub is_type : language.ReadsType decls (asked_type asked.type false) (Ok type)
     pub is_line : IsMadeLine language (making asked type) said
 
   -- something is said, which tells whether the value has the type
@@ -36,7 +36,7 @@ module _ {D T E : Type 0} (language : Language D T E) where
   abbrev pub Gives : Asked → Status → Type 0
   Gives asked Well = IsTold asked true
   Gives asked No = IsTold asked false
-  Gives asked Types = IsRefusedType language item_declarations asked.type
+  Gives asked Types = IsRefusedType language item_declarations (asked_type asked.type false)
   Gives asked status = ⊥
 
   module _ (words : List (List ℕ)) where

@@ -3,7 +3,8 @@ use Rattle.std.proofs.Common.{◌≡◌, ◌^◌, ◌<◌, ◌≤◌, ℕ, List,
 use Rattle.std.specs.Prelude.{find, if◌then◌else◌}
 use Rattle.std.specs.Str.{bytes_eq}
 use Rattle.clap.specs.Words.{Row}
-use Rattle.om_outcome.specs.CommandLine.{Request, own, tell, the_verdict, certify, generate, Form, forms, HasArguments, Asks}
+use Rattle.om_outcome.specs.declared.reading.Reading.{Reading}
+use Rattle.om_outcome.specs.CommandLine.{Request, own, tell, the_verdict, certify, generate, read_by, Form, forms, HasArguments, AreReadAs, Asks}
 
 -- what is asked for is in range
 abbrev IsRanged : Request → Type 0
@@ -42,23 +43,27 @@ either_ranged false one other a b = b
 
 all_ranged : AllRanged forms
 all_ranged = (
-  λ rows request h. subst IsRanged h.2.2.2.2 (either_ranged h.0 (own (certify h.2.2.0 h.2.2.2.0 h.2.0)) (tell the_verdict h.2.2.0 h.2.2.2.0 h.2.0) tt tt),
+  λ rows request h.
+      let reading : Reading = read_by h.2.2.2.0 h.2.2.2.2.0 h.2.0 in
+      subst IsRanged h.2.2.2.2.2.2.2
+      (either_ranged h.0 (own (certify h.2.2.2.2.2.0 h.2.2.2.2.2.2.0 h.2.2.0 reading))
+      (tell the_verdict h.2.2.2.2.2.0 h.2.2.2.2.2.2.0 h.2.2.0 reading) tt tt),
   (
-    λ rows request h. subst IsRanged h.2.2.2.2 tt,
+    λ rows request h. subst IsRanged h.2.2.2.2.2.2.2 tt,
     (
-      λ rows request h. subst IsRanged h.2.2.2.2.2 tt,
+      λ rows request h. subst IsRanged h.2.2.2.2.2.2.2.2 tt,
       (
-        λ rows request h. subst IsRanged h.2.2.2.2.2 tt,
+        λ rows request h. subst IsRanged h.2.2.2.2.2.2.2 tt,
         (
-          λ rows request h. subst IsRanged h.2.2.2 tt,
+          λ rows request h. subst IsRanged h.2.2.2.2.2 tt,
           (
-            λ rows request h. subst IsRanged h.2 tt,
+            λ rows request h. subst IsRanged h.2.2.2 tt,
             (
-              λ rows request h. subst IsRanged h.2 tt,
+              λ rows request h. subst IsRanged h.2.2 tt,
               (
-                λ rows request h. subst IsRanged h.2.2 tt,
+                λ rows request h. subst IsRanged h.2.2.2 tt,
                 (
-                  λ rows request h. subst IsRanged h.2.2.2.2 tt,
+                  λ rows request h. subst IsRanged h.2.2.2.2.2.2 tt,
                   (
                     λ rows request h.
                         subst IsRanged h.2.2.2 (below_number h.0 h.1.4, h.2.1.4),
@@ -77,7 +82,7 @@ all_ranged = (
 pub asked_in_range :
     (words : List (List ℕ)) (number count : ℕ) (type : List ℕ)
     → Asks words (own (generate number count type)) → (number < 2 ^ 31) × (count ≤ 1000000)
-unfolding Asks
-asked_in_range words number count type (command, rows, accepted, (form, found, arguments)) =
+unfolding Asks AreReadAs
+asked_in_range words number count type ((command, rows, accepted, (form, found, arguments)), whole) =
     found_ranged (λ form. bytes_eq form.name command) forms all_ranged form found rows
     (own (generate number count type)) arguments

@@ -1,11 +1,11 @@
 -- TYPE over the declarations of the items is read as over a file that holds them.
-use Rattle.std.proofs.Common.{◌≡◌, ℕ, List, Some, None, Result, Ok, Err, inl, inr, sym, ◌∙◌, ap, subst}
-use Rattle.om_outcome.specs.Outcome.{opened, whole, Taken, Stop, declarations, requested_type, Then, OrRefusal, ReadsTypeOf}
+use Rattle.std.proofs.Common.{◌≡◌, ℕ, false, List, Some, None, Result, Ok, Err, inl, inr, sym, ◌∙◌, ap, subst}
+use Rattle.om_outcome.specs.Outcome.{opened, whole, Taken, asked_type, Stop, declarations, requested_type, Then, OrRefusal, ReadsTypeOf}
 use Rattle.om_stops.specs.declared.stop.Stop as codes
 use Rattle.om_stops.specs.Stops.{stop_of}
 use Rattle.om_declared.specs.declared.types.Requested.{Requested}
 use Rattle.om_declared.specs.Language.{TypeOver, declared_types}
-use Rattle.om_declared.specs.Types.{GivesType}
+use Rattle.om_declared.specs.Types.{type_over, GivesType}
 use Rattle.om_generate.specs.Generated.{item_declarations}
 use Rattle.om_generation.specs.Generation.{ReadsItemType}
 use Rattle.om_generator.specs.Types.{GivesItemType}
@@ -13,12 +13,12 @@ use Rattle.om_generator.specs.Types.{GivesItemType}
 module _ (file type text : List ℕ) (are : text ≡ item_declarations) where
   abbrev ReadsOver : List ℕ → Result TypeOver Stop → Type 0
   ReadsOver text =
-      Then (OrRefusal (declared_types.ReadsDeclarations text) declarations) (λ decls.
-      OrRefusal (declared_types.ReadsType decls type) requested_type)
+      Then (OrRefusal (declared_types.ReadsDeclarations false text) declarations) (λ decls.
+      OrRefusal (declared_types.ReadsType decls (asked_type type false)) requested_type)
 
   as_items :
       (result : Result TypeOver Stop)
-      → ReadsTypeOf declared_types (λ name. opened (whole text)) (file, type) result
+      → ReadsTypeOf declared_types (λ name. opened (whole text)) (file, asked_type type false) result
       → ReadsItemType declared_types type result
   as_items result (Err s, fault, same) = let never : None ≡ Some s = fault in absurd (cc never)
   as_items result (Ok read, is, h) =
@@ -27,9 +27,9 @@ module _ (file type text : List ℕ) (are : text ≡ item_declarations) where
       subst (λ (t : List ℕ). ReadsOver t result) (sym bytes ∙ are) h
 
   pub item_type_given :
-      (result : Result Requested codes.Stop) → GivesType file type (opened (whole text)) result
+      (result : Result Requested codes.Stop) → GivesType file (asked_type type false) (opened (whole text)) result
       → GivesItemType type result
   item_type_given (Ok r) (reads, ready) =
-      (as_items (Ok (record { decls = r.decls; type = r.ty })) reads, ready)
+      (as_items (Ok (type_over r)) reads, ready)
   item_type_given (Err stop) (inl reads) = inl (as_items (Err (stop_of stop)) reads)
   item_type_given (Err stop) (inr memory) = inr memory

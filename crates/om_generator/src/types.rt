@@ -31,5 +31,5 @@ pub fn find_item_type(alloc: Global, type_text: &str) -> Result<Requested, Stop<
         bytes,
         until: InputEnd::End,
     };
-    read_gathered(alloc, &gathered, type_text)
+    read_gathered(alloc, &gathered, type_text, false)
 }

@@ -1,4 +1,4 @@
--- Bytes end with a reply of a status exactly where they end with that; so what an input gives is what it shows.
+-- Bytes end with a reply of a status exactly where they end with that.
 use Rattle.std.proofs.Common.{◌≡◌, ◌⊎◌, ℕ, List, [], length, inl, inr, refl, sym, ap, ◌∙◌, subst, arith}
 use Rattle.om_model.specs.Bytes.{AreBytes}
 use Rattle.om_model.specs.declared.refusal.ReadRefusal.{ReadRefusal}
@@ -9,15 +9,15 @@ use Rattle.om_outcome.specs.declared.status.Status.{Status}
 use Rattle.om_outcome.specs.Outcome.{Stop, not_two_values, value, ending_of, Said, Reply, stops, Replies, replies, Language, Work, tells, edits, dumps, compares, Task, StopsAt}
 use Rattle.om_outcome.specs.RefusalText.{truncated_text}
 use Rattle.om_promises.specs.Commands.{GoesOn}
-use Rattle.om_promises.specs.Promises.{HoldEnd, Gives}
+use Rattle.om_promises.specs.Promises.{HoldEnd}
 use Rattle.om_promises.proofs.StreamLemmas.{value_or_tail, streams_once, spell_bytes}
 use Rattle.om_commands.specs.Tasks.{items_of, MayCome, IsRefused, StopsHere, EndsBy, commands}
 use Rattle.om_commands.proofs.ItemLemmas.{items_once}
-use Rattle.om_meanings.specs.Causes.{HaveEnds, HaveShown}
-use Rattle.om_meanings.specs.Values.{StopWith, EndWith, Show}
+use Rattle.om_causes.specs.Causes.{HaveEnds}
+use Rattle.om_meanings.specs.Tables.{values_tables}
+use Rattle.om_meanings.specs.Values.{EndWith}
 use Rattle.om_meanings.proofs.ItemLemmas.{AreSaid, says_first, say_first}
 use Rattle.om_meanings.proofs.SaidLemmas.{stop_status, few_compared, pass_of, pass_said, pass_more, finish_of, finish_said}
-use Rattle.om_meanings.proofs.StopLemmas.{stop_with, stop_held}
 
 -- some bytes of a value are not none
 cut_some : (limit n : ℕ) (rest : List ℕ) → IsTail limit rest (cut n) → rest ≡ [] → ⊥
@@ -165,31 +165,8 @@ module _ {D T E : Type 0} (language : Language D T E) where
             (inr (pass_more language a.work h.trees h.pass)) bytes s.0 last h.spelled s.1 refl,
       )
 
-  pub have_ends : HaveEnds language
+  pub have_ends : HaveEnds (commands language) (values_tables language)
   have_ends a bytes status are_bytes = (
     λ h. subst (EndWith language a bytes) h.1 (end_with a bytes h.0.said h.0.last h.2),
     end_held a bytes status are_bytes,
   )
-
-  -- ---- an input
-
-  pub shows_given :
-      (a : Task T E) (input : List ℕ) (status : Status)
-      → Gives (commands language) a input status → Show language a input status
-  shows_given a input status (inl (reads, stop, is, h)) =
-      inl (subst (StopWith language a input) is (stop_with language a input stop h))
-  shows_given a input status (inr (all, is, inl (reads, h))) =
-      inr (subst (EndWith language a input) is (end_with a input all.said all.last h))
-  shows_given a input status (inr (all, is, inr alone)) = absurd (alone.unread tt)
-
-  pub gives_shown :
-      (a : Task T E) (input : List ℕ) (status : Status) → AreBytes input
-      → Show language a input status → Gives (commands language) a input status
-  gives_shown a input status are_bytes (inl h) =
-      let s = stop_held language a input status h in inl (tt, s.0, s.1, s.2)
-  gives_shown a input status are_bytes (inr h) =
-      let e = end_held a input status are_bytes h in inr (e.0, e.1, inl (tt, e.2))
-
-  pub have_shown : HaveShown language
-  have_shown a input status are_bytes =
-      (shows_given a input status, gives_shown a input status are_bytes)

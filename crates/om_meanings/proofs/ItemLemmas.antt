@@ -32,22 +32,23 @@ module _ {D T E : Type 0} (language : Language D T E) where
 
   module _ (a : Task T E) where
     cut_of :
-        (bytes : List ℕ) (trees : List Tree) (rest : List ℕ)
-        → SpellAll a.limit bytes trees rest → Cut (commands language) a bytes (items_of trees) rest
-    cut_of bytes [] rest same = same
-    cut_of bytes (tree ∷ trees) rest (first, more, same, spelled, all) = (
+        (before : List Item) (bytes : List ℕ) (trees : List Tree) (rest : List ℕ)
+        → SpellAll a.limit bytes trees rest
+        → Cut (commands language) a before bytes (items_of trees) rest
+    cut_of before bytes [] rest same = same
+    cut_of before bytes (tree ∷ trees) rest (first, more, same, spelled, all) = (
       more,
       record { tree = tree; is = refl; spelled = (first, more, same, spelled, refl) },
-      cut_of more trees rest all,
+      cut_of (before ++ value tree ∷ []) more trees rest all,
     )
 
     spelled_of :
-        (bytes : List ℕ) (items : List Item) (rest : List ℕ)
-        → Cut (commands language) a bytes items rest
+        (before : List Item) (bytes : List ℕ) (items : List Item) (rest : List ℕ)
+        → Cut (commands language) a before bytes items rest
         → (trees : List Tree) × (items ≡ items_of trees) × SpellAll a.limit bytes trees rest
-    spelled_of bytes [] rest same = ([], refl, same)
-    spelled_of bytes (item ∷ items) rest (more, is, cut) =
-        let next = spelled_of more items rest cut in
+    spelled_of before bytes [] rest same = ([], refl, same)
+    spelled_of before bytes (item ∷ items) rest (more, is, cut) =
+        let next = spelled_of (before ++ item ∷ []) more items rest cut in
         let s = is.spelled in (
           is.tree ∷ next.0,
           ap (λ items. item ∷ items) next.1 ∙ ap (λ item. item ∷ items_of next.0) is.is,
@@ -90,7 +91,7 @@ module _ {D T E : Type 0} (language : Language D T E) where
         → SpellAll a.limit bytes trees rest → AreSaid a.work [] trees said
         → SaysFirst (commands language) a bytes (items_of trees) said rest
     says_first bytes trees said rest spelled say = record {
-      cut = cut_of bytes trees rest spelled;
+      cut = cut_of [] bytes trees rest spelled;
       all_say = say_of [] [] refl trees said say;
     }
 
@@ -101,6 +102,6 @@ module _ {D T E : Type 0} (language : Language D T E) where
         → (trees : List Tree) × (items ≡ items_of trees) × SpellAll a.limit bytes trees rest
         × AreSaid a.work [] trees said
     say_first bytes items said rest h =
-        let s = spelled_of bytes items rest h.cut in
+        let s = spelled_of [] bytes items rest h.cut in
         let say = subst (λ items. AllSay (commands language) a [] items said) s.1 h.all_say in
         (s.0, s.1, s.2, told_of [] [] refl s.0 said say)

@@ -1,4 +1,3 @@
-pub mod CauseLemmas
 pub mod EndLemmas
 pub mod ItemLemmas
 pub mod SaidLemmas

@@ -2,10 +2,11 @@
 use Rattle.std.proofs.Common.{◌≡◌, ◌⊎◌, ℕ, List, Option, Some, Ok, Err, inl, inr, refl, sym, ap, ◌∙◌, subst}
 use Rattle.om_outcome.specs.declared.status.Status.{Status}
 use Rattle.om_outcome.specs.declared.status.Status.TheVariants.{Usage, Types, Script, ReadFault, OpenFault, TooLong}
-use Rattle.om_outcome.specs.Outcome.{InputEnd, at_end, at_fault, at_length, unasked, Found, opened, missing, failed, unfetched, Request, tell, get, edit, dump, compare, own, Stop, bad_path, declarations, requested_type, script_line, read_fault, too_long, status_of, fault_of, ReadsFile, ReadsTypeOf, ReadsScriptOf, Saying, the_part, TellsAt, FindsWork, Language}
+use Rattle.om_outcome.specs.Outcome.{InputEnd, at_end, at_fault, at_length, unasked, Found, opened, missing, failed, unfetched, Request, AskedType, asked_type, tell, get, edit, dump, compare, own, Stop, bad_path, declarations, requested_type, script_line, read_fault, too_long, status_of, fault_of, ReadsFile, ReadsTypeOf, ReadsScriptOf, Saying, the_part, TellsAt, FindsWork, Language}
 use Rattle.om_promises.specs.Commands.{Fetches}
-use Rattle.om_commands.specs.Tasks.{by_turns, WantsFile, WantsScript, Wants, Finds}
-use Rattle.om_meanings.specs.Causes.{HaveBars}
+use Rattle.om_commands.specs.Tasks.{by_turns, WantsFile, WantsScript, Wants, Finds, commands}
+use Rattle.om_causes.specs.Causes.{HaveBars}
+use Rattle.om_meanings.specs.Tables.{values_tables}
 use Rattle.om_meanings.specs.Stages.{HasNoPath, IsRefusedType, RefusesTypes, RefusesScript, IsUnread, Bar}
 
 -- the status of a file that was not read
@@ -85,7 +86,7 @@ module _ {D T E : Type 0} (language : Language D T E) where
 
     script_bar :
         (name : List ℕ) (wants : WantsScript language request files name) (stop : Stop)
-        → ReadsScriptOf language (files 1) name (Err stop) → BarBy stop
+        → ReadsScriptOf language wants.typed.1.lines (files 1) name (Err stop) → BarBy stop
     script_bar name wants stop (Err s, fault, is) =
         let same : s ≡ stop = cc is in
         subst BarBy same (unread 1 name (inr (refl, wants)) s fault)
@@ -102,28 +103,28 @@ module _ {D T E : Type 0} (language : Language D T E) where
   work_bar :
       (request : Request) (files : Fetches) (stop : Stop)
       → FindsWork language (by_turns files) request (Err stop) → BarBy request files stop
-  work_bar (tell saying f t most) files stop h =
-      tells_bar (tell saying f t most) files f (record { has_path = tt; type = t; typed = refl })
+  work_bar (tell saying f t lined most) files stop h =
+      tells_bar (tell saying f t lined most) files f (record { has_path = tt; type = asked_type t lined; typed = refl })
       saying stop h
-  work_bar (get f t text style most) files stop (Err s, (none, e), is) =
+  work_bar (get f t text style lined most) files stop (Err s, (none, e), is) =
       let same : stop ≡ s = cc is in
-      subst (BarBy (get f t text style most) files) (sym (same ∙ e)) none
-  work_bar (get f t text style most) files stop (Ok path, is_path, h) =
-      tells_bar (get f t text style most) files f
-      (record { has_path = (path, is_path); type = t; typed = refl }) (the_part path style) stop h
-  work_bar (edit f t script compat most) files stop (Err s, reads, is) =
+      subst (BarBy (get f t text style lined most) files) (sym (same ∙ e)) none
+  work_bar (get f t text style lined most) files stop (Ok path, is_path, h) =
+      tells_bar (get f t text style lined most) files f
+      (record { has_path = (path, is_path); type = asked_type t lined; typed = refl }) (the_part path style) stop h
+  work_bar (edit f t script compat lined most) files stop (Err s, reads, is) =
       let same : s ≡ stop = cc is in
-      subst (BarBy (edit f t script compat most) files) same
-      (type_bar (edit f t script compat most) files f
-      (record { has_path = tt; type = t; typed = refl }) s reads)
-  work_bar (edit f t script compat most) files stop (Ok type, reads, (Ok lines, read, told)) =
+      subst (BarBy (edit f t script compat lined most) files) same
+      (type_bar (edit f t script compat lined most) files f
+      (record { has_path = tt; type = asked_type t lined; typed = refl }) s reads)
+  work_bar (edit f t script compat lined most) files stop (Ok type, reads, (Ok lines, read, told)) =
       absurd (cc told)
-  work_bar (edit f t script compat most) files stop (Ok type, reads, (Err s, read, is)) =
+  work_bar (edit f t script compat lined most) files stop (Ok type, reads, (Err s, read, is)) =
       let same : s ≡ stop = cc is in
-      let asked : WantsScript language (edit f t script compat most) files script =
-      record { scripted = refl; typed = (f, t); is_typed = refl; type = type; reads = reads } in
-      subst (BarBy (edit f t script compat most) files) same
-      (script_bar (edit f t script compat most) files script asked s read)
+      let asked : WantsScript language (edit f t script compat lined most) files script =
+      record { scripted = refl; typed = (f, asked_type t lined); is_typed = refl; type = type; reads = reads } in
+      subst (BarBy (edit f t script compat lined most) files) same
+      (script_bar (edit f t script compat lined most) files script asked s read)
   work_bar (dump most) files stop h = absurd (cc h)
   work_bar (compare most) files stop h = absurd (cc h)
   work_bar (own request) files stop h = absurd h
@@ -139,12 +140,13 @@ module _ {D T E : Type 0} (language : Language D T E) where
   -- ---- and one of the table is a stop
 
   same_typed :
-      (f t name type : List ℕ) (file : List ℕ → Found) (stop : Stop)
-      → ◌≡◌ {A = Option (List ℕ × List ℕ)} (Some (f, t)) (Some (name, type))
+      (f : List ℕ) (t : AskedType) (name : List ℕ) (type : AskedType) (file : List ℕ → Found)
+      (stop : Stop)
+      → ◌≡◌ {A = Option (List ℕ × AskedType)} (Some (f, t)) (Some (name, type))
       → ReadsTypeOf language file (name, type) (Err stop)
       → ReadsTypeOf language file (f, t) (Err stop)
   same_typed f t name type file stop e reads =
-      let both : ◌≡◌ {A = List ℕ × List ℕ} (f, t) (name, type) = cc e in
+      let both : ◌≡◌ {A = List ℕ × AskedType} (f, t) (name, type) = cc e in
       subst (λ p. ReadsTypeOf language file p (Err stop)) (sym both) reads
 
   type_work :
@@ -152,15 +154,15 @@ module _ {D T E : Type 0} (language : Language D T E) where
       (wants : WantsFile language request name) (stop : Stop)
       → ReadsTypeOf language (files 0) (name, wants.type) (Err stop)
       → FindsWork language (by_turns files) request (Err stop)
-  type_work (tell saying f t most) files name wants stop reads =
-      (Err stop, same_typed f t name wants.type (files 0) stop wants.typed reads, refl)
-  type_work (get f t text style most) files name wants stop reads = (
+  type_work (tell saying f t lined most) files name wants stop reads =
+      (Err stop, same_typed f (asked_type t lined) name wants.type (files 0) stop wants.typed reads, refl)
+  type_work (get f t text style lined most) files name wants stop reads = (
     Ok wants.has_path.0,
     wants.has_path.1,
-    (Err stop, same_typed f t name wants.type (files 0) stop wants.typed reads, refl),
+    (Err stop, same_typed f (asked_type t lined) name wants.type (files 0) stop wants.typed reads, refl),
   )
-  type_work (edit f t script compat most) files name wants stop reads =
-      (Err stop, same_typed f t name wants.type (files 0) stop wants.typed reads, refl)
+  type_work (edit f t script compat lined most) files name wants stop reads =
+      (Err stop, same_typed f (asked_type t lined) name wants.type (files 0) stop wants.typed reads, refl)
   type_work (dump most) files name wants stop reads = let e = wants.typed in absurd (cc e)
   type_work (compare most) files name wants stop reads = let e = wants.typed in absurd (cc e)
   type_work (own request) files name wants stop reads = let e = wants.typed in absurd (cc e)
@@ -168,22 +170,25 @@ module _ {D T E : Type 0} (language : Language D T E) where
   script_work :
       (request : Request) (files : Fetches) (name : List ℕ)
       (wants : WantsScript language request files name) (stop : Stop)
-      → ReadsScriptOf language (files 1) name (Err stop)
+      → ReadsScriptOf language wants.typed.1.lines (files 1) name (Err stop)
       → FindsWork language (by_turns files) request (Err stop)
-  script_work (tell saying f t most) files name wants stop read =
+  script_work (tell saying f t lined most) files name wants stop read =
       let e = wants.scripted in absurd (cc e)
-  script_work (get f t text style most) files name wants stop read =
+  script_work (get f t text style lined most) files name wants stop read =
       let e = wants.scripted in absurd (cc e)
-  script_work (edit f t script compat most) files name wants stop read =
+  script_work (edit f t script compat lined most) files name wants stop read =
       let e : ◌≡◌ {A = Option (List ℕ)} (Some script) (Some name) = wants.scripted in
       let same : script ≡ name = cc e in
-      let k : ◌≡◌ {A = Option (List ℕ × List ℕ)} (Some (f, t)) (Some wants.typed) = wants.is_typed in
-      let both : ◌≡◌ {A = List ℕ × List ℕ} (f, t) wants.typed = cc k in (
+      let k : ◌≡◌ {A = Option (List ℕ × AskedType)} (Some (f, asked_type t lined)) (Some wants.typed) =
+      wants.is_typed in
+      let both : ◌≡◌ {A = List ℕ × AskedType} (f, asked_type t lined) wants.typed = cc k in
+      let lines : lined ≡ wants.typed.1.lines = ap (λ (p : List ℕ × AskedType). p.1.lines) both in (
         Ok wants.type,
         subst (λ p. ReadsTypeOf language (files 0) p (Ok wants.type)) (sym both) wants.reads,
         (
           Err stop,
-          subst (λ n. ReadsScriptOf language (files 1) n (Err stop)) (sym same) read,
+          subst (λ n. ReadsScriptOf language lined (files 1) n (Err stop)) (sym same)
+              (subst (λ l. ReadsScriptOf language l (files 1) name (Err stop)) (sym lines) read),
           refl,
         ),
       )
@@ -194,9 +199,9 @@ module _ {D T E : Type 0} (language : Language D T E) where
   path_work :
       (request : Request) (files : Fetches) → HasNoPath language request
       → FindsWork language (by_turns files) request (Err bad_path)
-  path_work (tell saying f t most) files none = absurd none
-  path_work (get f t text style most) files none = (Err bad_path, (none, refl), refl)
-  path_work (edit f t script compat most) files none = absurd none
+  path_work (tell saying f t lined most) files none = absurd none
+  path_work (get f t text style lined most) files none = (Err bad_path, (none, refl), refl)
+  path_work (edit f t script compat lined most) files none = absurd none
   path_work (dump most) files none = absurd none
   path_work (compare most) files none = absurd none
   path_work (own request) files none = absurd none
@@ -276,7 +281,7 @@ module _ {D T E : Type 0} (language : Language D T E) where
   bar_found request files TooLong h = unread_found request files TooLong h
   bar_found request files status h = absurd h
 
-  pub have_bars : HaveBars language
+  pub have_bars : HaveBars (commands language) (values_tables language)
   have_bars request files status = (
     λ h. subst (Bar language request files) h.1 (bar_of request files h.0 h.2),
     bar_found request files status,

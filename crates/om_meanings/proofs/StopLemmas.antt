@@ -10,7 +10,8 @@ use Rattle.om_promises.specs.Commands.{HoldStop}
 use Rattle.om_promises.proofs.StreamLemmas.{spell_append}
 use Rattle.om_commands.specs.Tasks.{items_of, IsRefused, commands}
 use Rattle.om_commands.proofs.ItemLemmas.{items_once}
-use Rattle.om_meanings.specs.Causes.{HaveStops}
+use Rattle.om_causes.specs.Causes.{HaveStops}
+use Rattle.om_meanings.specs.Tables.{values_tables}
 use Rattle.om_meanings.specs.Values.{AreEdited, IsNotEdited, Break, Close, HoldBreak, StopWith}
 use Rattle.om_meanings.proofs.ItemLemmas.{AreSaid, says_first, say_first}
 use Rattle.om_meanings.proofs.SaidLemmas.{pass_of, pass_said, pass_more, say_compared}
@@ -201,7 +202,7 @@ module _ {D T E : Type 0} (language : Language D T E) where
             })),
       )
 
-  pub have_stops : HaveStops language
+  pub have_stops : HaveStops (commands language) (values_tables language)
   have_stops a bytes status = (
     λ h. subst (StopWith language a bytes) h.1 (stop_with a bytes h.0 h.2),
     stop_held a bytes status,

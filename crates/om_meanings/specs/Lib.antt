@@ -1,3 +1,3 @@
-pub mod Causes
+pub mod Tables
 pub mod Stages
 pub mod Values

@@ -3,7 +3,7 @@
 use Rattle.std.specs.Prelude.{ℕ, ◌≡◌, ◌⊎◌, List, None, IsSomeAnd, Ok, Err}
 use Rattle.om_outcome.specs.declared.status.Status.{Status}
 use Rattle.om_outcome.specs.declared.status.Status.TheVariants.{Usage, Types, Script, ReadFault, OpenFault, TooLong}
-use Rattle.om_outcome.specs.Outcome.{whole, opened, Request, path_of, Stop, status_of, ReadsFile, Language}
+use Rattle.om_outcome.specs.Outcome.{whole, opened, Request, AskedType, path_of, Stop, status_of, ReadsFile, Language}
 use Rattle.om_promises.specs.Commands.{Fetches}
 use Rattle.om_commands.specs.Tasks.{WantsFile, WantsScript, Wants}
 
@@ -13,10 +13,10 @@ module _ {D T E : Type 0} (language : Language D T E) where
   HasNoPath request = IsSomeAnd (path_of request) (λ text. language.ReadsPath text None)
 
   -- the declarations are refused, or the type
-  abbrev pub IsRefusedType : List ℕ → List ℕ → Type 0
+  abbrev pub IsRefusedType : List ℕ → AskedType → Type 0
   IsRefusedType text type =
-      ((refusal : List ℕ) × language.ReadsDeclarations text (Err refusal))
-      ⊎ ((d : D) × (refusal : List ℕ) × language.ReadsDeclarations text (Ok d)
+      ((refusal : List ℕ) × language.ReadsDeclarations type.lines text (Err refusal))
+      ⊎ ((d : D) × (refusal : List ℕ) × language.ReadsDeclarations type.lines text (Ok d)
       × language.ReadsType d type (Err refusal))
 
   -- FILE is read, and what it holds is refused, or TYPE
@@ -34,7 +34,7 @@ module _ {D T E : Type 0} (language : Language D T E) where
     pub text : List ℕ
     pub read : files 1 name ≡ opened (whole text)
     pub refusal : ℕ × List ℕ
-    pub refused : language.ReadsScript text (Err refusal)
+    pub refused : language.ReadsScript wants.typed.1.lines text (Err refusal)
 
   -- FILE, or SCRIPT in its turn, is not read to its end, and the stop has this status
   pub record IsUnread (request : Request) (files : Fetches) (status : Status) : Type 0 where

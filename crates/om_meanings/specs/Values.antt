@@ -141,7 +141,3 @@ module _ {D T E : Type 0} (language : Language D T E) where
   StopWith task bytes status =
       HoldBreak task bytes status
       ⊎ (HoldClose task bytes status ⊎ ((status ≡ Value) × HoldRefusal task bytes))
-
-  -- an input gives this status: 0, 1, 2, 4, 5 or 11, and by the tables no other
-  abbrev pub Show : Task T E → List ℕ → Status → Type 0
-  Show task input status = StopWith task input status ⊎ EndWith task input status

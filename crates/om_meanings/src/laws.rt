@@ -1,26 +1,27 @@
 //! The laws. Each function does nothing: what it ensures is the law.
 
-ghost use Rattle.om_promises.specs.CommandLaws.{Follow};
-ghost use Rattle.om_promises.specs.LawfulLanguage.{IsLawful};
+ghost use Rattle.om_causes.specs.Causes.{AreExact};
 ghost use Rattle.om_commands.specs.Tasks.{commands};
-ghost use Rattle.om_meanings.specs.Causes.{HaveStops, HaveEnds, HaveShown, HaveBars, Causes};
+ghost use Rattle.om_meanings.specs.Tables.{values_tables};
+ghost use Rattle.om_outcome.specs.Outcome.{Task};
 
-use om_commands::laws::{Speaks, commands_are_lawful, commands_keep_promises};
+use om_causes::laws::Meant;
+use om_commands::laws::Speaks;
+use std::marker::PhantomData;
+
+/// The commands on values, and what each status means at them.
+pub struct MeantValues<L>(PhantomData<L>);
+
+impl<L: Speaks> Meant for MeantValues<L> {
+    ghost acts = { Task L.types L.lines };
+
+    ghost commands = { commands L.language };
+
+    ghost tables = { values_tables L.language };
+}
 
 /// The tables are exact: what stops a run, and how an input ends, by the values; and what the words
 /// and the files do.
-pub fn statuses_have_meanings<L: Speaks>()
-    ensures stops { HaveStops L.language }
-    ensures ends { HaveEnds L.language }
-    ensures shown { HaveShown L.language }
-    ensures bars { HaveBars L.language }
+pub fn values_have_meanings<L: Speaks>()
+    ensures { AreExact (commands L.language) (values_tables L.language) }
 {}
-
-/// What is promised of a call gives each status its cause, and to each cause its status.
-pub fn causes_of_statuses<L: Speaks>()
-    requires { IsLawful L.language }
-    ensures { Follow (commands L.language) (Causes L.language) }
-{
-    commands_are_lawful::<L>();
-    commands_keep_promises::<L>();
-}

@@ -1,6 +1,6 @@
 -- The command line as a table: what `clap` is told of it, which words are accepted, and what plain
 -- words ask for.
-use Rattle.std.specs.Prelude.{ℕ, ◌^◌, ◌≤◌, ◌≡◌, ◌≢◌, ◌⊎◌, Bool, true, false, if◌then◌else◌, List, [], ◌∷◌, ◌++◌, map, find, Option, None, Some, codes}
+use Rattle.std.specs.Prelude.{ℕ, ◌-◌, ◌^◌, ◌≤◌, ◌≡◌, ◌≢◌, ◌⊎◌, Bool, true, false, if◌then◌else◌, List, [], ◌∷◌, ◌++◌, map, find, Option, None, Some, is_some, option_map, unwrap_or, not, codes}
 use Rattle.std.specs.List.{flat_map, list_any}
 use Rattle.std.specs.Str.{bytes_eq}
 use Rattle.std.specs.Str.Parse.{IsNumeral, digits_value, without_leading_plus}
@@ -8,6 +8,7 @@ use Rattle.clap.specs.Words.{App, Row, Rule, Shape, fault_of, first_of, new_rule
 use Rattle.clap.specs.Simple.{new_shape}
 use Rattle.clap.specs.declared.builder.action.ArgAction.TheVariants.{SetTrue}
 use Rattle.clap.specs.declared.builder.value_parser.ValueParser.TheVariants.{Unsigned}
+use Rattle.om_outcome.specs.declared.reading.Reading.{Reading}
 use Rattle.om_outcome.specs.declared.style.Style.{Style}
 
 -- ---- what is asked for
@@ -15,6 +16,10 @@ use Rattle.om_outcome.specs.declared.style.Style.{Style}
 -- a text on one line
 abbrev pub plain : Style
 plain = record { pretty = false }
+
+-- all of the input is read, and each value is told of
+abbrev pub all_under : (limit : ℕ) → Reading
+all_under limit = record { limit = limit; skip = 0; only = None }
 
 -- what is said of a value at a type: whether it has the type, its text, the text of the part at a
 -- path, or whether its search trees are sound; where it has not the type, that and why
@@ -26,48 +31,63 @@ pub data Saying : Type 0 where
 
 -- what is asked of a command that is a set of commands of its own, beside those on values
 pub data OwnRequest : Type 0 where
-  build : (file type : List ℕ) → OwnRequest
+  build : (file type : List ℕ) → (lines : Bool) → OwnRequest
   generate : (number count : ℕ) → (type : List ℕ) → OwnRequest
-  verify : (file type certificate : List ℕ) → (limit : ℕ) → OwnRequest
-  certify : (file type : List ℕ) → (limit : ℕ) → OwnRequest
+  verify : (file type certificate : List ℕ) → (lines : Bool) → Reading → OwnRequest
+  certify : (file type : List ℕ) → (lines : Bool) → Reading → OwnRequest
   scan : (limit : ℕ) → OwnRequest
 
--- what is asked for, with the limit of words on 64 bits in a value where values are read
+-- what is asked for: where texts are read, with whether a place in one is told by its line and
+-- column; where values are read, with how they are
 pub data Request : Type 0 where
-  tell : Saying → (file type : List ℕ) → (limit : ℕ) → Request
-  get : (file type path : List ℕ) → Style → (limit : ℕ) → Request
-  edit : (file type script : List ℕ) → (compat : Bool) → (limit : ℕ) → Request
-  dump : (limit : ℕ) → Request
-  compare : (limit : ℕ) → Request
+  tell : Saying → (file type : List ℕ) → (lines : Bool) → Reading → Request
+  get : (file type path : List ℕ) → Style → (lines : Bool) → Reading → Request
+  edit : (file type script : List ℕ) → (compat lines : Bool) → Reading → Request
+  dump : Reading → Request
+  compare : Reading → Request
   own : OwnRequest → Request
 
+-- TYPE, and whether a place in FILE, TYPE or SCRIPT that is refused is told by line and column
+pub record AskedType : Type 0 where
+  pub text : List ℕ
+  pub lines : Bool
+
+abbrev pub asked_type : List ℕ → Bool → AskedType
+asked_type text lines = record { text = text; lines = lines }
+
 -- FILE and TYPE, where the command reads values at them
-abbrev pub typed_by : Request → Option (List ℕ × List ℕ)
-typed_by (tell saying file type limit) = Some (file, type)
-typed_by (get file type path style limit) = Some (file, type)
-typed_by (edit file type script compat limit) = Some (file, type)
-typed_by (dump limit) = None
-typed_by (compare limit) = None
+abbrev pub typed_by : Request → Option (List ℕ × AskedType)
+typed_by (tell saying file type lines reading) = Some (file, asked_type type lines)
+typed_by (get file type path style lines reading) = Some (file, asked_type type lines)
+typed_by (edit file type script compat lines reading) = Some (file, asked_type type lines)
+typed_by (dump reading) = None
+typed_by (compare reading) = None
 typed_by (own request) = None
 
 -- PATH, where the command has one
 abbrev pub path_of : Request → Option (List ℕ)
-path_of (get file type path style limit) = Some path
+path_of (get file type path style lines reading) = Some path
 path_of request = None
 
 -- SCRIPT, where the command has one
 abbrev pub script_of : Request → Option (List ℕ)
-script_of (edit file type script compat limit) = Some script
+script_of (edit file type script compat lines reading) = Some script
 script_of request = None
+
+-- how values are read, where they are
+abbrev pub reading_of : Request → Reading
+reading_of (tell saying file type lines reading) = reading
+reading_of (get file type path style lines reading) = reading
+reading_of (edit file type script compat lines reading) = reading
+reading_of (dump reading) = reading
+reading_of (compare reading) = reading
+reading_of (own (verify file type certificate lines reading)) = reading
+reading_of (own (certify file type lines reading)) = reading
+reading_of request = all_under 0
 
 -- the limit of words on 64 bits in a value, where values are read
 abbrev pub limit_of : Request → ℕ
-limit_of (tell saying file type limit) = limit
-limit_of (get file type path style limit) = limit
-limit_of (edit file type script compat limit) = limit
-limit_of (dump limit) = limit
-limit_of (compare limit) = limit
-limit_of (own request) = 0
+limit_of request = (reading_of request).limit
 
 -- that limit, where it is asked where values stand
 abbrev pub searched_by : Request → Option ℕ
@@ -77,11 +97,12 @@ searched_by request = None
 -- ---- the commands
 
 -- An argument of a command: `--NAME`, which is used or not; `--NAME N`, a number up to the
--- greatest, or the usual one where it is not used; a word that is known by its place, and has to be
--- there; or such a number.
+-- greatest, or the usual one where it is not used; the same without a usual one; a word that is
+-- known by its place, and has to be there; or such a number.
 pub data Argument : Type 0 where
   flag : (name : List ℕ) → Argument
   option : (name : List ℕ) → (greatest : ℕ) → (usual : List ℕ) → Argument
+  optional : (name : List ℕ) → (greatest : ℕ) → Argument
   wanted : (name : List ℕ) → Argument
   number : (name : List ℕ) → (greatest : ℕ) → Argument
 
@@ -90,6 +111,7 @@ abbrev pub Asking : List Argument → Type 0
 Asking [] = Request
 Asking (flag name ∷ rest) = Bool → Asking rest
 Asking (option name greatest usual ∷ rest) = ℕ → Asking rest
+Asking (optional name greatest ∷ rest) = Option ℕ → Asking rest
 Asking (wanted name ∷ rest) = List ℕ → Asking rest
 Asking (number name greatest ∷ rest) = ℕ → Asking rest
 
@@ -109,9 +131,23 @@ greatest_limit = 2 ^ 40
 abbrev pub usual_limit : List ℕ
 usual_limit = codes "134217728"
 
--- `--limit N`, `--compat32`, `--cert` and `--pretty`
+-- the greatest number of bytes that are passed over
+abbrev pub greatest_skip : ℕ
+greatest_skip = 2 ^ 48
+
+-- the greatest number of a value that is told of alone: the greatest that a script has
+abbrev pub greatest_only : ℕ
+greatest_only = 2 ^ 63 - 1
+
+-- `--limit N`, `--skip N`, `--only K`, `--compat32`, `--cert`, `--pretty` and `--lines`
 abbrev pub limit_option : Argument
 limit_option = option (codes "limit") greatest_limit usual_limit
+
+abbrev pub skip_option : Argument
+skip_option = option (codes "skip") greatest_skip (codes "0")
+
+abbrev pub only_option : Argument
+only_option = optional (codes "only") greatest_only
 
 abbrev pub compat_flag : Argument
 compat_flag = flag (codes "compat32")
@@ -122,17 +158,28 @@ cert_flag = flag (codes "cert")
 abbrev pub pretty_flag : Argument
 pretty_flag = flag (codes "pretty")
 
+abbrev pub lines_flag : Argument
+lines_flag = flag (codes "lines")
+
 -- how texts are put, where that flag is used or not
 abbrev pub styled_by : Bool → Style
 styled_by pretty = record { pretty = pretty }
+
+-- how values are read, where these are used or not
+abbrev pub read_by : (limit skip : ℕ) → (only : Option ℕ) → Reading
+read_by limit skip only = record { limit = limit; skip = skip; only = only }
+
+-- how values are read, before other arguments
+abbrev pub valued : List Argument → List Argument
+valued more = limit_option ∷ skip_option ∷ more
 
 -- FILE and TYPE
 abbrev pub file_and_type : List Argument → List Argument
 file_and_type more = wanted (codes "FILE") ∷ wanted (codes "TYPE") ∷ more
 
--- FILE and TYPE, after the limit
+-- FILE and TYPE, after how places in texts are told, and how values are read
 abbrev pub typed : List Argument → List Argument
-typed more = limit_option ∷ file_and_type more
+typed more = lines_flag ∷ valued (file_and_type more)
 
 -- the greatest NUMBER of a value that is made, and the greatest COUNT of its items
 abbrev pub greatest_number : ℕ
@@ -144,20 +191,28 @@ greatest_count = 1000000
 -- the commands
 abbrev pub forms : List Form
 forms =
-    row (codes "check") (cert_flag ∷ typed [])
-    (λ cert n file type. if cert then own (certify file type n) else tell the_verdict file type n)
-    ∷ row (codes "show") (pretty_flag ∷ typed [])
-    (λ pretty n file type. tell (the_text (styled_by pretty)) file type n)
-    ∷ row (codes "get") (pretty_flag ∷ typed (wanted (codes "PATH") ∷ []))
-    (λ pretty n file type path. get file type path (styled_by pretty) n)
+    row (codes "check") (cert_flag ∷ only_option ∷ typed [])
+    (λ cert only lines n skip file type.
+    if cert then own (certify file type lines (read_by n skip only))
+    else tell the_verdict file type lines (read_by n skip only))
+    ∷ row (codes "show") (pretty_flag ∷ only_option ∷ typed [])
+    (λ pretty only lines n skip file type.
+    tell (the_text (styled_by pretty)) file type lines (read_by n skip only))
+    ∷ row (codes "get") (pretty_flag ∷ only_option ∷ typed (wanted (codes "PATH") ∷ []))
+    (λ pretty only lines n skip file type path.
+    get file type path (styled_by pretty) lines (read_by n skip only))
     ∷ row (codes "edit") (typed (wanted (codes "SCRIPT") ∷ compat_flag ∷ []))
-    (λ n file type script compat. edit file type script compat n)
-    ∷ row (codes "trees") (typed []) (λ n file type. tell the_trees file type n)
-    ∷ row (codes "dump") (limit_option ∷ []) dump
-    ∷ row (codes "same") (limit_option ∷ []) compare
-    ∷ row (codes "build") (file_and_type []) (λ file type. own (build file type))
+    (λ lines n skip file type script compat.
+    edit file type script compat lines (read_by n skip None))
+    ∷ row (codes "trees") (typed [])
+    (λ lines n skip file type. tell the_trees file type lines (read_by n skip None))
+    ∷ row (codes "dump") (only_option ∷ valued []) (λ only n skip. dump (read_by n skip only))
+    ∷ row (codes "same") (valued []) (λ n skip. compare (read_by n skip None))
+    ∷ row (codes "build") (lines_flag ∷ file_and_type [])
+    (λ lines file type. own (build file type lines))
     ∷ row (codes "verify") (typed (wanted (codes "CERT") ∷ []))
-    (λ n file type certificate. own (verify file type certificate n))
+    (λ lines n skip file type certificate.
+    own (verify file type certificate lines (read_by n skip None)))
     ∷ row (codes "gen")
     (number (codes "NUMBER") greatest_number ∷ number (codes "COUNT") greatest_count
     ∷ wanted (codes "TYPE") ∷ [])
@@ -179,6 +234,8 @@ rule_for (option name greatest usual) = record (new_rule name) {
   parser = Some (Unsigned 0 greatest);
   defaults = usual ∷ [];
 }
+rule_for (optional name greatest) =
+    record (new_rule name) { long = Some name; parser = Some (Unsigned 0 greatest) }
 rule_for (wanted name) = record (new_rule name) { required = true }
 rule_for (number name greatest) =
     record (new_rule name) { parser = Some (Unsigned 0 greatest); required = true }
@@ -221,6 +278,11 @@ HasNumber rows name greatest n =
     (text : List ℕ) × (one_of name rows ≡ Some text) × IsNumeral 10 (without_leading_plus text)
     × (digits_value 10 (without_leading_plus text) ≡ n) × (n ≤ greatest)
 
+-- the same, where the option of this name is used
+abbrev pub MayHaveNumber : List Row → List ℕ → ℕ → Option ℕ → Type 0
+MayHaveNumber rows name greatest None = one_of name rows ≡ None
+MayHaveNumber rows name greatest (Some n) = HasNumber rows name greatest n
+
 -- the arguments are there, and this is asked for by their values
 abbrev pub HasArguments : (arguments : List Argument) → Asking arguments → List Row → Request
     → Type 0
@@ -229,6 +291,8 @@ HasArguments (flag name ∷ rest) asks rows request =
     (used : Bool) × HasFlag rows name used × HasArguments rest (asks used) rows request
 HasArguments (option name greatest usual ∷ rest) asks rows request =
     (n : ℕ) × HasNumber rows name greatest n × HasArguments rest (asks n) rows request
+HasArguments (optional name greatest ∷ rest) asks rows request =
+    (n : Option ℕ) × MayHaveNumber rows name greatest n × HasArguments rest (asks n) rows request
 HasArguments (wanted name ∷ rest) asks rows request =
     (text : List ℕ) × HasWord rows name text × HasArguments rest (asks text) rows request
 HasArguments (number name greatest ∷ rest) asks rows request =
@@ -241,10 +305,19 @@ AsksBy command rows request =
     × HasArguments form.arguments form.asks rows request
 
 -- clap accepts the words, and this is what it reads of them
-unfoldable pub Asks : List (List ℕ) → Request → Type 0
-Asks words request =
+unfoldable pub AreReadAs : List (List ℕ) → Request → Type 0
+AreReadAs words request =
     (command : List ℕ) × (rows : List Row) × Accepted words command rows
     × AsksBy command rows request
+
+-- where it is a certificate, it is one of all values
+abbrev pub is_whole : Request → Bool
+is_whole (own (certify file type lines reading)) = not (is_some reading.only)
+is_whole request = true
+
+-- the words are read as this; and no certificate of one value can be asked for
+unfoldable pub Asks : List (List ℕ) → Request → Type 0
+Asks words request = AreReadAs words request × (is_whole request ≡ true)
 
 -- words that ask for nothing
 abbrev pub IsUsage : List (List ℕ) → Type 0
@@ -277,6 +350,8 @@ abbrev pub IsUse : Use → Argument → Type 0
 IsUse (alone name) (flag other) = name ≡ other
 IsUse (given name text) (option other greatest usual) =
     (name ≡ other) × IsNumeral 10 text × (digits_value 10 text ≤ greatest)
+IsUse (given name text) (optional other greatest) =
+    (name ≡ other) × IsNumeral 10 text × (digits_value 10 text ≤ greatest)
 IsUse one argument = ⊥
 
 -- the use is of one of the arguments
@@ -294,12 +369,12 @@ ArePlainUses arguments [] = Unit {0}
 ArePlainUses arguments (one ∷ more) =
     IsUseAmong arguments one × (is_used (used_in one) more ≡ false) × ArePlainUses arguments more
 
--- the text after the option, or the usual one
-abbrev pub text_after : List ℕ → List ℕ → List Use → List ℕ
-text_after name usual [] = usual
-text_after name usual (alone other ∷ uses) = text_after name usual uses
-text_after name usual (given other text ∷ uses) =
-    if bytes_eq other name then text else text_after name usual uses
+-- the text after the option, where it is used
+abbrev pub text_after : List ℕ → List Use → Option (List ℕ)
+text_after name [] = None
+text_after name (alone other ∷ uses) = text_after name uses
+text_after name (given other text ∷ uses) =
+    if bytes_eq other name then Some text else text_after name uses
 
 -- this is asked for by the uses of options, and exactly these words after them
 abbrev pub ArePlainArguments : (arguments : List Argument) → Asking arguments → List Use
@@ -309,7 +384,11 @@ ArePlainArguments [] asked uses (text ∷ texts) request = ⊥
 ArePlainArguments (flag name ∷ rest) asks uses texts request =
     ArePlainArguments rest (asks (is_used name uses)) uses texts request
 ArePlainArguments (option name greatest usual ∷ rest) asks uses texts request =
-    ArePlainArguments rest (asks (digits_value 10 (text_after name usual uses))) uses texts request
+    ArePlainArguments rest (asks (digits_value 10 (unwrap_or (text_after name uses) usual))) uses
+    texts request
+ArePlainArguments (optional name greatest ∷ rest) asks uses texts request =
+    ArePlainArguments rest (asks (option_map (digits_value 10) (text_after name uses))) uses texts
+    request
 ArePlainArguments (wanted name ∷ rest) asks uses [] request = ⊥
 ArePlainArguments (wanted name ∷ rest) asks uses (text ∷ texts) request =
     IsArgument text × ArePlainArguments rest (asks text) uses texts request
@@ -325,4 +404,4 @@ ArePlain words request =
     (form : Form) × (form_of form.name ≡ Some form)
     × (uses : List Use) × ArePlainUses form.arguments uses
     × (texts : List (List ℕ)) × ArePlainArguments form.arguments form.asks uses texts request
-    × (words ≡ form.name ∷ flat_map words_of uses ++ texts)
+    × (is_whole request ≡ true) × (words ≡ form.name ∷ flat_map words_of uses ++ texts)

@@ -4,7 +4,7 @@
 use Rattle.std.specs.Prelude.{ℕ, ◌<◌, ◌≡◌, ◌≢◌, ◌↔◌, ◌⊎◌, Bool, true, false, IsTrue, ◌&&◌, not, nat_lt, if◌then◌else◌, List, [], ◌∷◌, ◌++◌, length, find, Option, Some, None, Result, Ok, Err, MatchResult, codes, decimal}
 use Rattle.om_outcome.specs.declared.status.Status.{Status}
 use Rattle.om_outcome.specs.declared.status.Status.TheVariants as statuses
-pub use Rattle.om_outcome.specs.CommandLine.{Saying, plain, the_verdict, the_text, the_part, the_trees, Request, tell, get, edit, dump, compare, own, OwnRequest, build, generate, verify, Asks, IsUsage, typed_by, path_of, script_of, limit_of}
+pub use Rattle.om_outcome.specs.CommandLine.{Saying, plain, all_under, the_verdict, the_text, the_part, the_trees, Request, tell, get, edit, dump, compare, own, OwnRequest, build, generate, verify, Asks, IsUsage, AskedType, asked_type, typed_by, path_of, script_of, reading_of, limit_of}
 use Rattle.om_outcome.specs.RefusalText.{refusal_text, truncated_text}
 use Rattle.om_format.specs.Iso.{Iso}
 use Rattle.om_format.specs.Tree.{Tree, root, objects_of}
@@ -54,6 +54,7 @@ pub record Given : Type 0 where
 
 -- ---- why a run stops
 
+-- `short_input`: there are so many bytes, fewer than are to be passed over
 pub data Stop : Type 0 where
   usage : Stop
   bad_path : Stop
@@ -69,6 +70,7 @@ pub data Stop : Type 0 where
   certificate_line : ℕ → Stop
   uncertified_value : ℕ → List ℕ → Stop
   sections_left : Stop
+  short_input : ℕ → Stop
   read_fault : Stop
   too_long : Stop
   out_of_memory : Stop
@@ -88,6 +90,7 @@ status_of (large_value number refusal) = statuses.Compat
 status_of (certificate_line number) = statuses.Certificate
 status_of (uncertified_value number reason) = statuses.Certificate
 status_of sections_left = statuses.Certificate
+status_of (short_input taken) = statuses.Value
 status_of read_fault = statuses.ReadFault
 status_of too_long = statuses.TooLong
 status_of out_of_memory = statuses.Memory
@@ -113,6 +116,7 @@ stop_text (certificate_line number) =
     codes "certificate line " ++ decimal number ++ codes ": Syntax"
 stop_text (uncertified_value number reason) = value_text number reason
 stop_text sections_left = codes "sections left"
+stop_text (short_input taken) = codes "skip: " ++ truncated_text taken
 stop_text read_fault = codes "read fault"
 stop_text too_long = codes "input too long"
 stop_text out_of_memory = codes "out of memory"
@@ -247,10 +251,12 @@ pub data Unedited : Type 0 where
 -- edits; the line that is said of a value at a type, which tells whether nothing is wrong with it;
 -- what a script makes of a value at a type that comes after these, its bytes, where a reader on 32
 -- bits can hold it if that is asked for, or why there are none; and the lines of a value as it is.
+-- A refusal tells its place in a text by line and column, where that is asked for; a type keeps
+-- whether it is, for what is refused at it.
 pub record Language (D T E : Type 0) : Type 1 where
-  pub ReadsDeclarations : List ℕ → Result D (List ℕ) → Type 0
-  pub ReadsType : D → List ℕ → Result T (List ℕ) → Type 0
-  pub ReadsScript : List ℕ → Result (List E) (ℕ × List ℕ) → Type 0
+  pub ReadsDeclarations : (lines : Bool) → List ℕ → Result D (List ℕ) → Type 0
+  pub ReadsType : D → AskedType → Result T (List ℕ) → Type 0
+  pub ReadsScript : (lines : Bool) → List ℕ → Result (List E) (ℕ × List ℕ) → Type 0
   pub ReadsPath : List ℕ → Option (List ℕ) → Type 0
   pub line_number : E → ℕ
   pub line_value : E → ℕ
@@ -260,11 +266,11 @@ pub record Language (D T E : Type 0) : Type 1 where
   pub lines_of : Tree → List ℕ
 
 -- FILE is opened and read, then its declarations, then TYPE
-abbrev pub ReadsTypeOf : {D T E : Type 0} → Language D T E → (List ℕ → Found) → List ℕ × List ℕ
+abbrev pub ReadsTypeOf : {D T E : Type 0} → Language D T E → (List ℕ → Found) → List ℕ × AskedType
     → Result T Stop → Type 0
 ReadsTypeOf language file typed =
     Then (ReadsFile typed.0 (file typed.0)) (λ text.
-    Then (OrRefusal (language.ReadsDeclarations text) declarations) (λ decls.
+    Then (OrRefusal (language.ReadsDeclarations typed.1.lines text) declarations) (λ decls.
     OrRefusal (language.ReadsType decls typed.1) requested_type))
 
 -- PATH is a path, or the run stops
@@ -273,11 +279,11 @@ ReadsPathOf language text (Ok path) = language.ReadsPath text (Some path)
 ReadsPathOf language text (Err stop) = language.ReadsPath text None × (stop ≡ bad_path)
 
 -- SCRIPT is opened and read, then its lines
-abbrev pub ReadsScriptOf : {D T E : Type 0} → Language D T E → (List ℕ → Found) → List ℕ
-    → Result (List E) Stop → Type 0
-ReadsScriptOf language script name =
-    Then (ReadsFile name (script name))
-    (λ text. OrRefusal (language.ReadsScript text) (λ refusal. script_line refusal.0 refusal.1))
+abbrev pub ReadsScriptOf : {D T E : Type 0} → Language D T E → (lines : Bool) → (List ℕ → Found)
+    → List ℕ → Result (List E) Stop → Type 0
+ReadsScriptOf language lines script name =
+    Then (ReadsFile name (script name)) (λ text.
+    OrRefusal (language.ReadsScript lines text) (λ refusal. script_line refusal.0 refusal.1))
 
 -- what is done with each value, where the words, the files and the type are read
 pub data Work (T E : Type 0) : Type 0 where
@@ -287,32 +293,33 @@ pub data Work (T E : Type 0) : Type 0 where
   compares : Work T E
 
 -- this is told of the values at the type
-abbrev pub TellsAt : {D T E : Type 0} → Language D T E → (List ℕ → Found) → List ℕ × List ℕ → Saying
-    → Result (Work T E) Stop → Type 0
+abbrev pub TellsAt : {D T E : Type 0} → Language D T E → (List ℕ → Found) → List ℕ × AskedType
+    → Saying → Result (Work T E) Stop → Type 0
 TellsAt language file typed saying result =
     Then (ReadsTypeOf language file typed) (λ type found. found ≡ Ok (tells saying type)) result
 
 -- the values at the type are edited by the lines of SCRIPT
-abbrev pub EditsBy : {D T E : Type 0} → Language D T E → Fetches → List ℕ × List ℕ → List ℕ → Bool
-    → Result (Work T E) Stop → Type 0
+abbrev pub EditsBy : {D T E : Type 0} → Language D T E → Fetches → List ℕ × AskedType → List ℕ
+    → Bool → Result (Work T E) Stop → Type 0
 EditsBy language files typed script_name compat result =
     Then (ReadsTypeOf language files.file typed) (λ type.
-    Then (ReadsScriptOf language files.script script_name)
+    Then (ReadsScriptOf language typed.1.lines files.script script_name)
     (λ script found. found ≡ Ok (edits type script compat))) result
 
 -- PATH comes before FILE, and SCRIPT after TYPE; `dump` and `same` have none of these. A command
 -- that is a set of its own finds no work here.
 abbrev pub FindsWork : {D T E : Type 0} → Language D T E → Fetches → Request
     → Result (Work T E) Stop → Type 0
-FindsWork language files (tell saying name type_text limit) result =
-    TellsAt language files.file (name, type_text) saying result
-FindsWork language files (get name type_text path_text style limit) result =
+FindsWork language files (tell saying name type_text lines reading) result =
+    TellsAt language files.file (name, asked_type type_text lines) saying result
+FindsWork language files (get name type_text path_text style lines reading) result =
     Then (ReadsPathOf language path_text)
-    (λ path. TellsAt language files.file (name, type_text) (the_part path style)) result
-FindsWork language files (edit name type_text script_name compat limit) result =
-    EditsBy language files (name, type_text) script_name compat result
-FindsWork language files (dump limit) result = result ≡ Ok dumps
-FindsWork language files (compare limit) result = result ≡ Ok compares
+    (λ path. TellsAt language files.file (name, asked_type type_text lines) (the_part path style))
+    result
+FindsWork language files (edit name type_text script_name compat lines reading) result =
+    EditsBy language files (name, asked_type type_text lines) script_name compat result
+FindsWork language files (dump reading) result = result ≡ Ok dumps
+FindsWork language files (compare reading) result = result ≡ Ok compares
 FindsWork language files (own request) result = ⊥
 
 -- ---- all stages before the values

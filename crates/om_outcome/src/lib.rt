@@ -2,5 +2,6 @@
 //! and the status of its end, as definitions.
 #![tactic(auto)]
 
+pub mod reading;
 pub mod status;
 pub mod style;

@@ -69,7 +69,7 @@ line_apart (b ∷ bytes) (c ∷ line) more rest h fine e =
 
 lawful_at : (a : Bool) → AreLawfulAt example a
 lawful_at a = record {
-  first_once = λ bytes are_bytes item other more rest h k.
+  first_once = λ items bytes are_bytes item other more rest h k.
       let one = line_once bytes h.0 k.0 more rest h.1 k.1 in
       (h.2 ∙ (ap (λ line. text line) one.0 ∙ sym k.2), one.1);
   says_once = λ items item said other h k.
@@ -78,9 +78,9 @@ lawful_at a = record {
       h.3 ∙ (ap (λ line. well_said (line ++ 10 ∷ [])) line ∙ sym k.3);
   stops_once = λ items bytes are_bytes stop other h k. h.2 ∙ sym k.2;
   ends_once = λ items bytes are_bytes last other h k. h ∙ sym k;
-  front = λ bytes item more h.
+  front = λ items bytes item more h.
       (h.0 ++ 10 ∷ [], line_front bytes h.0 more h.1, some_line h.0);
-  item_stays = λ bytes item more later h. (h.0, line_stays bytes h.0 more later h.1, h.2);
+  item_stays = λ items bytes item more later h. (h.0, line_stays bytes h.0 more later h.1, h.2);
   stop_stays = λ items bytes later stop h. (h.0 ++ later, ap (λ x. x ++ later) h.1, h.2);
   stops_inside = λ items bytes stop h. subst IsInner (sym h.2) tt;
   ends_inside = λ items bytes stop h. absurd (never a bytes stop h);

@@ -26,8 +26,8 @@ module _ {A : Type 0} (c : Commands A) (a : A) (law : AreLawfulAt c a) where
   said_front :
       (before : List Item) (bytes : List ℕ) (items others : List Item) (rest other : List ℕ)
       (said told : List Said) → AreBytes bytes
-      → Cut c a bytes items rest → AllSay c a before items said
-      → Cut c a bytes others other → AllSay c a before others told
+      → Cut c a before bytes items rest → AllSay c a before items said
+      → Cut c a before bytes others other → AllSay c a before others told
       → IsStuck c a law (before ++ others) other
       → (later : List Said) × (told ≡ said ++ later)
   said_front before bytes [] others rest other [] told are_bytes cut say cut' say' stuck =
@@ -38,20 +38,23 @@ module _ {A : Type 0} (c : Commands A) (a : A) (law : AreLawfulAt c a) where
       absurd say
   said_front before bytes (t ∷ items) [] rest other (s ∷ said) told are_bytes
       (more, first, cut) (tells, say) cut' say' stuck =
-      absurd (stuck t more s (subst (λ b. c.IsFirst a b t more) cut' first)
+      absurd (stuck t more s
+      (subst (λ b. c.IsFirst a (before ++ []) b t more) cut'
+      (subst (λ i. c.IsFirst a i bytes t more) (sym (append-nil before)) first))
       (subst (λ b. c.Says a b t s) (sym (append-nil before)) tells))
   said_front before bytes (t ∷ items) (u ∷ others) rest other (s ∷ said) [] are_bytes
       cut say cut' say' stuck = absurd say'
   said_front before bytes (t ∷ items) (u ∷ others) rest other (s ∷ said) (r ∷ told) are_bytes
       (more, first, cut) (tells, say) (more', first', cut') (tells', say') stuck =
-      let one = law.first_once bytes are_bytes t u more more' first first' in
+      let one = law.first_once before bytes are_bytes t u more more' first first' in
       let same : t ≡ u = one.0 in
       let same_said : s ≡ r =
       law.says_once before t s r tells (subst (λ u. c.Says a before u r) (sym same) tells') in
       let along = append_assoc before (t ∷ []) in
       let next = said_front (before ++ t ∷ []) more items others rest other said told
-      (rest_bytes c a law bytes t more are_bytes first) cut say
-      (subst (λ m. Cut c a m others other) (sym one.1) cut')
+      (rest_bytes c a law before bytes t more are_bytes first) cut say
+      (subst (λ m. Cut c a (before ++ t ∷ []) m others other) (sym one.1)
+      (subst (λ u. Cut c a (before ++ u ∷ []) more' others other) (sym same) cut'))
       (subst (λ u. AllSay c a (before ++ u ∷ []) others told) (sym same) say')
       (subst (λ b. IsStuck c a law b other) (sym (along others))
       (subst (λ u. IsStuck c a law (before ++ u ∷ others) other) (sym same) stuck)) in
@@ -63,7 +66,7 @@ module _ {A : Type 0} (c : Commands A) (a : A) (law : AreLawfulAt c a) where
       → SaysFirst c a input items said rest → (all : Replies) → SaysAll c a (whole input) all
       → (later : List Said) × (all_said all ≡ said ++ later)
   all_front input are_bytes items said rest first all s =
-      let other = cut_bytes c a law input s.items s.rest are_bytes s.first.cut in
+      let other = cut_bytes c a law [] input s.items s.rest are_bytes s.first.cut in
       let front = said_front [] input items s.items rest s.rest said all.said are_bytes
       first.cut first.all_say s.first.cut s.first.all_say
       (last_stuck c a law s.items s.rest at_end all.last other s.last) in (

@@ -10,18 +10,21 @@ use Rattle.om_promises.proofs.OnceLemmas.{IsStuck, cut_bytes, stuck_once}
 
 module _ {A : Type 0} (c : Commands A) (a : A) (lawful : AreLawfulAt c a) where
   cut_stays :
-      (bytes : List ℕ) (items : List Item) (rest later : List ℕ) → Cut c a bytes items rest
-      → Cut c a (bytes ++ later) items (rest ++ later)
-  cut_stays bytes [] rest later same = ap (λ b. b ++ later) same
-  cut_stays bytes (item ∷ items) rest later (more, is, cut) =
-      (more ++ later, lawful.item_stays bytes item more later is, cut_stays more items rest later cut)
+      (before : List Item) (bytes : List ℕ) (items : List Item) (rest later : List ℕ)
+      → Cut c a before bytes items rest → Cut c a before (bytes ++ later) items (rest ++ later)
+  cut_stays before bytes [] rest later same = ap (λ b. b ++ later) same
+  cut_stays before bytes (item ∷ items) rest later (more, is, cut) = (
+    more ++ later,
+    lawful.item_stays before bytes item more later is,
+    cut_stays (before ++ item ∷ []) more items rest later cut,
+  )
 
   pub first_stays :
       (bytes : List ℕ) (items : List Item) (said : List Said) (rest later : List ℕ)
       → SaysFirst c a bytes items said rest
       → SaysFirst c a (bytes ++ later) items said (rest ++ later)
   first_stays bytes items said rest later first =
-      record { cut = cut_stays bytes items rest later first.cut; all_say = first.all_say }
+      record { cut = cut_stays [] bytes items rest later first.cut; all_say = first.all_say }
 
   pub hold_stays :
       (bytes later : List ℕ) (stop : Stop) → HoldStop c a bytes stop
@@ -55,8 +58,8 @@ module _ {A : Type 0} (c : Commands A) (a : A) (lawful : AreLawfulAt c a) where
   -- there is one stop at most
   pub hold_once : (bytes : List ℕ) → AreBytes bytes → IsOnce (HoldStop c a bytes)
   hold_once bytes are_bytes stop other h k =
-      let rest = cut_bytes c a lawful bytes h.items h.rest are_bytes h.first.cut in
-      let rest' = cut_bytes c a lawful bytes k.items k.rest are_bytes k.first.cut in
+      let rest = cut_bytes c a lawful [] bytes h.items h.rest are_bytes h.first.cut in
+      let rest' = cut_bytes c a lawful [] bytes k.items k.rest are_bytes k.first.cut in
       let one = stuck_once c a lawful [] bytes h.items k.items h.rest k.rest h.said k.said are_bytes
       h.first.cut h.first.all_say (stop_stuck h.items h.rest stop rest h.at)
       k.first.cut k.first.all_say (stop_stuck k.items k.rest other rest' k.at) in
@@ -70,7 +73,7 @@ module _ {A : Type 0} (c : Commands A) (a : A) (lawful : AreLawfulAt c a) where
       → (items : List Item) (said : List Said) (rest : List ℕ)
       → SaysFirst c a bytes items said rest → GoesOn c a items rest → ⊥
   hold_or_on bytes stop are_bytes h items said rest first on =
-      let rest' = cut_bytes c a lawful bytes h.items h.rest are_bytes h.first.cut in
+      let rest' = cut_bytes c a lawful [] bytes h.items h.rest are_bytes h.first.cut in
       let one = stuck_once c a lawful [] bytes h.items items h.rest rest h.said said are_bytes
       h.first.cut h.first.all_say (stop_stuck h.items h.rest stop rest' h.at)
       first.cut first.all_say (on_stuck items rest on) in

@@ -35,21 +35,21 @@ module _ {A : Type 0} (c : Commands A) (a : A) (lawful : AreLawfulAt c a) where
   -- of no item something is said here
   abbrev pub IsStuck : List Item → List ℕ → Type 0
   IsStuck items rest = (item : Item) (more : List ℕ) (said : Said)
-      → c.IsFirst a rest item more → c.Says a items item said → ⊥
+      → c.IsFirst a items rest item more → c.Says a items item said → ⊥
 
   pub rest_bytes :
-      (bytes : List ℕ) (item : Item) (more : List ℕ)
-      → AreBytes bytes → c.IsFirst a bytes item more → AreBytes more
-  rest_bytes bytes item more are_bytes is =
-      let f = lawful.front bytes item more is in
+      (before : List Item) (bytes : List ℕ) (item : Item) (more : List ℕ)
+      → AreBytes bytes → c.IsFirst a before bytes item more → AreBytes more
+  rest_bytes before bytes item more are_bytes is =
+      let f = lawful.front before bytes item more is in
       bytes_after f.0 more (subst AreBytes f.1 are_bytes)
 
   pub cut_bytes :
-      (bytes : List ℕ) (items : List Item) (rest : List ℕ)
-      → AreBytes bytes → Cut c a bytes items rest → AreBytes rest
-  cut_bytes bytes [] rest are_bytes same = subst AreBytes same are_bytes
-  cut_bytes bytes (item ∷ items) rest are_bytes (more, is, cut) =
-      cut_bytes more items rest (rest_bytes bytes item more are_bytes is) cut
+      (before : List Item) (bytes : List ℕ) (items : List Item) (rest : List ℕ)
+      → AreBytes bytes → Cut c a before bytes items rest → AreBytes rest
+  cut_bytes before bytes [] rest are_bytes same = subst AreBytes same are_bytes
+  cut_bytes before bytes (item ∷ items) rest are_bytes (more, is, cut) =
+      cut_bytes (before ++ item ∷ []) more items rest (rest_bytes before bytes item more are_bytes is) cut
 
   pub last_stuck :
       (items : List Item) (rest : List ℕ) (until : InputEnd) (last : Reply) → AreBytes rest
@@ -63,8 +63,8 @@ module _ {A : Type 0} (c : Commands A) (a : A) (lawful : AreLawfulAt c a) where
   pub stuck_once :
       (before : List Item) (bytes : List ℕ) (items others : List Item) (rest other : List ℕ)
       (said told : List Said) → AreBytes bytes
-      → Cut c a bytes items rest → AllSay c a before items said → IsStuck (before ++ items) rest
-      → Cut c a bytes others other → AllSay c a before others told
+      → Cut c a before bytes items rest → AllSay c a before items said → IsStuck (before ++ items) rest
+      → Cut c a before bytes others other → AllSay c a before others told
       → IsStuck (before ++ others) other
       → (items ≡ others) × (rest ≡ other) × (said ≡ told)
   stuck_once before bytes [] [] rest other [] [] are_bytes cut say stuck cut' say' stuck' =
@@ -72,24 +72,27 @@ module _ {A : Type 0} (c : Commands A) (a : A) (lawful : AreLawfulAt c a) where
   stuck_once before bytes [] (u ∷ others) rest other [] (s ∷ told) are_bytes
       cut say stuck (more, first, cut') (says, say') stuck' =
       absurd (stuck u more s
-      (subst (λ b. c.IsFirst a b u more) cut first)
+      (subst (λ b. c.IsFirst a (before ++ []) b u more) cut
+      (subst (λ i. c.IsFirst a i bytes u more) (sym (append-nil before)) first))
       (subst (λ b. c.Says a b u s) (sym (append-nil before)) says))
   stuck_once before bytes (t ∷ items) [] rest other (s ∷ said) [] are_bytes
       (more, first, cut) (says, say) stuck cut' say' stuck' =
       absurd (stuck' t more s
-      (subst (λ b. c.IsFirst a b t more) cut' first)
+      (subst (λ b. c.IsFirst a (before ++ []) b t more) cut'
+      (subst (λ i. c.IsFirst a i bytes t more) (sym (append-nil before)) first))
       (subst (λ b. c.Says a b t s) (sym (append-nil before)) says))
   stuck_once before bytes (t ∷ items) (u ∷ others) rest other (s ∷ said) (r ∷ told) are_bytes
       (more, first, cut) (says, say) stuck (more', first', cut') (says', say') stuck' =
-      let one = lawful.first_once bytes are_bytes t u more more' first first' in
+      let one = lawful.first_once before bytes are_bytes t u more more' first first' in
       let same : t ≡ u = one.0 in
       let same_said : s ≡ r =
       lawful.says_once before t s r says (subst (λ u. c.Says a before u r) (sym same) says') in
       let along = append_assoc before (t ∷ []) in
       let next = stuck_once (before ++ t ∷ []) more items others rest other said told
-      (rest_bytes bytes t more are_bytes first)
+      (rest_bytes before bytes t more are_bytes first)
       cut say (subst (λ b. IsStuck b rest) (sym (along items)) stuck)
-      (subst (λ m. Cut c a m others other) (sym one.1) cut')
+      (subst (λ m. Cut c a (before ++ t ∷ []) m others other) (sym one.1)
+      (subst (λ u. Cut c a (before ++ u ∷ []) more' others other) (sym same) cut'))
       (subst (λ u. AllSay c a (before ++ u ∷ []) others told) (sym same) say')
       (subst (λ b. IsStuck b other) (sym (along others))
       (subst (λ u. IsStuck (before ++ u ∷ others) other) (sym same) stuck')) in (
@@ -133,8 +136,8 @@ module _ {A : Type 0} (c : Commands A) (a : A) (lawful : AreLawfulAt c a) where
 
   all_once : (input : Taken) → AreBytes input.bytes → IsOnce (SaysAll c a input)
   all_once input are_bytes all other h k =
-      let bytes = cut_bytes input.bytes h.items h.rest are_bytes h.first.cut in
-      let bytes' = cut_bytes input.bytes k.items k.rest are_bytes k.first.cut in
+      let bytes = cut_bytes [] input.bytes h.items h.rest are_bytes h.first.cut in
+      let bytes' = cut_bytes [] input.bytes k.items k.rest are_bytes k.first.cut in
       let one = stuck_once [] input.bytes h.items k.items h.rest k.rest all.said other.said are_bytes
       h.first.cut h.first.all_say (last_stuck h.items h.rest input.until all.last bytes h.last)
       k.first.cut k.first.all_say

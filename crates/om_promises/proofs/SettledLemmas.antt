@@ -3,7 +3,7 @@ use Rattle.std.proofs.Common.{◌≡◌, ◌⊎◌, ℕ, Bool, true, false, List
 use Rattle.std.specs.Prelude.{MatchResult, if◌then◌else◌}
 use Rattle.om_outcome.specs.declared.status.Status.{Status}
 use Rattle.om_outcome.specs.declared.status.Status.TheVariants as statuses
-use Rattle.om_outcome.specs.Outcome.{InputEnd, at_end, at_fault, at_length, unasked, Found, opened, missing, failed, unfetched, Request, Asks, Stop, usage, bad_path, not_two_values, cannot_open, declarations, requested_type, value, script_line, text_line, untyped_value, large_value, certificate_line, uncertified_value, sections_left, read_fault, too_long, out_of_memory, status_of, ending_of, fault_of, ReadsFile, Said, Reply, says, stops, Replies, replies, stopped, all_well, all_said}
+use Rattle.om_outcome.specs.Outcome.{InputEnd, at_end, at_fault, at_length, unasked, Found, opened, missing, failed, unfetched, Request, Asks, Stop, usage, bad_path, not_two_values, cannot_open, declarations, requested_type, value, script_line, text_line, untyped_value, large_value, certificate_line, uncertified_value, sections_left, short_input, read_fault, too_long, out_of_memory, status_of, ending_of, fault_of, ReadsFile, Said, Reply, says, stops, Replies, replies, stopped, all_well, all_said}
 use Rattle.om_promises.specs.Account.{Completes, Breaks, Account}
 use Rattle.om_promises.specs.Call.{Call}
 use Rattle.om_promises.specs.Causes.{IfWords}
@@ -49,6 +49,7 @@ inner_status (large_value number refusal) inner outer = outer
 inner_status (certificate_line number) inner outer = outer
 inner_status (uncertified_value number reason) inner outer = outer
 inner_status sections_left inner outer = outer
+inner_status (short_input taken) inner outer = outer
 inner_status read_fault inner outer = inner
 inner_status too_long inner outer = inner
 inner_status out_of_memory inner outer = inner

@@ -251,7 +251,7 @@ module _ {A : Type 0} (c : Commands A) (words : List (List ℕ)) (call : Call) (
             let one = stuck_once c a law [] bytes s.items h.items s.rest h.rest all.said told_all.said
             are_bytes cut.cut cut.all_say (on_stuck c a law s.items s.rest on)
             h.first.cut h.first.all_say (on_stuck c a law h.items h.rest h.goes_on) in
-            let rest = cut_bytes c a law bytes s.items s.rest are_bytes cut.cut in
+            let rest = cut_bytes c a law [] bytes s.items s.rest are_bytes cut.cut in
             let last : all.last ≡ told_all.last =
             law.ends_once s.items s.rest rest all.last told_all.last closes
             (subst (λ r. c.Ends a s.items r told_all.last) (sym one.1)

@@ -25,8 +25,8 @@ pub record Commands (A : Type 0) : Type 1 where
   pub Finds : Request → Fetches → Result A Stop → Type 0
   -- the input is read
   pub Reads : A → Type 0
-  -- the bytes are an item, and then the rest
-  pub IsFirst : A → List ℕ → Item → List ℕ → Type 0
+  -- after these items the bytes are an item, and then the rest
+  pub IsFirst : A → List Item → List ℕ → Item → List ℕ → Type 0
   -- after these items this is said of the next
   pub Says : A → List Item → Item → Said → Type 0
   -- after these items the run stops at these bytes, whatever follows them
@@ -40,11 +40,12 @@ module _ {A : Type 0} (c : Commands A) where
   Prepares words files = Then (ReadsWords words) (λ request. c.Finds request files)
 
   module _ (a : A) where
-    -- the bytes are these items, and then the rest
-    abbrev pub Cut : List ℕ → List Item → List ℕ → Type 0
-    Cut bytes [] rest = bytes ≡ rest
-    Cut bytes (item ∷ items) rest =
-        (more : List ℕ) × c.IsFirst a bytes item more × Cut more items rest
+    -- after the first items, the bytes are these items, and then the rest
+    abbrev pub Cut : List Item → List ℕ → List Item → List ℕ → Type 0
+    Cut before bytes [] rest = bytes ≡ rest
+    Cut before bytes (item ∷ items) rest =
+        (more : List ℕ) × c.IsFirst a before bytes item more
+        × Cut (before ++ item ∷ []) more items rest
 
     -- after the first items, this is said of the next ones
     abbrev pub AllSay : List Item → List Item → List Said → Type 0
@@ -57,13 +58,13 @@ module _ {A : Type 0} (c : Commands A) where
     -- the bytes begin with items of which this is said, and the rest comes after them
     pub record SaysFirst (bytes : List ℕ) (items : List Item) (said : List Said) (rest : List ℕ)
         : Type 0 where
-      pub cut : Cut bytes items rest
+      pub cut : Cut [] bytes items rest
       pub all_say : AllSay [] items said
 
     -- more has to come: the bytes are no whole item, and nothing stops there
     pub record GoesOn (items : List Item) (bytes : List ℕ) : Type 0 where
       pub no_stop : (stop : Stop) → c.Stops a items bytes stop → ⊥
-      pub no_item : (item : Item) (more : List ℕ) → c.IsFirst a bytes item more → ⊥
+      pub no_item : (item : Item) (more : List ℕ) → c.IsFirst a items bytes item more → ⊥
 
     -- the bytes hold a stop: after items of which something is said the run stops so
     pub record HoldStop (bytes : List ℕ) (stop : Stop) : Type 0 where

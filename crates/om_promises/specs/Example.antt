@@ -54,7 +54,7 @@ example = record {
       Then (ReadsFile example_name (files 0 example_name)) (λ text found.
       found ≡ Ok (has_bytes text));
   Reads = λ reads. IsTrue reads;
-  IsFirst = λ reads. IsFirstLine;
+  IsFirst = λ reads items. IsFirstLine;
   Says = λ reads items. SaysLine;
   Stops = λ reads. StopsAtLine;
   Ends = λ reads items bytes last. last ≡ last_said reads bytes;

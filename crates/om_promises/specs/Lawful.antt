@@ -2,7 +2,7 @@
 -- bytes follow.
 use Rattle.std.specs.Prelude.{ℕ, ◌<◌, ◌≡◌, ◌⊎◌, List, ◌++◌, length, Result, Ok, Err}
 use Rattle.om_model.specs.Bytes.{AreBytes}
-use Rattle.om_outcome.specs.Outcome.{Found, opened, missing, whole, Request, Stop, usage, bad_path, not_two_values, cannot_open, declarations, requested_type, value, script_line, text_line, untyped_value, large_value, certificate_line, uncertified_value, sections_left, read_fault, too_long, out_of_memory, ReadsFile, Said, stops}
+use Rattle.om_outcome.specs.Outcome.{Found, opened, missing, whole, Request, Stop, usage, bad_path, not_two_values, cannot_open, declarations, requested_type, value, script_line, text_line, untyped_value, large_value, certificate_line, uncertified_value, sections_left, short_input, read_fault, too_long, out_of_memory, ReadsFile, Said, stops}
 use Rattle.om_promises.specs.Commands.{Item, Fetches, Commands}
 
 -- at most one answer
@@ -26,6 +26,7 @@ IsInner (large_value number refusal) = Unit {0}
 IsInner (certificate_line number) = Unit {0}
 IsInner (uncertified_value number reason) = Unit {0}
 IsInner sections_left = Unit {0}
+IsInner (short_input taken) = Unit {0}
 IsInner read_fault = ⊥
 IsInner too_long = ⊥
 IsInner out_of_memory = ⊥
@@ -51,9 +52,9 @@ module _ {A : Type 0} (c : Commands A) where
 
   pub record AreLawfulAt (a : A) : Type 0 where
     -- once
-    pub first_once : (bytes : List ℕ) → AreBytes bytes
+    pub first_once : (items : List Item) (bytes : List ℕ) → AreBytes bytes
         → (item other : Item) (more rest : List ℕ)
-        → c.IsFirst a bytes item more → c.IsFirst a bytes other rest
+        → c.IsFirst a items bytes item more → c.IsFirst a items bytes other rest
         → (item ≡ other) × (more ≡ rest)
     pub says_once : (items : List Item) (item : Item) → IsOnce (c.Says a items item)
     pub stops_once : (items : List Item) (bytes : List ℕ) → AreBytes bytes
@@ -61,10 +62,12 @@ module _ {A : Type 0} (c : Commands A) where
     pub ends_once : (items : List Item) (bytes : List ℕ) → AreBytes bytes
         → IsOnce (c.Ends a items bytes)
     -- front: an item has a byte; it stays when bytes follow, and so does a stop
-    pub front : (bytes : List ℕ) (item : Item) (more : List ℕ) → c.IsFirst a bytes item more
+    pub front : (items : List Item) (bytes : List ℕ) (item : Item) (more : List ℕ)
+        → c.IsFirst a items bytes item more
         → (first : List ℕ) × (bytes ≡ first ++ more) × (0 < length first)
-    pub item_stays : (bytes : List ℕ) (item : Item) (more later : List ℕ)
-        → c.IsFirst a bytes item more → c.IsFirst a (bytes ++ later) item (more ++ later)
+    pub item_stays : (items : List Item) (bytes : List ℕ) (item : Item) (more later : List ℕ)
+        → c.IsFirst a items bytes item more
+        → c.IsFirst a items (bytes ++ later) item (more ++ later)
     pub stop_stays : (items : List Item) (bytes later : List ℕ) (stop : Stop)
         → c.Stops a items bytes stop → c.Stops a items (bytes ++ later) stop
     -- inside: what comes of the outside is told by no reply on the input
@@ -75,7 +78,8 @@ module _ {A : Type 0} (c : Commands A) where
     -- apart: of no item something is said where the run stops
     pub apart : (items : List Item) (bytes : List ℕ) → AreBytes bytes
         → (item : Item) (more : List ℕ) (said : Said) (stop : Stop)
-        → c.IsFirst a bytes item more → c.Says a items item said → c.Stops a items bytes stop → ⊥
+        → c.IsFirst a items bytes item more → c.Says a items item said
+        → c.Stops a items bytes stop → ⊥
 
   pub record AreLawful : Type 0 where
     -- one file at most is wanted in a turn

@@ -59,12 +59,12 @@ module _ (limit_by : Request → Option ℕ) (limit : ℕ) where
 
   -- the bytes of the items and the rest are all
   cut_length :
-      (bytes : List ℕ) (items : List Item) (rest : List ℕ)
-      → Cut (searching limit_by) limit bytes items rest
+      (before : List Item) (bytes : List ℕ) (items : List Item) (rest : List ℕ)
+      → Cut (searching limit_by) limit before bytes items rest
       → bytes_in items + length rest ≡ length bytes
-  cut_length bytes [] rest same = omega (arith, ap length same)
-  cut_length bytes (item ∷ items) rest (more, h, cut) =
-      let next = cut_length more items rest cut in
+  cut_length before bytes [] rest same = omega (arith, ap length same)
+  cut_length before bytes (item ∷ items) rest (more, h, cut) =
+      let next = cut_length (before ++ item ∷ []) more items rest cut in
       let size = ap length h.bytes_are ∙ length-append (bytes_of h.parts) more in
       subst (λ i. bytes_in (i ∷ items) + length rest ≡ length bytes) (sym h.is)
       (omega (arith, next, size))
@@ -74,7 +74,7 @@ module _ (limit_by : Request → Option ℕ) (limit : ℕ) where
       → SaysFirst (searching limit_by) limit bytes items said held → at ≡ bytes_in items
       → at + length held ≡ length bytes
   room held at bytes said items first is =
-      let size = cut_length bytes items held first.cut in omega (arith, size, is)
+      let size = cut_length [] bytes items held first.cut in omega (arith, size, is)
 
   -- ---- bytes are taken
 

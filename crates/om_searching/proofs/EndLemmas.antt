@@ -81,7 +81,7 @@ module _ (limit : ℕ) where
       pub items : List Item
       pub said : List Said
       pub rest : List ℕ
-      pub cut : Cut (searching limit_by) limit bytes items rest
+      pub cut : Cut (searching limit_by) limit before bytes items rest
       pub all_say : AllSay (searching limit_by) limit before items said
       pub is_front : IsFront limit rest
       pub are_bytes : AreBytes rest

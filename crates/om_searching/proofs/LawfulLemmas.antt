@@ -76,13 +76,13 @@ module _ (limit : ℕ) where
 
     pub lawful_at : AreLawfulAt (searching limit_by) limit
     lawful_at = record {
-      first_once = λ bytes are_bytes. first_once bytes;
+      first_once = λ items bytes are_bytes. first_once bytes;
       says_once = stretch_once limit;
       stops_once = λ items bytes are_bytes stop other h k. absurd h;
       ends_once = λ items bytes are_bytes. ends_once items bytes;
-      front = λ bytes item more h.
+      front = λ items bytes item more h.
           (bytes_of h.parts, h.bytes_are, stretch_some h.parts h.pending h.stretch);
-      item_stays = stretch_stays;
+      item_stays = λ items. stretch_stays;
       stop_stays = λ items bytes later stop h. h;
       stops_inside = λ items bytes stop h. absurd h;
       ends_inside = λ items bytes stop h. absurd h;

@@ -72,7 +72,7 @@ module _ (limit : ℕ) where
 
     pub has_all :
         (before items : List Item) (bytes : List ℕ) (said : List Said) (rest put : List ℕ)
-        → Cut (searching limit_by) limit bytes items rest
+        → Cut (searching limit_by) limit before bytes items rest
         → AllSay (searching limit_by) limit before items said → rest ≡ bytes_of last
         → put ≡ lines_of (places_of (bytes_in (before ++ items)) last)
         → HasAll before bytes (texts_of said ++ put)
@@ -101,7 +101,7 @@ module _ (limit_by : Request → Option ℕ) where
   told :
       (limit : ℕ) (input : List ℕ) (said : List Said) (final : Said) (items : List Item)
       (rest : List ℕ)
-      → Cut (searching limit_by) limit input items rest
+      → Cut (searching limit_by) limit [] input items rest
       → AllSay (searching limit_by) limit [] items said → SaysPlaces limit items rest final
       → Tells limit input (replies said (says final))
   told limit input said final items rest cut all p =

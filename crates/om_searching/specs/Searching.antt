@@ -54,7 +54,7 @@ module _ (limit_by : Request → Option ℕ) where
     Wants = λ request files turn name. ⊥;
     Finds = Finds;
     Reads = λ limit. Unit {0};
-    IsFirst = IsFirstStretch;
+    IsFirst = λ limit items. IsFirstStretch limit;
     Says = SaysStretch;
     Stops = λ limit items bytes stop. ⊥;
     Ends = EndsWithPlaces;

@@ -1,8 +1,9 @@
 -- The account of a call, from what each stage gave.
-use Rattle.std.proofs.Common.{◌≡◌, ◌⊎◌, ℕ, zero, suc, Bool, List, Ok, Err, inl, inr, refl, sym, ap, subst, arith}
+use Rattle.std.proofs.Common.{◌≡◌, ◌⊎◌, ℕ, zero, suc, Bool, true, List, Option, Ok, Err, inl, inr, refl, sym, ap, subst, arith}
 use Rattle.om_outcome.specs.declared.status.Status.{Status}
 use Rattle.std.specs.Borrow.{Bor}
-use Rattle.om_outcome.specs.Outcome.{Found, unfetched, Stop, bad_path, out_of_memory, Request, get, edit, dump, compare, Asks, ReadsTypeOf, dumps, compares}
+use Rattle.om_outcome.specs.Outcome.{Found, unfetched, AskedType, asked_type, Stop, bad_path, out_of_memory, Request, get, edit, dump, compare, Asks, ReadsTypeOf, ReadsScriptOf, dumps, compares}
+use Rattle.om_outcome.specs.declared.reading.Reading.{Reading}
 use Rattle.om_outcome.specs.declared.style.Style.{Style}
 use Rattle.om_edge.specs.State.{ByteState, FilesState, Change, change}
 use Rattle.om_stops.specs.declared.stop.Stop as codes
@@ -22,26 +23,32 @@ use Rattle.om_session.specs.declared.verdict.Speech.TheVariants as speeches
 use Rattle.om_promises.specs.Given.{Fetched}
 use Rattle.om_declared.specs.Language.{declared_types}
 use Rattle.om_stops.specs.Stops.{stop_of, Reports}
-use Rattle.om_session.specs.Telling.{AsksToTell, AsksToEdit}
+use Rattle.om_passing.specs.Asked.{passed_by}
+use Rattle.om_passing.specs.Skipping.{Passed}
+use Rattle.om_passing.proofs.FetchLemmas.{fetches_after}
+use Rattle.om_picking.specs.Asked.{picked_by}
+use Rattle.om_picking.proofs.FetchLemmas.{fetches_picked}
+use Rattle.om_session.specs.All.{on_values, on_values_picked, on_values_after}
+use Rattle.om_session.specs.Telling.{passed_in, AsksToTell, AsksToEdit}
 use Rattle.om_declared.specs.Types.{type_over, IsPathStop, GivesType, GivesScript}
 use Rattle.om_session.specs.Values.{task_of}
 use Rattle.om_session.specs.Verdict.{saying_of}
-use Rattle.om_declared.proofs.TypeLemmas.{path_refused}
-use Rattle.om_commands.specs.Tasks.{by_turns, WantsFile, WantsScript, commands}
+use Rattle.om_declared.proofs.TypeLemmas.{given_lines, path_refused}
+use Rattle.om_commands.specs.Tasks.{by_turns, WantsFile, WantsScript}
 use Rattle.om_work.specs.Reported.{HasAccount}
 use Rattle.om_commands.proofs.FetchLemmas.{wants_file, wants_script, new_fetches}
 use Rattle.om_work.proofs.StopLemmas.{WantsInTurns, nothing_found, none_fetched as nothing_fetched, stop_account}
 
 -- FILE and SCRIPT are wanted in two turns
-pub values_in_turns : WantsInTurns 2 (commands declared_types)
+pub values_in_turns : WantsInTurns 2 on_values_after
 values_in_turns request files turn name (inl (first, wants)) = omega (arith, first)
 values_in_turns request files turn name (inr (second, wants)) = omega (arith, second)
 
 -- ---- the values
 
 -- the job is done with the values
-abbrev DoesJob : Job → Change ByteState → Change ByteState → Change ByteState → Status → Type 0
-DoesJob job = HasAccount (commands declared_types) (task_of job)
+abbrev DoesJob : Job → Passed → Option ℕ → Change ByteState → Change ByteState → Change ByteState → Status → Type 0
+DoesJob job over only = HasAccount on_values_after (over, (only, task_of job))
 
 -- ---- the words
 
@@ -51,139 +58,151 @@ two_found first second zero name = first
 two_found first second (suc turn) name = second
 
 -- nothing was fetched
-none_fetched : (words : List (List ℕ)) (files : FilesState) → FetchesFor (commands declared_types) words (change files files) nothing_found
-none_fetched words = nothing_fetched (commands declared_types) words 2 values_in_turns
+none_fetched : (words : List (List ℕ)) (files : FilesState) → FetchesFor on_values_after words (change files files) nothing_found
+none_fetched words = nothing_fetched on_values_after words 2 values_in_turns
 
 -- PATH is no path, or memory ran out for it
-pub path_account : (words : List (List ℕ)) (name type text : List ℕ) (style : Style) (limit : ℕ) → Asks words (get name type text style limit)
+pub path_account : (words : List (List ℕ)) (name type text : List ℕ) (style : Style) (lines : Bool) (reading : Reading) → Asks words (get name type text style lines reading)
     → (fault : PathFault) → UnlessMemory (λ f. IsAnswer text (Err f)) fault → (stop : codes.Stop) → IsPathStop fault stop
     → (input out : ByteState) (files : FilesState) (err : Change ByteState) (status : Status)
-    → Reports (stop_of stop) err status → Account (commands declared_types) words (call (change input input) (change files files) (change out out) err status)
-path_account words name type text style limit asks fault refused stop is input out files err status r =
-    stop_account (commands declared_types) words nothing_found input out (change files files) (none_fetched words files) err status (stop_of stop) (why is) r where
-      why : IsPathStop fault stop → Prepares (commands declared_types) words nothing_found (Err (stop_of stop)) ⊎ (stop_of stop ≡ out_of_memory)
+    → Reports (stop_of stop) err status → Account on_values_after words (call (change input input) (change files files) (change out out) err status)
+path_account words name type text style lines reading asks fault refused stop is input out files err status r =
+    stop_account on_values_after words nothing_found input out (change files files) (none_fetched words files) err status (stop_of stop) (why is) r where
+      why : IsPathStop fault stop → Prepares on_values_after words nothing_found (Err (stop_of stop)) ⊎ (stop_of stop ≡ out_of_memory)
       why (inl (memory, is)) = inr is
       why (inr (some, is)) =
-          inl (subst (λ s. Prepares (commands declared_types) words nothing_found (Err s)) (sym is)
-          (Ok (get name type text style limit), asks, (Err bad_path, (Err bad_path, (path_refused text fault some refused, refl), refl), refl)))
+          inl (subst (λ s. Prepares on_values_after words nothing_found (Err s)) (sym is)
+          (Ok (get name type text style lines reading), asks, (Err bad_path, (Err bad_path, (path_refused text fault some refused, refl), refl), refl)))
 
-module _ (words : List (List ℕ)) (name type : List ℕ) (saying : Saying) (limit : ℕ) (asks : AsksToTell words name type (saying_of saying) limit) (files : Change FilesState) (found : Found) (fetched : Fetched files name found) where
+module _ (words : List (List ℕ)) (name : List ℕ) (type : AskedType) (saying : Saying) (reading : Reading) (asks : AsksToTell words name type (saying_of saying) reading) (files : Change FilesState) (found : Found) (fetched : Fetched files name found) where
   is_wanted : WantsFile declared_types asks.request name
   is_wanted = record { has_path = asks.has_path; type = type; typed = asks.typed }
 
   abbrev all_found : Fetches
   all_found = two_found found unfetched
 
-  fetches : FetchesFor (commands declared_types) words files all_found
+  fetches : FetchesFor on_values_after words files all_found
   fetches =
-      new_fetches declared_types words all_found files.before files.after files.after
-      (inl (name, wants_file declared_types words all_found asks.request asks.asks name is_wanted, fetched)) (inr (refl, λ script is. refl))
+      fetches_after passed_by on_values_picked words all_found files
+      (fetches_picked picked_by on_values words all_found files
+      (new_fetches declared_types words all_found files.before files.after files.after
+      (inl (name, wants_file declared_types words all_found asks.request asks.asks name is_wanted, fetched)) (inr (refl, λ script is. refl))))
 
   prepared_ok : (t : Bor Requested) → ReadsTypeOf declared_types (λ name. found) (name, type) (Ok (type_over t.now))
-      → Prepares (commands declared_types) words all_found (Ok (task_of (jobs.Say (speeches.Tell t saying) limit)))
+      → Prepares on_values_after words all_found (Ok (passed_in reading, (reading.only, task_of (jobs.Say (speeches.Tell t saying) reading.limit))))
   prepared_ok t reads =
-      let told = task_of (jobs.Say (speeches.Tell t saying) limit) in
-      (Ok asks.request, asks.asks, (Ok told.work, asks.finds (by_turns all_found) (Ok told.work) (Ok (type_over t.now), reads, refl), ap (λ n. Ok (record { work = told.work; limit = n })) (sym asks.limited)))
+      let told = task_of (jobs.Say (speeches.Tell t saying) reading.limit) in
+      (Ok asks.request, asks.asks, (sym asks.passes, (sym asks.picks, (Ok told.work, asks.finds (by_turns all_found) (Ok told.work) (Ok (type_over t.now), reads, refl), ap (λ n. Ok (record { work = told.work; limit = n })) (sym asks.limited)))))
 
-  prepared_err : (s : Stop) → ReadsTypeOf declared_types (λ name. found) (name, type) (Err s) → Prepares (commands declared_types) words all_found (Err s)
+  prepared_err : (s : Stop) → ReadsTypeOf declared_types (λ name. found) (name, type) (Err s) → Prepares on_values_after words all_found (Err s)
   prepared_err s reads = (Ok asks.request, asks.asks, (Err s, asks.finds (by_turns all_found) (Err s) (Err s, reads, refl), refl))
 
-  gives_err : (stop : codes.Stop) → GivesType name type found (Err stop) → Prepares (commands declared_types) words all_found (Err (stop_of stop)) ⊎ (stop_of stop ≡ out_of_memory)
+  gives_err : (stop : codes.Stop) → GivesType name type found (Err stop) → Prepares on_values_after words all_found (Err (stop_of stop)) ⊎ (stop_of stop ≡ out_of_memory)
   gives_err stop (inl reads) = inl (prepared_err _ reads)
   gives_err stop (inr memory) = inr memory
 
   -- there is no type
   pub type_account : (stop : codes.Stop) → GivesType name type found (Err stop) → (input out : ByteState) (err : Change ByteState) (status : Status)
-      → Reports (stop_of stop) err status → Account (commands declared_types) words (call (change input input) files (change out out) err status)
+      → Reports (stop_of stop) err status → Account on_values_after words (call (change input input) files (change out out) err status)
   type_account stop gives input out err status r =
-      stop_account (commands declared_types) words all_found input out files fetches err status (stop_of stop) (gives_err stop gives) r
+      stop_account on_values_after words all_found input out files fetches err status (stop_of stop) (gives_err stop gives) r
 
   -- this is told of the values at the type
   pub told_account : (t : Bor Requested) → GivesType name type found (Ok t.now) → (input out err : Change ByteState) (status : Status)
-      → DoesJob (jobs.Say (speeches.Tell t saying) limit) input out err status → Account (commands declared_types) words (call input files out err status)
+      → DoesJob (jobs.Say (speeches.Tell t saying) reading.limit) (passed_in reading) reading.only input out err status → Account on_values_after words (call input files out err status)
   told_account t gives input out err status does = does words all_found files fetches (prepared_ok t gives.0)
 
 -- ---- SCRIPT
 
 -- FILE or TYPE is not read
-module _ (words : List (List ℕ)) (file type script : List ℕ) (compat : Bool) (limit : ℕ) (asks : Asks words (edit file type script compat limit)) (files : Change FilesState) (found : Found)
+module _ (words : List (List ℕ)) (file type script : List ℕ) (compat lines : Bool) (reading : Reading) (asks : Asks words (edit file type script compat lines reading)) (files : Change FilesState) (found : Found)
     (fetched : Fetched files file found) where
   abbrev file_found : Fetches
   file_found = two_found found unfetched
 
-  file_wanted : WantsFile declared_types (edit file type script compat limit) file
-  file_wanted = record { has_path = tt; type = type; typed = refl }
+  file_wanted : WantsFile declared_types (edit file type script compat lines reading) file
+  file_wanted = record { has_path = tt; type = asked_type type lines; typed = refl }
 
-  file_fetches : FetchesFor (commands declared_types) words files file_found
+  file_fetches : FetchesFor on_values_after words files file_found
   file_fetches =
-      new_fetches declared_types words file_found files.before files.after files.after
-      (inl (file, wants_file declared_types words file_found (edit file type script compat limit) asks file file_wanted, fetched)) (inr (refl, λ name is. refl))
+      fetches_after passed_by on_values_picked words file_found files
+      (fetches_picked picked_by on_values words file_found files
+      (new_fetches declared_types words file_found files.before files.after files.after
+      (inl (file, wants_file declared_types words file_found (edit file type script compat lines reading) asks file file_wanted, fetched)) (inr (refl, λ name is. refl))))
 
-  file_gives : (stop : codes.Stop) → GivesType file type found (Err stop) → Prepares (commands declared_types) words file_found (Err (stop_of stop)) ⊎ (stop_of stop ≡ out_of_memory)
-  file_gives stop (inl reads) = inl (Ok (edit file type script compat limit), asks, (Err (stop_of stop), (Err (stop_of stop), reads, refl), refl))
+  file_gives : (stop : codes.Stop) → GivesType file (asked_type type lines) found (Err stop) → Prepares on_values_after words file_found (Err (stop_of stop)) ⊎ (stop_of stop ≡ out_of_memory)
+  file_gives stop (inl reads) = inl (Ok (edit file type script compat lines reading), asks, (Err (stop_of stop), (Err (stop_of stop), reads, refl), refl))
   file_gives stop (inr memory) = inr memory
 
-  pub file_account : (stop : codes.Stop) → GivesType file type found (Err stop) → (input out : ByteState) (err : Change ByteState) (status : Status)
-      → Reports (stop_of stop) err status → Account (commands declared_types) words (call (change input input) files (change out out) err status)
-  file_account stop gives input out err status r = stop_account (commands declared_types) words file_found input out files file_fetches err status (stop_of stop) (file_gives stop gives) r
+  pub file_account : (stop : codes.Stop) → GivesType file (asked_type type lines) found (Err stop) → (input out : ByteState) (err : Change ByteState) (status : Status)
+      → Reports (stop_of stop) err status → Account on_values_after words (call (change input input) files (change out out) err status)
+  file_account stop gives input out err status r = stop_account on_values_after words file_found input out files file_fetches err status (stop_of stop) (file_gives stop gives) r
 
 -- they are, and SCRIPT comes next
-module _ (words : List (List ℕ)) (r : Bor Requested) (script : List ℕ) (compat : Bool) (limit : ℕ) (a b c : FilesState) (asks : AsksToEdit words r.now script compat limit (change a b))
+module _ (words : List (List ℕ)) (r : Bor Requested) (script : List ℕ) (compat : Bool) (reading : Reading) (a b c : FilesState) (asks : AsksToEdit words r.now script compat reading (change a b))
     (found : Found) (fetched : Fetched (change b c) script found) where
   abbrev both_found : Fetches
   both_found = two_found asks.found found
 
   abbrev request : Request
-  request = edit asks.file asks.type script compat limit
+  request = edit asks.file asks.type script compat asks.lines reading
 
   edit_wanted : WantsFile declared_types request asks.file
-  edit_wanted = record { has_path = tt; type = asks.type; typed = refl }
+  edit_wanted = record { has_path = tt; type = asked_type asks.type asks.lines; typed = refl }
 
   script_wanted : WantsScript declared_types request both_found script
   script_wanted = record {
     scripted = refl;
-    typed = (asks.file, asks.type);
+    typed = (asks.file, asked_type asks.type asks.lines);
     is_typed = refl;
     type = type_over r.now;
     reads = asks.gives.0;
   }
 
-  both_fetched : FetchesFor (commands declared_types) words (change a c) both_found
+  both_fetched : FetchesFor on_values_after words (change a c) both_found
   both_fetched =
-      new_fetches declared_types words both_found a b c
+      fetches_after passed_by on_values_picked words both_found (change a c)
+      (fetches_picked picked_by on_values words both_found (change a c)
+      (new_fetches declared_types words both_found a b c
       (inl (asks.file, wants_file declared_types words both_found request asks.asks asks.file edit_wanted, asks.fetched))
-      (inl (script, wants_script declared_types words both_found request asks.asks script script_wanted, fetched))
+      (inl (script, wants_script declared_types words both_found request asks.asks script script_wanted, fetched))))
 
-  script_gives : (stop : codes.Stop) → GivesScript script found (Err stop) → Prepares (commands declared_types) words both_found (Err (stop_of stop)) ⊎ (stop_of stop ≡ out_of_memory)
+  -- places in SCRIPT are told as those in FILE and TYPE
+  same_lines : r.now.lines ≡ asks.lines
+  same_lines = given_lines asks.file (asked_type asks.type asks.lines) asks.found r.now asks.gives
+
+  script_gives : (stop : codes.Stop) → GivesScript r.now.lines script found (Err stop) → Prepares on_values_after words both_found (Err (stop_of stop)) ⊎ (stop_of stop ≡ out_of_memory)
   script_gives stop (inl reads) =
-      inl (Ok request, asks.asks, (Err (stop_of stop), (Ok (type_over r.now), asks.gives.0, (Err (stop_of stop), reads, refl)), refl))
+      let told = subst (λ l. ReadsScriptOf declared_types l (λ name. found) script (Err (stop_of stop))) same_lines reads in
+      inl (Ok request, asks.asks, (Err (stop_of stop), (Ok (type_over r.now), asks.gives.0, (Err (stop_of stop), told, refl)), refl))
   script_gives stop (inr memory) = inr memory
 
-  pub script_account : (stop : codes.Stop) → GivesScript script found (Err stop) → (input out : ByteState) (err : Change ByteState) (status : Status)
-      → Reports (stop_of stop) err status → Account (commands declared_types) words (call (change input input) (change a c) (change out out) err status)
+  pub script_account : (stop : codes.Stop) → GivesScript r.now.lines script found (Err stop) → (input out : ByteState) (err : Change ByteState) (status : Status)
+      → Reports (stop_of stop) err status → Account on_values_after words (call (change input input) (change a c) (change out out) err status)
   script_account stop gives input out err status reports =
-      stop_account (commands declared_types) words both_found input out (change a c) both_fetched err status (stop_of stop) (script_gives stop gives) reports
+      stop_account on_values_after words both_found input out (change a c) both_fetched err status (stop_of stop) (script_gives stop gives) reports
 
   -- the values are edited
-  pub edits_account : (s : Bor Script) → GivesScript script found (Ok s.now) → (input out err : Change ByteState) (status : Status)
-      → DoesJob (jobs.Edit (record { requested = r; script = s; compat = compat }) limit) input out err status → Account (commands declared_types) words (call input (change a c) out err status)
+  pub edits_account : (s : Bor Script) → GivesScript r.now.lines script found (Ok s.now) → (input out err : Change ByteState) (status : Status)
+      → DoesJob (jobs.Edit (record { requested = r; script = s; compat = compat }) reading.limit) (record { bytes = reading.skip; copied = true }) reading.only input out err status → Account on_values_after words (call input (change a c) out err status)
   edits_account s gives input out err status does =
-      let job = jobs.Edit (record { requested = r; script = s; compat = compat }) limit in
+      let job = jobs.Edit (record { requested = r; script = s; compat = compat }) reading.limit in
+      let read = subst (λ l. ReadsScriptOf declared_types l (λ name. found) script (Ok s.now.lines)) same_lines gives in
       does words both_found (change a c) both_fetched
-      (Ok request, asks.asks, (Ok (task_of job).work, (Ok (type_over r.now), asks.gives.0, (Ok s.now.lines, gives, refl)), refl))
+      (Ok request, asks.asks, (refl, (refl, (Ok (task_of job).work, (Ok (type_over r.now), asks.gives.0, (Ok s.now.lines, read, refl)), refl))))
 
-module _ (words : List (List ℕ)) (limit : ℕ) (files : FilesState) (input out err : Change ByteState) (status : Status) where
+module _ (words : List (List ℕ)) (reading : Reading) (files : FilesState) (input out err : Change ByteState) (status : Status) where
   -- the values are put as they are
-  pub dump_account : Asks words (dump limit) → DoesJob (jobs.Say speeches.Dump limit) input out err status → Account (commands declared_types) words (call input (change files files) out err status)
-  dump_account asks does = does words nothing_found (change files files) (none_fetched words files) (Ok (dump limit), asks, (Ok dumps, refl, refl))
+  pub dump_account : Asks words (dump reading) → DoesJob (jobs.Say speeches.Dump reading.limit) (passed_in reading) reading.only input out err status → Account on_values_after words (call input (change files files) out err status)
+  dump_account asks does = does words nothing_found (change files files) (none_fetched words files) (Ok (dump reading), asks, (refl, (refl, (Ok dumps, refl, refl))))
 
   -- two values are compared
-  pub compare_account : Asks words (compare limit) → DoesJob (jobs.Compare limit) input out err status → Account (commands declared_types) words (call input (change files files) out err status)
-  compare_account asks does = does words nothing_found (change files files) (none_fetched words files) (Ok (compare limit), asks, (Ok compares, refl, refl))
+  pub compare_account : Asks words (compare reading) → DoesJob (jobs.Compare reading.limit) (passed_in reading) reading.only input out err status → Account on_values_after words (call input (change files files) out err status)
+  compare_account asks does = does words nothing_found (change files files) (none_fetched words files) (Ok (compare reading), asks, (refl, (refl, (Ok compares, refl, refl))))
 
 -- ---- the lines
 
 -- the lines that a file gives copy from values before their own
-pub given_in_time : ((text : List ℕ) (lines : List ScriptLine) → AreEdits 1 text (Ok lines) → AreInTime lines) → (name : List ℕ) (found : Found) (script : Script) → GivesScript name found (Ok script) → AreInTime script.lines
-given_in_time law name found script (Ok text, read, is) = law text script.lines is
-given_in_time law name found script (Err stop, read, is) = absurd (cc is)
+pub given_in_time : ((text : List ℕ) (lines : List ScriptLine) → AreEdits 1 text (Ok lines) → AreInTime lines) → (lines : Bool) (name : List ℕ) (found : Found) (script : Script) → GivesScript lines name found (Ok script) → AreInTime script.lines
+given_in_time law lines name found script (Ok text, read, is) = law text script.lines is
+given_in_time law lines name found script (Err stop, read, is) = absurd (cc is)

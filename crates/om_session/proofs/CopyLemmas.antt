@@ -9,14 +9,14 @@ use Rattle.om_format.specs.Canonical.{canon}
 use Rattle.om_format.specs.Compat.{TooLargeFor32, too_large_for_32}
 use Rattle.om_format.specs.Stream.{SpellAll, clean}
 use Rattle.om_format.specs.Tree.{Tree, root, objects_of}
-use Rattle.om_outcome.specs.Outcome.{edit, Stop, Said, nothing_said, says, Replies, replies, all_well, ending_of, edits, Task, task, AllSay, StopsAt, fetches_of, whole}
+use Rattle.om_outcome.specs.Outcome.{all_under, asked_type, edit, Stop, Said, nothing_said, says, Replies, replies, all_well, ending_of, edits, Task, task, AllSay, StopsAt, fetches_of, whole}
 use Rattle.om_edge.specs.Files.{File, contents_of}
 use Rattle.om_edge.specs.Sink.{Puts}
 use Rattle.om_edit.specs.Grafts.{Other}
 use Rattle.om_path.specs.declared.edits.ScriptLine.{ScriptLine}
 use Rattle.om_promises.specs.Call.{Call}
-use Rattle.om_session.specs.All.{on_values, all_commands, IsOfValues, IsPart}
-use Rattle.om_session.proofs.PartLemmas.{only_this}
+use Rattle.om_session.specs.All.{on_values_after, all_commands, IsOfValues, IsPart}
+use Rattle.om_session.proofs.PartLemmas.{values_at_once}
 use Rattle.om_session.specs.Copied.{IsCanonical, IsLeftAlone, LeavesCanonical}
 use Rattle.om_promises.specs.Given.{TellsBytes}
 use Rattle.om_declared.specs.Language.{TypeOver, declared_types, bytes_for, IsBytesLine}
@@ -114,7 +114,7 @@ module _ (once : HaveOneOutcome (commands declared_types)) (words : List (List �
   its_outcome input files are_bytes is = (
     Ok (its_task is.type_is is.compat is.limit),
     (
-      Ok (edit is.file is.type is.script is.compat is.limit),
+      Ok (edit is.file is.type is.script is.compat is.lines (all_under is.limit)),
       is.asks,
       (
         Ok (edits is.type_is [] is.compat),
@@ -124,14 +124,15 @@ module _ (once : HaveOneOutcome (commands declared_types)) (words : List (List �
     ),
     subst (λ b. Answers (commands declared_types) (its_task is.type_is is.compat is.limit) (whole b) (said_all is.trees))
         (sym is.bytes)
-        (reply is.type_is is.compat is.limit (type_given declared_types (fetches_of (contents_of files)) is.file is.type is.type_is is.typed) is.trees is.canonical (subst AreBytes is.bytes are_bytes)),
+        (reply is.type_is is.compat is.limit (type_given declared_types (fetches_of (contents_of files)) is.file (asked_type is.type is.lines) is.type_is is.typed) is.trees is.canonical (subst AreBytes is.bytes are_bytes)),
   )
 
   -- where the words ask to edit, what all commands promise is promised by those on values
-  pub leaves_canonical : IsPart on_values IsOfValues → Promises all_commands words call
+  pub leaves_canonical : IsPart on_values_after IsOfValues → Promises all_commands words call
       → LeavesCanonical words call
   leaves_canonical part all input files honest some is =
-      let p = part.promises words call (only_this IsOfValues words (edit is.file is.type is.script is.compat is.limit) is.asks tt) all in
+      let request = edit is.file is.type is.script is.compat is.lines (all_under is.limit) in
+      let p = values_at_once part words call request is.asks tt refl refl all in
       let are_bytes : AreBytes input = rw honest.well_read.input_told at tells in
       let o = p.headline input files honest some in
       let given : Given = record { files = told_files files; input = whole input } in

@@ -13,6 +13,7 @@ use Rattle.om_edit.specs.EditedValues.{Answer, Edited}
 use Rattle.om_edit.specs.Grafts.{Other}
 use Rattle.om_edit.specs.Laws.{SayTheSame}
 use Rattle.om_edit.specs.LineLaws.{IsDeclaredLine, IsLineAnswerIn, IsLineApplied, IsLineRefusedFor, TablesAnswerLinesAlike}
+use Rattle.om_lines.specs.Lines.{place_on}
 use Rattle.om_edit.specs.Reasons.{Reason, no_field, no_literal, misread, ill_typed, reason_text, reason_or_none, literal_reason, reason_of}
 use Rattle.om_edit.specs.declared.refusal.EditRefusal.{EditRefusal}
 use Rattle.om_edit.specs.declared.refusal.EditRefusal.TheVariants as refusals
@@ -64,7 +65,7 @@ module _ (r : Requested) (others : List Other) (k : ℕ) (line : ScriptLine) whe
         goes_on = λ rest all edits. own_line rest all (Ok edited, is, subst (λ (e : List Obj × Val). Edit r others (lines_of_value k rest) e.0 e.1 all) same edits);
       }
 
-    pub line_refused : (reason : Reason ℕ) (stop : Stop) → stop_of stop ≡ outcome.script_line line.number (reason_text (text_at r.table) reason) → IsLineAnswerIn r.table others line.action old.heap old.root (Err reason)
+    pub line_refused : (reason : Reason ℕ) (stop : Stop) → stop_of stop ≡ outcome.script_line line.number (reason_text (text_at r.table) (place_on r.lines line.number) reason) → IsLineAnswerIn r.table others line.action old.heap old.root (Err reason)
         → IsRefusedLine r others k line old stop
     line_refused reason stop told is = at (alike r.decls r.ty r.table ready.made others line.action old.heap old.root (Err reason) is) where
       at : (other : Answer Ty) × IsDeclaredLine r.decls r.ty others line.action old.heap old.root other × SayTheSame r.table (Err reason) other → IsRefusedLine r others k line old stop
@@ -72,7 +73,7 @@ module _ (r : Requested) (others : List Other) (k : ℕ) (line : ScriptLine) whe
       at (Err other, is, same) = (
         other,
         (λ rest. own_line rest (Err (line.number, other)) (Err other, is, refl)),
-        told ∙ ap (λ t. outcome.script_line line.number t) same,
+        told ∙ ap (λ t. outcome.script_line line.number t) (same (place_on r.lines line.number)),
       )
 
     -- a line is refused for the reason that is told
@@ -99,10 +100,10 @@ pub type_told : (refusal : EditRefusal) (fault : Fault) → refusal ≡ refusals
 type_told refusal fault is = (ill_typed fault, ap reason_of is)
 
 -- the reason of a refusal that is not for out of memory is told
-pub reason_stop : (r : Requested) (number : ℕ) (refusal : EditRefusal) (text : List ℕ) → (reason : Reason ℕ) × (reason_of refusal ≡ Some reason) → text ≡ reason_or_none (text_at r.table) (reason_of refusal)
-    → IsReasonStop r number (reason_of refusal) (stops.Edit number text)
+pub reason_stop : (r : Requested) (number : ℕ) (refusal : EditRefusal) (text : List ℕ) → (reason : Reason ℕ) × (reason_of refusal ≡ Some reason) → text ≡ reason_or_none (text_at r.table) (place_on r.lines number) (reason_of refusal)
+    → IsReasonStop r number (reason_of refusal) (stops.Script number text)
 reason_stop r number refusal text (reason, is) spelled = at (reason_of refusal) is spelled where
-  at : (told : Option (Reason ℕ)) → told ≡ Some reason → text ≡ reason_or_none (text_at r.table) told → IsReasonStop r number told (stops.Edit number text)
+  at : (told : Option (Reason ℕ)) → told ≡ Some reason → text ≡ reason_or_none (text_at r.table) (place_on r.lines number) told → IsReasonStop r number told (stops.Script number text)
   at None is spelled = absurd (cc is)
   at (Some other) is spelled = ap (λ t. outcome.script_line number t) spelled
 
@@ -172,7 +173,7 @@ module _ (e : Edits) (others : List Other) (k : ℕ) (old : Value) where
       at halts.WriteFault never = absurd never
       at (halts.Stop stop) (inl memory) = (inl memory, puts_nothing out)
       at (halts.Stop stop) (inr (number, reason, refused, told)) =
-          (inr (refused_line number (reason_text type_text reason), inl (record { has = has.0; each = has.1; edited = Err (number, reason); made = refused; bytes = refl }), told), puts_nothing out)
+          (inr (refused_line number (reason_text type_text (place_on e.requested.now.lines number) reason), inl (record { has = has.0; each = has.1; edited = Err (number, reason); made = refused; bytes = refl }), told), puts_nothing out)
 
     -- what the lines made is put
     pub edited_puts : (new : Value) → EditsAll e.requested.now others k e.script.now.lines old new → (out : Change ByteState) (result : Result (Unit {0}) Halt) → PutsBytes e.compat k new.heap new.root out result

@@ -56,7 +56,7 @@ use Rattle.om_session.specs.declared.verdict.Saying.TheVariants as sayings
 use Rattle.om_session.specs.Glimpse.{yes, IsYes, IsGlimpse, IsBetween, verdict_job, IsUnchanged, IsUnchangedNext, IsUnchangedGlimpse, IsLeft}
 use Rattle.om_session.specs.Values.{MayTake, HasRead, IsKept, edits_by, task_of, word_limit}
 use Rattle.om_session.proofs.EarlierLemmas.{all_stay, left_needed}
-use Rattle.om_session.proofs.ReadLemmas.{front_goes_on, none_goes_on, spell_count, next_halts, Halts}
+use Rattle.om_session.proofs.ReadLemmas.{front_goes_on, none_goes_on, spell_count, next_halts, Halts, last_well-snoc}
 use Rattle.om_session.proofs.VerdictLemmas.{puts_yes}
 
 -- a value that a pass shows to have the type has the declared one, and each closed instance of it
@@ -172,7 +172,7 @@ module _ (r : Bor Requested) (limit : ℕ) (before : List ℕ) (said : List Said
       )
 
   -- its line was put, and the reader waits for the next one
-  pub seen_read : HasRead w (record values { count = values.count + 1 }) ((before ++ kept) ++ take n in_hand) (said ++ yes ∷ [])
+  pub seen_read : HasRead w (record values { last = true; count = values.count + 1 }) ((before ++ kept) ++ take n in_hand) (said ++ yes ∷ [])
   seen_read =
       let trees : List Tree = h.trees ++ yes'.tree ∷ [] in
       let leads : Leads limit [] values.reader = subst (λ front. Leads limit front values.reader) (nothing_taken w before said values h between) h.leads in record {
@@ -185,6 +185,7 @@ module _ (r : Bor Requested) (limit : ℕ) (before : List ℕ) (said : List Said
         leads = leads;
         counted = ap (λ n. n + 1) h.counted ∙ sym (length-append h.trees (yes'.tree ∷ []));
         well = h.well ∙ (sym (and_true (all_well said)) ∙ sym (all_well-snoc said yes));
+        last = sym (last_well-snoc true said yes);
         kept = tt;
       }
 
@@ -293,7 +294,7 @@ module _ (e : Edits) (limit : ℕ) (taken : List ℕ) (said : List Said) (values
       }
 
   -- its bytes were put, and the reader waits for the next one
-  pub left_read : HasRead job (record values { count = values.count + 1 }) (taken ++ take n in_hand) (said ++ put_said ∷ [])
+  pub left_read : HasRead job (record values { last = true; count = values.count + 1 }) (taken ++ take n in_hand) (said ++ put_said ∷ [])
   left_read =
       let leads : Leads limit [] values.reader = subst (λ front. Leads limit front values.reader) (nothing_taken job taken said values h between) h.leads in record {
         ready = h.ready;
@@ -305,6 +306,7 @@ module _ (e : Edits) (limit : ℕ) (taken : List ℕ) (said : List Said) (values
         leads = leads;
         counted = ap (λ n. n + 1) h.counted ∙ sym (length-append h.trees (seen.tree ∷ []));
         well = h.well ∙ (sym (and_true (all_well said)) ∙ sym (all_well-snoc said put_said));
+        last = sym (last_well-snoc true said put_said);
         kept = left_kept;
       }
 

@@ -1,10 +1,11 @@
 -- Each set of commands is a part of all: no request is for two of them.
 use Rattle.std.proofs.Common.{◌≡◌, ℕ, List, None, inl, inr, refl, subst, arith}
 use Rattle.om_outcome.specs.CommandLine.{certify, scan, searched_by}
-use Rattle.om_outcome.specs.Outcome.{Request, tell, get, edit, dump, compare, own, build, generate, verify, Asks}
+use Rattle.om_outcome.specs.Outcome.{Request, tell, get, edit, dump, compare, own, OwnRequest, build, generate, verify, Asks}
 use Rattle.om_promises.specs.Call.{Call}
 use Rattle.om_promises.specs.Commands.{Commands}
 use Rattle.om_promises.specs.Account.{Account}
+use Rattle.om_promises.specs.Promises.{Promises}
 use Rattle.om_choice.specs.Choice.{choice, IsIdleAt, AreIdleTogether, AskNothingOf, HaveAccountsOfFirst, PromiseAsFirst, HaveAccountsOfSecond, PromiseAsSecond}
 use Rattle.om_texts.specs.Texts.{built_by}
 use Rattle.om_texts.specs.Laws.{IsIdleElsewhere as TextsIdleElsewhere}
@@ -22,7 +23,14 @@ use Rattle.om_build.specs.Lines.{declared_texts}
 use Rattle.om_declared.specs.Language.{declared_types}
 use Rattle.om_command_line.proofs.RequestLemmas.{one_request}
 use Rattle.om_work.proofs.StopLemmas.{WantsInTurns}
-use Rattle.om_session.specs.All.{on_values, on_texts, on_certificates, on_certified, on_places, on_made, on_values_or_texts, on_others, on_items, on_input, all_commands, IsOfValues, IsOfTexts, IsOfCertificates, IsOfSections, IsOfPlaces, IsOfMade, AskOnly, IsPartOf, IsPart}
+use Rattle.om_passing.specs.Asked.{passed_by}
+use Rattle.om_passing.specs.Skipping.{skipping}
+use Rattle.om_passing.proofs.SkippingLemmas.{idle}
+use Rattle.om_passing.proofs.AtOnceLemmas.{promises_at_once}
+use Rattle.om_picking.specs.Asked.{picked_by}
+use Rattle.om_picking.proofs.PickingLemmas.{idle as picked_idle}
+use Rattle.om_picking.proofs.EachLemmas.{promises_of_each}
+use Rattle.om_session.specs.All.{on_values, on_values_picked, on_values_after, on_texts, on_certificates, on_certificates_after, on_certified, on_certified_after, on_places, on_made, on_values_or_texts, on_others, on_items, on_input, all_commands, IsOfValues, IsOfTexts, IsOfCertificates, IsOfSections, IsOfPlaces, IsOfMade, AskOnly, IsPartOf, IsPart}
 
 -- ---- a part of a choice is a part of all
 
@@ -56,49 +64,54 @@ part_of_part c d e IsOf inner outer = record {
 
 -- ---- what is asked of one set is not asked of another
 
+values_after_idle : (request : OwnRequest) → IsIdleAt on_values_after (own request)
+values_after_idle request =
+    idle passed_by on_values_picked (own request)
+    (picked_idle picked_by on_values (own request) (values_idle declared_types request))
+
 of_values_others : (request : Request) → IsOfValues request
     → (built_by request ≡ None) × (verified_by request ≡ None) × (certified_by request ≡ None)
     × (searched_by request ≡ None) × (generated_by request ≡ None)
-of_values_others (tell saying file type limit) of = (refl, refl, refl, refl, refl)
-of_values_others (get file type path style limit) of = (refl, refl, refl, refl, refl)
-of_values_others (edit file type script compat limit) of = (refl, refl, refl, refl, refl)
-of_values_others (dump limit) of = (refl, refl, refl, refl, refl)
-of_values_others (compare limit) of = (refl, refl, refl, refl, refl)
+of_values_others (tell saying file type lines reading) of = (refl, refl, refl, refl, refl)
+of_values_others (get file type path style lines reading) of = (refl, refl, refl, refl, refl)
+of_values_others (edit file type script compat lines reading) of = (refl, refl, refl, refl, refl)
+of_values_others (dump reading) of = (refl, refl, refl, refl, refl)
+of_values_others (compare reading) of = (refl, refl, refl, refl, refl)
 of_values_others (own request) of = absurd of
 
 of_texts_others : (request : Request) → IsOfTexts request
-    → IsIdleAt on_values request × (verified_by request ≡ None) × (certified_by request ≡ None)
+    → IsIdleAt on_values_after request × (verified_by request ≡ None) × (certified_by request ≡ None)
     × (searched_by request ≡ None) × (generated_by request ≡ None)
-of_texts_others (own (build file type)) of =
-    (values_idle declared_types (build file type), refl, refl, refl, refl)
+of_texts_others (own (build file type lines)) of =
+    (values_after_idle (build file type lines), refl, refl, refl, refl)
 of_texts_others request of = absurd of
 
 of_certificates_others : (request : Request) → IsOfCertificates request
-    → IsIdleAt on_values request × (built_by request ≡ None) × (certified_by request ≡ None)
+    → IsIdleAt on_values_after request × (built_by request ≡ None) × (certified_by request ≡ None)
     × (searched_by request ≡ None) × (generated_by request ≡ None)
-of_certificates_others (own (verify file type certificate limit)) of =
-    (values_idle declared_types (verify file type certificate limit), refl, refl, refl, refl)
+of_certificates_others (own (verify file type certificate lines reading)) of =
+    (values_after_idle (verify file type certificate lines reading), refl, refl, refl, refl)
 of_certificates_others request of = absurd of
 
 of_sections_others : (request : Request) → IsOfSections request
-    → IsIdleAt on_values request × (built_by request ≡ None) × (verified_by request ≡ None)
+    → IsIdleAt on_values_after request × (built_by request ≡ None) × (verified_by request ≡ None)
     × (searched_by request ≡ None) × (generated_by request ≡ None)
-of_sections_others (own (certify file type limit)) of =
-    (values_idle declared_types (certify file type limit), refl, refl, refl, refl)
+of_sections_others (own (certify file type lines reading)) of =
+    (values_after_idle (certify file type lines reading), refl, refl, refl, refl)
 of_sections_others request of = absurd of
 
 of_places_others : (request : Request) → IsOfPlaces request
-    → IsIdleAt on_values request × (built_by request ≡ None) × (verified_by request ≡ None)
+    → IsIdleAt on_values_after request × (built_by request ≡ None) × (verified_by request ≡ None)
     × (certified_by request ≡ None) × (generated_by request ≡ None)
 of_places_others (own (scan limit)) of =
-    (values_idle declared_types (scan limit), refl, refl, refl, refl)
+    (values_after_idle (scan limit), refl, refl, refl, refl)
 of_places_others request of = absurd of
 
 of_made_others : (request : Request) → IsOfMade request
-    → IsIdleAt on_values request × (built_by request ≡ None) × (verified_by request ≡ None)
+    → IsIdleAt on_values_after request × (built_by request ≡ None) × (verified_by request ≡ None)
     × (certified_by request ≡ None) × (searched_by request ≡ None)
 of_made_others (own (generate number count type)) of =
-    (values_idle declared_types (generate number count type), refl, refl, refl, refl)
+    (values_after_idle (generate number count type), refl, refl, refl, refl)
 of_made_others request of = absurd of
 
 -- ---- the six sets
@@ -108,6 +121,16 @@ module _ (texts_idle : TextsIdleElsewhere declared_types declared_texts)
     (sections_idle : SectionsIdleElsewhere declared_types declared_certificates)
     (places_idle : PlacesIdleElsewhere searched_by)
     (made_idle : MadeIdleElsewhere declared_types) where
+  certificates_after_idle : (request : Request) → verified_by request ≡ None
+      → IsIdleAt on_certificates_after request
+  certificates_after_idle request none =
+      idle passed_by on_certificates request (certificates_idle request none)
+
+  sections_after_idle : (request : Request) → certified_by request ≡ None
+      → IsIdleAt on_certified_after request
+  sections_after_idle request none =
+      idle passed_by on_certified request (sections_idle request none)
+
   module _ (outer_accounts : HaveAccountsOfFirst on_input on_made)
       (outer : PromiseAsFirst on_input on_made) where
     -- a part of those on the input is a part of all
@@ -132,8 +155,8 @@ module _ (texts_idle : TextsIdleElsewhere declared_types declared_texts)
           (first_part on_items on_places IsOf
           (λ request of. places_idle request (others request of).0) items_accounts items))
 
-      module _ (middle_accounts : HaveAccountsOfFirst on_others on_certified)
-          (middle : PromiseAsFirst on_others on_certified) where
+      module _ (middle_accounts : HaveAccountsOfFirst on_others on_certified_after)
+          (middle : PromiseAsFirst on_others on_certified_after) where
         -- and one of those that do not certify
         part_of_others : {A : Type 0} (c : Commands A) (IsOf : Request → Type 0)
             → ((request : Request) → IsOf request → (certified_by request ≡ None)
@@ -142,11 +165,11 @@ module _ (texts_idle : TextsIdleElsewhere declared_types declared_texts)
         part_of_others c IsOf others part =
             part_of_items c IsOf (λ request of. let o = others request of in (o.1, o.2))
             (part_of_part c on_others on_items IsOf part
-            (first_part on_others on_certified IsOf
-            (λ request of. sections_idle request (others request of).0) middle_accounts middle))
+            (first_part on_others on_certified_after IsOf
+            (λ request of. sections_after_idle request (others request of).0) middle_accounts middle))
 
-        module _ (inner_accounts : HaveAccountsOfFirst on_values_or_texts on_certificates)
-            (inner : PromiseAsFirst on_values_or_texts on_certificates) where
+        module _ (inner_accounts : HaveAccountsOfFirst on_values_or_texts on_certificates_after)
+            (inner : PromiseAsFirst on_values_or_texts on_certificates_after) where
           -- and one of those on values or texts
           part_of_all : {A : Type 0} (c : Commands A) (IsOf : Request → Type 0)
               → ((request : Request) → IsOf request
@@ -156,57 +179,57 @@ module _ (texts_idle : TextsIdleElsewhere declared_types declared_texts)
           part_of_all c IsOf others part =
               part_of_others c IsOf (λ request of. let o = others request of in (o.1, o.2, o.3))
               (part_of_part c on_values_or_texts on_others IsOf part
-              (first_part on_values_or_texts on_certificates IsOf
-              (λ request of. certificates_idle request (others request of).0)
+              (first_part on_values_or_texts on_certificates_after IsOf
+              (λ request of. certificates_after_idle request (others request of).0)
               inner_accounts inner))
 
-          pub values_part : HaveAccountsOfFirst on_values on_texts
-              → PromiseAsFirst on_values on_texts → IsPart on_values IsOfValues
+          pub values_part : HaveAccountsOfFirst on_values_after on_texts
+              → PromiseAsFirst on_values_after on_texts → IsPart on_values_after IsOfValues
           values_part accounts promise =
-              part_of_all on_values IsOfValues
+              part_of_all on_values_after IsOfValues
               (λ request of. let o = of_values_others request of in (o.1, o.2, o.3, o.4))
-              (first_part on_values on_texts IsOfValues
+              (first_part on_values_after on_texts IsOfValues
               (λ request of. texts_idle request (of_values_others request of).0)
               accounts promise)
 
-          pub texts_part : HaveAccountsOfSecond on_values on_texts
-              → PromiseAsSecond on_values on_texts → IsPart on_texts IsOfTexts
+          pub texts_part : HaveAccountsOfSecond on_values_after on_texts
+              → PromiseAsSecond on_values_after on_texts → IsPart on_texts IsOfTexts
           texts_part accounts promise =
               part_of_all on_texts IsOfTexts
               (λ request of. let o = of_texts_others request of in (o.1, o.2, o.3, o.4))
-              (second_part on_values on_texts IsOfTexts
+              (second_part on_values_after on_texts IsOfTexts
               (λ request of. (of_texts_others request of).0) accounts promise)
 
-        pub certificates_part : AreIdleTogether on_values on_texts
-            → HaveAccountsOfSecond on_values_or_texts on_certificates
-            → PromiseAsSecond on_values_or_texts on_certificates
-            → IsPart on_certificates IsOfCertificates
+        pub certificates_part : AreIdleTogether on_values_after on_texts
+            → HaveAccountsOfSecond on_values_or_texts on_certificates_after
+            → PromiseAsSecond on_values_or_texts on_certificates_after
+            → IsPart on_certificates_after IsOfCertificates
         certificates_part together accounts promise =
-            part_of_others on_certificates IsOfCertificates
+            part_of_others on_certificates_after IsOfCertificates
             (λ request of. let o = of_certificates_others request of in (o.2, o.3, o.4))
-            (second_part on_values_or_texts on_certificates IsOfCertificates
+            (second_part on_values_or_texts on_certificates_after IsOfCertificates
             (λ request of.
             let others = of_certificates_others request of in
             together request others.0 (texts_idle request others.1))
             accounts promise)
 
-      pub sections_part : AreIdleTogether on_values on_texts
-          → AreIdleTogether on_values_or_texts on_certificates
-          → HaveAccountsOfSecond on_others on_certified → PromiseAsSecond on_others on_certified
-          → IsPart on_certified IsOfSections
+      pub sections_part : AreIdleTogether on_values_after on_texts
+          → AreIdleTogether on_values_or_texts on_certificates_after
+          → HaveAccountsOfSecond on_others on_certified_after → PromiseAsSecond on_others on_certified_after
+          → IsPart on_certified_after IsOfSections
       sections_part inner together accounts promise =
-          part_of_items on_certified IsOfSections
+          part_of_items on_certified_after IsOfSections
           (λ request of. let o = of_sections_others request of in (o.3, o.4))
-          (second_part on_others on_certified IsOfSections
+          (second_part on_others on_certified_after IsOfSections
           (λ request of.
           let others = of_sections_others request of in
           together request (inner request others.0 (texts_idle request others.1))
-          (certificates_idle request others.2))
+          (certificates_after_idle request others.2))
           accounts promise)
 
-    pub places_part : AreIdleTogether on_values on_texts
-        → AreIdleTogether on_values_or_texts on_certificates
-        → AreIdleTogether on_others on_certified
+    pub places_part : AreIdleTogether on_values_after on_texts
+        → AreIdleTogether on_values_or_texts on_certificates_after
+        → AreIdleTogether on_others on_certified_after
         → HaveAccountsOfSecond on_items on_places → PromiseAsSecond on_items on_places
         → IsPart on_places IsOfPlaces
     places_part inner middle together accounts promise =
@@ -216,13 +239,13 @@ module _ (texts_idle : TextsIdleElsewhere declared_types declared_texts)
         let others = of_places_others request of in
         together request
         (middle request (inner request others.0 (texts_idle request others.1))
-        (certificates_idle request others.2))
-        (sections_idle request others.3))
+        (certificates_after_idle request others.2))
+        (sections_after_idle request others.3))
         accounts promise)
 
-  pub made_part : AreIdleTogether on_values on_texts
-      → AreIdleTogether on_values_or_texts on_certificates
-      → AreIdleTogether on_others on_certified → AreIdleTogether on_items on_places
+  pub made_part : AreIdleTogether on_values_after on_texts
+      → AreIdleTogether on_values_or_texts on_certificates_after
+      → AreIdleTogether on_others on_certified_after → AreIdleTogether on_items on_places
       → HaveAccountsOfSecond on_input on_made → PromiseAsSecond on_input on_made
       → IsPart on_made IsOfMade
   made_part inner middle outer together accounts promise =
@@ -232,8 +255,8 @@ module _ (texts_idle : TextsIdleElsewhere declared_types declared_texts)
       together request
       (outer request
       (middle request (inner request others.0 (texts_idle request others.1))
-      (certificates_idle request others.2))
-      (sections_idle request others.3))
+      (certificates_after_idle request others.2))
+      (sections_after_idle request others.3))
       (places_idle request others.4))
       accounts promise
 
@@ -250,8 +273,30 @@ pub all_account : {A : Type 0} (c : Commands A) (IsOf : Request → Type 0) → 
 all_account c IsOf part words call request asks of account =
     part.account words call (only_this IsOf words request asks of) account
 
+-- and where nothing is passed over, what all promise is promised by the set at once
+pub part_at_once : {A : Type 0} (c : Commands A) (IsOf : Request → Type 0)
+    → IsPart (skipping passed_by c) IsOf → (words : List (List ℕ)) (call : Call) (request : Request)
+    → Asks words request → IsOf request → (passed_by request).bytes ≡ 0
+    → Promises all_commands words call → Promises c words call
+part_at_once c IsOf part words call request asks of none all =
+    promises_at_once passed_by c words
+    (λ other asks'.
+    subst (λ r. (passed_by r).bytes ≡ 0) (one_request words request other asks asks') none)
+    call (part.promises words call (only_this IsOf words request asks of) all)
+
+-- of the one on values, also where each value is told of
+pub values_at_once : IsPart on_values_after IsOfValues
+    → (words : List (List ℕ)) (call : Call) (request : Request)
+    → Asks words request → IsOfValues request → (passed_by request).bytes ≡ 0
+    → picked_by request ≡ None → Promises all_commands words call → Promises on_values words call
+values_at_once part words call request asks of none each all =
+    promises_of_each picked_by on_values words
+    (λ other asks'.
+    subst (λ r. picked_by r ≡ None) (one_request words request other asks asks') each)
+    call (part_at_once on_values_picked IsOfValues part words call request asks of none all)
+
 -- files are wanted in two turns at most
-pub values_in_turns : WantsInTurns 2 on_values
+pub values_in_turns : WantsInTurns 2 on_values_after
 values_in_turns request files turn name (inl (first, w)) = omega (arith, first)
 values_in_turns request files turn name (inr (second, w)) = omega (arith, second)
 

@@ -37,7 +37,7 @@ use Rattle.om_promises.proofs.StreamLemmas.{value_or_tail}
 use Rattle.om_promises.proofs.LengthLemmas.{spelled_some}
 use Rattle.om_outcome.specs.RefusalText.{truncated_text}
 use Rattle.om_outcome.specs.Outcome as outcome
-use Rattle.om_outcome.specs.Outcome.{Said, Says, SayFirst, StopsAt, Finishes as FinishesRun, nothing_said, says, not_two_values, out_of_memory, comparison, all_well, compares}
+use Rattle.om_outcome.specs.Outcome.{Said, Says, AllSay, SayFirst, StopsAt, Finishes as FinishesRun, nothing_said, says, not_two_values, out_of_memory, comparison, all_well, compares}
 use Rattle.om_session.specs.declared.verdict.Speech.{Speech}
 use Rattle.om_session.specs.declared.verdict.Speech.TheVariants as speeches
 use Rattle.om_session.specs.declared.values.Values.{Values}
@@ -55,7 +55,7 @@ use Rattle.om_read.specs.Reading.{RefusedIn}
 use Rattle.om_read.proofs.ReadingLemmas.{unless_memory}
 use Rattle.om_session.specs.declared.values.Job.{Job}
 use Rattle.om_session.specs.declared.values.Job.TheVariants as jobs
-use Rattle.om_session.specs.Values.{IsStopOf, IsReadyJob, IsFull, MayTake, AreValues, IsKept, HasRead, IsValueRead, PutsNext, PutsComparison, Compares, EndsScript, work_of, task_of, word_limit}
+use Rattle.om_session.specs.Values.{IsStopOf, IsReadyJob, IsFull, MayTake, AreValues, IsKept, HasRead, IsValueRead, PutsNext, last_well, PutsComparison, Compares, EndsScript, work_of, task_of, word_limit}
 use Rattle.om_session.proofs.EarlierLemmas.{none_needed}
 use Rattle.om_promises.proofs.PutLemmas.{puts_nothing}
 use Rattle.om_promises.proofs.ValueLemmas.{not_whole, nothing_front, first_none, first_more, first_after, silent, and_true, all_well-snoc}
@@ -98,7 +98,7 @@ holds w taken said values h =
 
 -- a value stays one when bytes follow
 pub values_stay : (w : Job) → ItemsStay (commands declared_types) (task_of w)
-values_stay w = item_stays declared_types (task_of w)
+values_stay w items = item_stays declared_types (task_of w)
 
 -- no value was read
 begins_kept : (w : Job) (kept : List Value) (earlier : List Earlier) → kept ≡ [] → earlier ≡ [] → IsKept w [] kept earlier
@@ -111,8 +111,8 @@ begins_kept (jobs.Edit e most) kept earlier none no_earlier = record {
 }
 begins_kept (jobs.Compare most) kept earlier none no_earlier = (subst (λ k. AllZip IsValueOf k []) (sym none) tt, omega arith)
 
-pub begins : (w : Job) (values : Values) → IsReadyJob w → Leads (word_limit w) [] values.reader → values.count ≡ 0 → values.well ≡ true → values.kept.items ≡ [] → values.earlier.items ≡ [] → HasRead w values [] []
-begins w values ready leads counted well none no_earlier = record {
+pub begins : (w : Job) (values : Values) → IsReadyJob w → Leads (word_limit w) [] values.reader → values.count ≡ 0 → values.well ≡ true → values.last ≡ true → values.kept.items ≡ [] → values.earlier.items ≡ [] → HasRead w values [] []
+begins w values ready leads counted well last none no_earlier = record {
   ready = ready;
   trees = [];
   front = [];
@@ -122,6 +122,7 @@ begins w values ready leads counted well none no_earlier = record {
   leads = leads;
   counted = counted;
   well = well;
+  last = last;
   kept = begins_kept w values.kept.items values.earlier.items none no_earlier;
 }
 
@@ -332,6 +333,7 @@ module _ (w : Job) (taken : List ℕ) (said : List Said) (values : Values) (h : 
         leads = f.leads;
         counted = h.counted;
         well = h.well;
+        last = h.last;
         kept = h.kept;
       })
 
@@ -341,12 +343,27 @@ pub value_said : (w : Job) (taken : List ℕ) (said : List Said) (values : Value
 value_said w taken said values v tree spelled next it_says =
     first_more declared_types (task_of w) taken v.trees said v.whole [] tree next (subst (λ b. SayFirst declared_types (task_of w) taken v.trees said b) (sym (append-nil v.whole)) v.first) spelled it_says
 
+-- something is said of each value
+as_many : (w : Job) (earlier trees : List Tree) (said : List Said) → AllSay declared_types (work_of w) earlier trees said → length trees ≡ length said
+as_many w earlier [] [] all = refl
+as_many w earlier [] (s ∷ said) all = absurd all
+as_many w earlier (tree ∷ trees) [] all = absurd all
+as_many w earlier (tree ∷ trees) (s ∷ said) all = let more = as_many w (earlier ++ tree ∷ []) trees said all.1 in omega (arith, more)
+
+pub said_count : (w : Job) (taken : List ℕ) (said : List Said) (values : Values) → HasRead w values taken said → values.count ≡ length said
+said_count w taken said values h = h.counted ∙ as_many w [] h.trees said h.first.all_say
+
+-- what is said of one more is said last
+pub last_well-snoc : (well : Bool) (said : List Said) (next : Said) → last_well well (said ++ next ∷ []) ≡ next.well
+last_well-snoc well [] next = refl
+last_well-snoc well (s ∷ said) next = last_well-snoc s.well said next
+
 -- the reader waits for the next one
 pub value_put : (w : Job) (taken : List ℕ) (said : List Said) (values : Values) (v : IsValueRead w values taken said) (tree : Tree) → SpelledUnder (word_limit w) v.whole tree
-    → (next : Said) → Says declared_types (work_of w) v.trees tree next → (reader : Reader) → Leads (word_limit w) [] reader → (well : Bool) → well ≡ (values.well && next.well)
+    → (next : Said) → Says declared_types (work_of w) v.trees tree next → (reader : Reader) → Leads (word_limit w) [] reader → (well : Bool) → well ≡ (values.well && next.well) → (last : Bool) → last ≡ next.well
     → (kept : Vec Value Global) (earlier : Vec Earlier Global) → IsKept w (v.trees ++ tree ∷ []) kept.items earlier.items
-    → HasRead w (record { reader = reader; well = well; count = values.count + 1; kept = kept; earlier = earlier }) taken (said ++ next ∷ [])
-value_put w taken said values v tree spelled next it_says reader leads well is_well kept earlier are = record {
+    → HasRead w (record { reader = reader; well = well; last = last; count = values.count + 1; kept = kept; earlier = earlier }) taken (said ++ next ∷ [])
+value_put w taken said values v tree spelled next it_says reader leads well is_well last is_last kept earlier are = record {
   ready = v.ready;
   trees = v.trees ++ tree ∷ [];
   front = [];
@@ -356,6 +373,7 @@ value_put w taken said values v tree spelled next it_says reader leads well is_w
   leads = leads;
   counted = ap (λ n. n + 1) v.counted ∙ sym (length-append v.trees (tree ∷ []));
   well = is_well ∙ (ap (λ w. w && next.well) v.well ∙ sym (all_well-snoc said next));
+  last = is_last ∙ sym (last_well-snoc true said next);
   kept = are;
 }
 
@@ -368,9 +386,9 @@ zip_push (v ∷ kept) (t ∷ trees) value tree are is = (are.0, zip_push kept tr
 -- it is kept
 pub value_kept : (most : ℕ) (taken : List ℕ) (said : List Said) (values : Values) (v : IsValueRead (jobs.Compare most) values taken said) (value : Value) (f : Finishes most v.whole value)
     → (kept : Vec Value Global) → kept.items ≡ values.kept.items ++ value ∷ [] → (reader : Reader) → Leads most [] reader
-    → HasRead (jobs.Compare most) (record { reader = reader; well = values.well; count = values.count + 1; kept = kept; earlier = values.earlier }) taken (said ++ nothing_said ∷ [])
+    → HasRead (jobs.Compare most) (record { reader = reader; well = values.well; last = true; count = values.count + 1; kept = kept; earlier = values.earlier }) taken (said ++ nothing_said ∷ [])
 value_kept most taken said values v value f kept same reader leads =
-    value_put (jobs.Compare most) taken said values v f.tree f.spelled nothing_said (v.may, refl) reader leads values.well (sym (and_true values.well)) kept values.earlier
+    value_put (jobs.Compare most) taken said values v f.tree f.spelled nothing_said (v.may, refl) reader leads values.well (sym (and_true values.well)) true refl kept values.earlier
     (let few = v.may in
     let size = length-append v.trees (f.tree ∷ []) in
     (subst (λ k. AllZip IsValueOf k (v.trees ++ f.tree ∷ [])) (sym same) (zip_push values.kept.items v.trees value f.tree v.kept.0 f.is_value), omega (arith, few, size)))
@@ -512,11 +530,11 @@ module _ (e : Edits) (most : ℕ) (taken : List ℕ) (said : List Said) (values 
       → EditsAll e.requested.now v.kept.others values.count e.script.now.lines value new
       → (reader : Reader) → Leads most [] reader → (earlier : Vec Earlier Global) → AreMade (all_made new) earlier.items → AreEarlier e.script.now.lines (values.count + 1) earlier.items
       → (next : Said)
-      × HasRead (jobs.Edit e most) (record { reader = reader; well = values.well; count = values.count + 1; kept = values.kept; earlier = earlier }) taken (said ++ next ∷ [])
+      × HasRead (jobs.Edit e most) (record { reader = reader; well = values.well; last = true; count = values.count + 1; kept = values.kept; earlier = earlier }) taken (said ++ next ∷ [])
       × Puts out next.text
   edited_put new out (bytes, it, put) all reader leads earlier are needed = (
     edited_said bytes,
-    value_put (jobs.Edit e most) taken said values v f.tree f.spelled (edited_said bytes) (answered (Ok bytes) it, refl) reader leads values.well (sym (and_true values.well)) values.kept earlier
+    value_put (jobs.Edit e most) taken said values v f.tree f.spelled (edited_said bytes) (answered (Ok bytes) it, refl) reader leads values.well (sym (and_true values.well)) true refl values.kept earlier
         (record {
           others = all_made new;
           done = made_last new all;

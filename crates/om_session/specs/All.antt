@@ -1,6 +1,6 @@
 -- All commands as one set: those on values, and each command that is a set of its own. A later set
 -- is added here.
-use Rattle.std.specs.Prelude.{ℕ, ◌⊎◌, List}
+use Rattle.std.specs.Prelude.{ℕ, ◌⊎◌, List, Option}
 use Rattle.om_section.specs.declared.section.Section.{Section}
 use Rattle.om_outcome.specs.CommandLine.{certify, scan, searched_by}
 use Rattle.om_outcome.specs.Outcome.{Request, own, build, generate, verify, Asks, Task}
@@ -18,13 +18,24 @@ use Rattle.om_certification.specs.Certification.{Certification}
 use Rattle.om_searching.specs.Searching.{searching}
 use Rattle.om_build.specs.Lines.{declared_texts}
 use Rattle.om_declared.specs.Language.{TypeOver, declared_types}
-pub use Rattle.om_verifier.specs.Reading.{on_certificates}
-pub use Rattle.om_certifier.specs.Certified.{on_certified}
+use Rattle.om_passing.specs.Asked.{passed_by}
+use Rattle.om_passing.specs.Skipping.{Passed, skipping}
+use Rattle.om_picking.specs.Asked.{picked_by}
+use Rattle.om_picking.specs.Picking.{picking}
+pub use Rattle.om_verifier.specs.Reading.{on_certificates, on_certificates_after}
+pub use Rattle.om_certifier.specs.Certified.{on_certified, on_certified_after}
 
--- the commands on values, the one on texts, the one on where values stand, and the one on a value
--- that is made from a number
+-- the commands on values, also of one value alone, where the words ask for it, and after the bytes
+-- that they ask to pass over; the one on texts, the one on where values stand, and the one on a
+-- value that is made from a number
 abbrev pub on_values : Commands (Task TypeOver ScriptLine)
 on_values = commands declared_types
+
+abbrev pub on_values_picked : Commands (Option ℕ × Task TypeOver ScriptLine)
+on_values_picked = picking picked_by on_values
+
+abbrev pub on_values_after : Commands (Passed × (Option ℕ × Task TypeOver ScriptLine))
+on_values_after = skipping passed_by on_values_picked
 
 abbrev pub on_texts : Commands TypeOver
 on_texts = building declared_types declared_texts
@@ -37,24 +48,24 @@ on_made = generation declared_types
 
 -- what may be done with values or texts
 abbrev pub ActOnValuesOrTexts : Type 0
-ActOnValuesOrTexts = Task TypeOver ScriptLine ⊎ TypeOver
+ActOnValuesOrTexts = (Passed × (Option ℕ × Task TypeOver ScriptLine)) ⊎ TypeOver
 
 abbrev pub on_values_or_texts : Commands ActOnValuesOrTexts
-on_values_or_texts = choice on_values on_texts
+on_values_or_texts = choice on_values_after on_texts
 
 -- what may be done with the values or lines of the input, but to certify them
 abbrev pub ActOnOthers : Type 0
-ActOnOthers = ActOnValuesOrTexts ⊎ Verification TypeOver Section
+ActOnOthers = ActOnValuesOrTexts ⊎ (Passed × Verification TypeOver Section)
 
 abbrev pub on_others : Commands ActOnOthers
-on_others = choice on_values_or_texts on_certificates
+on_others = choice on_values_or_texts on_certificates_after
 
 -- what may be done with the values or lines of the input
 abbrev pub ActOnItems : Type 0
-ActOnItems = ActOnOthers ⊎ Certification TypeOver
+ActOnItems = ActOnOthers ⊎ (Passed × Certification TypeOver)
 
 abbrev pub on_items : Commands ActOnItems
-on_items = choice on_others on_certified
+on_items = choice on_others on_certified_after
 
 -- what may be done with the input
 abbrev pub ActOnInput : Type 0
@@ -77,15 +88,15 @@ IsOfValues (own request) = ⊥
 IsOfValues request = Unit {0}
 
 abbrev pub IsOfTexts : Request → Type 0
-IsOfTexts (own (build file type)) = Unit {0}
+IsOfTexts (own (build file type lines)) = Unit {0}
 IsOfTexts request = ⊥
 
 abbrev pub IsOfCertificates : Request → Type 0
-IsOfCertificates (own (verify file type certificate limit)) = Unit {0}
+IsOfCertificates (own (verify file type certificate lines reading)) = Unit {0}
 IsOfCertificates request = ⊥
 
 abbrev pub IsOfSections : Request → Type 0
-IsOfSections (own (certify file type limit)) = Unit {0}
+IsOfSections (own (certify file type lines reading)) = Unit {0}
 IsOfSections request = ⊥
 
 abbrev pub IsOfPlaces : Request → Type 0

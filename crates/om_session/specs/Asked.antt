@@ -1,6 +1,7 @@
 -- The words that ask for the work, where the type, and the script, are read.
 use Rattle.std.specs.Prelude.{ℕ, Bool, List, Ok}
-use Rattle.om_outcome.specs.Outcome.{Found, Saying}
+use Rattle.om_outcome.specs.declared.reading.Reading.{Reading}
+use Rattle.om_outcome.specs.Outcome.{Found, AskedType, Saying}
 use Rattle.om_edge.specs.State.{FilesState, Change, change}
 use Rattle.om_path.specs.declared.edits.Script.{Script}
 use Rattle.om_declared.specs.declared.types.Requested.{Requested}
@@ -9,21 +10,21 @@ use Rattle.om_session.specs.Telling.{AsksToTell, AsksToEdit}
 use Rattle.om_declared.specs.Types.{GivesType, GivesScript}
 
 -- FILE and TYPE gave this type, and this is told of the values
-pub record AsksToSay (words : List (List ℕ)) (r : Requested) (saying : Saying) (limit : ℕ)
-    (files : Change FilesState) : Type 0 where
+pub record AsksToSay (words : List (List ℕ)) (r : Requested) (saying : Saying)
+    (reading : Reading) (files : Change FilesState) : Type 0 where
   pub file : List ℕ
-  pub type : List ℕ
-  pub asks : AsksToTell words file type saying limit
+  pub type : AskedType
+  pub asks : AsksToTell words file type saying reading
   pub found : Found
   pub fetched : Fetched files file found
   pub gives : GivesType file type found (Ok r)
 
 -- they did, and SCRIPT gave these lines
 pub record AsksForLines (words : List (List ℕ)) (r : Requested) (script : Script) (compat : Bool)
-    (limit : ℕ) (files : Change FilesState) : Type 0 where
+    (reading : Reading) (files : Change FilesState) : Type 0 where
   pub name : List ℕ
   pub between : FilesState
-  pub asks : AsksToEdit words r name compat limit (change files.before between)
+  pub asks : AsksToEdit words r name compat reading (change files.before between)
   pub found : Found
   pub fetched : Fetched (change between files.after) name found
-  pub gives : GivesScript name found (Ok script)
+  pub gives : GivesScript r.lines name found (Ok script)

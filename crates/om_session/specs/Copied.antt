@@ -8,7 +8,7 @@ use Rattle.om_format.specs.Compat.{too_large_for_32}
 use Rattle.om_format.specs.Spelled.{SpelledUnder}
 use Rattle.om_format.specs.Tree.{Tree, root, objects_of}
 use Rattle.om_outcome.specs.declared.status.Status.TheVariants.{Well, Memory}
-use Rattle.om_outcome.specs.Outcome.{edit, Asks, ReadsTypeOf, ReadsScriptOf, fetches_of}
+use Rattle.om_outcome.specs.Outcome.{all_under, asked_type, edit, Asks, ReadsTypeOf, ReadsScriptOf, fetches_of}
 use Rattle.om_edge.specs.Files.{File, contents_of}
 use Rattle.om_edge.specs.Sink.{Puts}
 use Rattle.om_promises.specs.Call.{Call}
@@ -22,19 +22,21 @@ pub record IsCanonical (t : TypeOver) (compat : Bool) (limit : ℕ) (tree : Tree
   pub has : HasType (declared_shapes t.decls) (objects_of tree 0) (root tree 0) t.type
   pub fits : compat ≡ true → too_large_for_32 tree ≡ None
 
--- the words ask to edit by a SCRIPT that has no line, FILE and TYPE are accepted, and the input is
--- canonical values
+-- the words ask to edit all values by a SCRIPT that has no line, FILE and TYPE are accepted, and
+-- the input is canonical values
 pub record IsLeftAlone (words : List (List ℕ)) (input : List ℕ) (files : List File) : Type 0 where
   pub file : List ℕ
   pub type : List ℕ
   pub script : List ℕ
   pub compat : Bool
+  pub lines : Bool
   pub limit : ℕ
-  pub asks : Asks words (edit file type script compat limit)
+  pub asks : Asks words (edit file type script compat lines (all_under limit))
   pub type_is : TypeOver
-  pub typed : ReadsTypeOf declared_types (fetches_of (contents_of files)).file (file, type)
-      (Ok type_is)
-  pub no_line : ReadsScriptOf declared_types (fetches_of (contents_of files)).script script (Ok [])
+  pub typed : ReadsTypeOf declared_types (fetches_of (contents_of files)).file
+      (file, asked_type type lines) (Ok type_is)
+  pub no_line : ReadsScriptOf declared_types lines (fetches_of (contents_of files)).script script
+      (Ok [])
   pub trees : List Tree
   pub bytes : input ≡ concat (map canon trees)
   pub canonical : AllByRecursion (IsCanonical type_is compat limit) trees

@@ -11,6 +11,7 @@ use Rattle.om_types.specs.TypeText.{type_text}
 use Rattle.om_edit.specs.EditedLines.{AreEdited}
 use Rattle.om_edit.specs.EditedValues.{Edited}
 use Rattle.om_edit.specs.Grafts.{Other}
+use Rattle.om_lines.specs.Lines.{place_on}
 use Rattle.om_edit.specs.Reasons.{Reason, reason_text}
 use Rattle.om_fault.specs.Text.{text_at}
 use Rattle.om_edge.specs.State.{ByteState, Change}
@@ -48,7 +49,8 @@ pub record EditsOn (r : Requested) (others : List Other) (k : ℕ) (line : Scrip
 abbrev pub IsReasonStop : Requested → ℕ → Option (Reason ℕ) → Stop → Type 0
 IsReasonStop r number None stop = ⊥
 IsReasonStop r number (Some reason) stop =
-    stop_of stop ≡ script_line number (reason_text (text_at r.table) reason)
+    stop_of stop
+    ≡ script_line number (reason_text (text_at r.table) (place_on r.lines number) reason)
 
 -- it is refused, whatever lines come after it
 abbrev pub IsRefusedLine : Requested → List Other → ℕ → ScriptLine → Value → Stop → Type 0
@@ -56,7 +58,8 @@ IsRefusedLine r others k line old stop =
     (reason : Reason Ty)
     × ((rest : List ScriptLine)
     → Edit r others (lines_of_value k (line ∷ rest)) old.heap old.root (Err (line.number, reason)))
-    × (stop_of stop ≡ script_line line.number (reason_text type_text reason))
+    × (stop_of stop
+    ≡ script_line line.number (reason_text type_text (place_on r.lines line.number) reason))
 
 abbrev pub EditsLine : {U : Type 0} → Requested → List Other → ℕ → ScriptLine → Value → Value
     → Result U Halt → Type 0
@@ -70,7 +73,7 @@ abbrev pub AreRefusedLines : Requested → List Other → ℕ → List ScriptLin
 AreRefusedLines r others k lines old stop =
     (number : ℕ) × (reason : Reason Ty)
     × Edit r others (lines_of_value k lines) old.heap old.root (Err (number, reason))
-    × (stop_of stop ≡ script_line number (reason_text type_text reason))
+    × (stop_of stop ≡ script_line number (reason_text type_text (place_on r.lines number) reason))
 
 -- the lines of value k made this of it
 pub record EditsAll (r : Requested) (others : List Other) (k : ℕ) (lines : List ScriptLine)

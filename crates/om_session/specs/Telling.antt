@@ -1,22 +1,32 @@
 -- The words that ask to tell something of the values at a FILE and a TYPE, or to edit them by a
 -- SCRIPT.
-use Rattle.std.specs.Prelude.{ℕ, ◌≡◌, Bool, List, Some, Result, Ok}
-use Rattle.om_outcome.specs.Outcome.{Found, Fetches, Stop, Saying, Work, Request, edit, Asks, typed_by, limit_of, TellsAt, FindsWork}
+use Rattle.std.specs.Prelude.{ℕ, ◌≡◌, Bool, false, List, Some, Result, Ok}
+use Rattle.om_outcome.specs.declared.reading.Reading.{Reading}
+use Rattle.om_outcome.specs.Outcome.{Found, Fetches, AskedType, asked_type, Stop, Saying, Work, Request, edit, Asks, typed_by, limit_of, TellsAt, FindsWork}
 use Rattle.om_path.specs.declared.edits.ScriptLine.{ScriptLine}
 use Rattle.om_declared.specs.Language.{TypeOver, declared_types}
 use Rattle.om_edge.specs.State.{FilesState, Change}
 use Rattle.om_declared.specs.declared.types.Requested.{Requested}
+use Rattle.om_passing.specs.Asked.{passed_by}
+use Rattle.om_picking.specs.Asked.{picked_by}
+use Rattle.om_passing.specs.Skipping.{Passed}
 use Rattle.om_promises.specs.Given.{Fetched}
 use Rattle.om_commands.specs.Tasks.{HasPath}
 use Rattle.om_declared.specs.Types.{GivesType}
 
+-- nothing that is passed over is put
+abbrev pub passed_in : Reading → Passed
+passed_in reading = record { bytes = reading.skip; copied = false }
+
 -- PATH, if there, is a path, and what FILE and TYPE give is what is told
-pub record AsksToTell (words : List (List ℕ)) (name type : List ℕ) (saying : Saying) (limit : ℕ)
-    : Type 0 where
+pub record AsksToTell (words : List (List ℕ)) (name : List ℕ) (type : AskedType) (saying : Saying)
+    (reading : Reading) : Type 0 where
   pub request : Request
   pub asks : Asks words request
   pub typed : typed_by request ≡ Some (name, type)
-  pub limited : limit_of request ≡ limit
+  pub limited : limit_of request ≡ reading.limit
+  pub passes : passed_by request ≡ passed_in reading
+  pub picks : picked_by request ≡ reading.only
   pub has_path : HasPath declared_types request
   pub finds : (found : Fetches) (result : Result (Work TypeOver ScriptLine) Stop)
       → TellsAt declared_types found.file (name, type) saying result
@@ -24,10 +34,11 @@ pub record AsksToTell (words : List (List ℕ)) (name type : List ℕ) (saying :
 
 -- FILE and TYPE gave this type, and SCRIPT comes next
 pub record AsksToEdit (words : List (List ℕ)) (r : Requested) (script : List ℕ) (compat : Bool)
-    (limit : ℕ) (files : Change FilesState) : Type 0 where
+    (reading : Reading) (files : Change FilesState) : Type 0 where
   pub file : List ℕ
   pub type : List ℕ
-  pub asks : Asks words (edit file type script compat limit)
+  pub lines : Bool
+  pub asks : Asks words (edit file type script compat lines reading)
   pub found : Found
   pub fetched : Fetched files file found
-  pub gives : GivesType file type found (Ok r)
+  pub gives : GivesType file (asked_type type lines) found (Ok r)

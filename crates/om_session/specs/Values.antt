@@ -1,5 +1,5 @@
 -- What is said of the values of the input, as their bytes come.
-use Rattle.std.specs.Prelude.{ℕ, ◌<◌, ◌≤◌, ◌≡◌, ◌≢◌, ◌⊎◌, Bool, List, [], ◌∷◌, ◌++◌, length, Result, Ok, Err, All}
+use Rattle.std.specs.Prelude.{ℕ, ◌<◌, ◌≤◌, ◌≡◌, ◌≢◌, ◌⊎◌, Bool, true, List, [], ◌∷◌, ◌++◌, length, Result, Ok, Err, All}
 use Rattle.std.specs.List.{AllZip}
 use Rattle.om_model.specs.declared.out_of_memory.Memory.{Memory}
 use Rattle.om_model.specs.declared.refusal.ReadRefusal.{ReadRefusal}
@@ -91,6 +91,11 @@ IsKept (jobs.Edit e limit) trees kept earlier = HaveMade e trees earlier
 IsKept (jobs.Compare limit) trees kept earlier =
     AllZip IsValueOf kept trees × (length trees ≤ 2)
 
+-- whether nothing is wrong with what is said last, where something is said
+abbrev pub last_well : Bool → List Said → Bool
+last_well well [] = well
+last_well well (said ∷ more) = last_well said.well more
+
 -- Of these bytes the reader has taken what comes after the values, a front of the next one, and
 -- nothing stops the run; this is said of the values.
 pub record HasRead (job : Job) (values : Values) (taken : List ℕ) (said : List Said) : Type 0 where
@@ -104,6 +109,7 @@ pub record HasRead (job : Job) (values : Values) (taken : List ℕ) (said : List
   pub leads : Leads (word_limit job) front values.reader
   pub counted : values.count ≡ length trees
   pub well : values.well ≡ all_well said
+  pub last : values.last ≡ last_well true said
   pub kept : IsKept job trees values.kept.items values.earlier.items
 
 -- The same where the reader has taken all of the next one.

@@ -39,19 +39,20 @@ pub fn build<S: Source, O: Opener, K: Sink, E: Sink>(
     alloc: Global,
     file: &str,
     type_text: &str,
+    lines: bool,
     input: &mut S,
     files: &mut O,
     out: &mut K,
     err: &mut E,
 ) -> Status
-    ensures { (words : List (List ℕ)) → Asks words (own (build_of file.now type_text.now))
+    ensures { (words : List (List ℕ)) → Asks words (own (build_of file.now type_text.now lines))
         → Account on_texts words
         (call (change (S.state input.old) (S.state input.new))
         (change (O.state files.old) (O.state files.new))
         (change (K.state out.old) (K.state out.new))
         (change (E.state err.old) (E.state err.new)) result) }
 {
-    match find_type(alloc, files, file, type_text) {
+    match find_type(alloc, files, file, type_text, lines) {
         Ok(requested) => build_over(alloc, requested, input, out, err),
         Err(stop) => report_stop(alloc, err, &stop),
     }

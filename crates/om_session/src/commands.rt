@@ -4,14 +4,15 @@
 //! of a call.
 
 ghost use Rattle.om_causes.specs.Causes.{Causes as CausesBy};
-ghost use Rattle.om_commands.specs.Tasks.{commands};
-ghost use Rattle.om_meanings.specs.Causes.{Causes};
+ghost use Rattle.om_meanings.specs.Tables.{values_tables};
+ghost use Rattle.om_passing.specs.Tables.{skipping_tables};
+ghost use Rattle.om_picking.specs.Tables.{picking_tables};
 ghost use Rattle.om_promises.specs.Causes.{OutsideCauses};
 ghost use Rattle.om_promises.specs.CommandLaws.{HaveOneOutcome, ArePromised, Follow};
 ghost use Rattle.om_promises.specs.Lawful.{AreLawful, AreInTurns};
 ghost use Rattle.om_declared.specs.Language.{declared_types};
 ghost use Rattle.om_outcome.specs.CommandLine.{searched_by};
-ghost use Rattle.om_session.specs.All.{on_values, on_texts, on_made, on_certificates, on_certified, on_places, all_commands, IsOfValues, IsOfTexts, IsOfMade, IsOfCertificates, IsOfSections, IsOfPlaces, IsPart};
+ghost use Rattle.om_session.specs.All.{on_values, on_values_after, on_texts, on_made, on_certificates_after, on_certified_after, on_places, all_commands, IsOfValues, IsOfTexts, IsOfMade, IsOfCertificates, IsOfSections, IsOfPlaces, IsPart};
 ghost use Rattle.om_build.specs.Lines.{declared_texts};
 ghost use Rattle.om_texts.specs.Meanings.{texts_tables};
 ghost use Rattle.om_generation.specs.Meanings.{Causes as CausesOfMade};
@@ -31,8 +32,8 @@ use om_apart::laws::{
 };
 use om_build::laws::{DeclaredTexts, declared_texts_are_read_once};
 use om_certification::laws::{
-    OnCertified, causes_of_sections, certifying_is_idle_elsewhere, certifying_is_lawful,
-    certifying_takes_turns,
+    OnCertified, certifying_is_idle_elsewhere, certifying_is_lawful, certifying_takes_turns,
+    sections_have_meanings,
 };
 use om_certifier::laws::{DeclaredCertificates, declared_certificates_are_one};
 use om_choice::laws::{
@@ -45,7 +46,15 @@ use om_generation::laws::{
     OnMade, causes_of_generation, generation_is_idle_elsewhere, generation_is_lawful,
     generation_takes_turns,
 };
-use om_meanings::laws::causes_of_statuses;
+use om_meanings::laws::{MeantValues, values_have_meanings};
+use om_passing::laws::{
+    ByWords, Skipping, causes_after_skipping, others_stand_apart, skipping_is_lawful,
+    skipping_stands_apart, skipping_takes_turns,
+};
+use om_picking::laws::{
+    OneByWords, Picking, picking_has_meanings, picking_is_lawful, picking_stands_apart,
+    picking_takes_turns,
+};
 use om_promises::laws::{files_in_turns, lawful_commands, promised, promises_of_commands};
 use om_searching::laws::{
     OnStretches, Searches, causes_of_searching, searching_is_idle_elsewhere, searching_is_lawful,
@@ -55,7 +64,7 @@ use om_texts::laws::{
     OnTexts, building_is_lawful, building_stands_apart, building_takes_turns, causes_of_texts,
 };
 use om_verification::laws::{
-    OnCertificates, causes_of_certificates, verifying_is_idle_elsewhere, verifying_is_lawful,
+    OnCertificates, certificates_have_meanings, verifying_is_idle_elsewhere, verifying_is_lawful,
     verifying_takes_turns,
 };
 use om_verifier::laws::{DeclaredSections, declared_sections_are_read_once};
@@ -67,15 +76,23 @@ impl Searches for Scans {
     ghost limit_by = { searched_by };
 }
 
-type Values = OnValues<DeclaredTypes>;
+type EachValue = OnValues<DeclaredTypes>;
+
+type ValuesAtOnce = Picking<OneByWords, EachValue>;
+
+type Values = Skipping<ByWords, ValuesAtOnce>;
 
 type Texts = OnTexts<DeclaredTexts>;
 
 type Made = OnMade<DeclaredTypes>;
 
-type Certificates = OnCertificates<DeclaredSections>;
+type CertificatesAtOnce = OnCertificates<DeclaredSections>;
 
-type Sections = OnCertified<DeclaredCertificates>;
+type Certificates = Skipping<ByWords, CertificatesAtOnce>;
+
+type SectionsAtOnce = OnCertified<DeclaredCertificates>;
+
+type Sections = Skipping<ByWords, SectionsAtOnce>;
 
 type Places = OnStretches<Scans>;
 
@@ -100,30 +117,58 @@ pub fn all_commands_are_lawful()
     declared_certificates_are_one();
     commands_are_lawful::<DeclaredTypes>();
     commands_take_turns::<DeclaredTypes>();
+    picking_is_lawful::<OneByWords, EachValue>();
+    picking_takes_turns::<OneByWords, EachValue>();
+    skipping_is_lawful::<ByWords, ValuesAtOnce>();
+    skipping_takes_turns::<ByWords, ValuesAtOnce>();
     building_is_lawful::<DeclaredTexts>();
     building_takes_turns::<DeclaredTexts>();
     building_stands_apart::<DeclaredTexts>();
+    picking_stands_apart::<OneByWords, EachValue, Texts>();
+    skipping_stands_apart::<ByWords, ValuesAtOnce, Texts>();
     verifying_is_lawful::<DeclaredSections>();
     verifying_takes_turns::<DeclaredSections>();
+    skipping_is_lawful::<ByWords, CertificatesAtOnce>();
+    skipping_takes_turns::<ByWords, CertificatesAtOnce>();
     certificates_stand_apart::<DeclaredSections>();
+    picking_stands_apart::<OneByWords, EachValue, CertificatesAtOnce>();
+    skipping_stands_apart::<ByWords, ValuesAtOnce, CertificatesAtOnce>();
+    others_stand_apart::<ByWords, CertificatesAtOnce, Values>();
     certificates_stand_apart_from_texts::<DeclaredTexts, DeclaredSections>();
+    others_stand_apart::<ByWords, CertificatesAtOnce, Texts>();
     certificates_stand_apart_from_made::<DeclaredSections, DeclaredTypes>();
+    skipping_stands_apart::<ByWords, CertificatesAtOnce, Made>();
     certifying_is_lawful::<DeclaredCertificates>();
     certifying_takes_turns::<DeclaredCertificates>();
+    skipping_is_lawful::<ByWords, SectionsAtOnce>();
+    skipping_takes_turns::<ByWords, SectionsAtOnce>();
     sections_stand_apart::<DeclaredCertificates>();
+    picking_stands_apart::<OneByWords, EachValue, SectionsAtOnce>();
+    skipping_stands_apart::<ByWords, ValuesAtOnce, SectionsAtOnce>();
+    others_stand_apart::<ByWords, SectionsAtOnce, Values>();
     sections_stand_apart_from_texts::<DeclaredTexts, DeclaredCertificates>();
+    others_stand_apart::<ByWords, SectionsAtOnce, Texts>();
     sections_stand_apart_from_certificates::<DeclaredSections, DeclaredCertificates>();
+    skipping_stands_apart::<ByWords, CertificatesAtOnce, SectionsAtOnce>();
+    others_stand_apart::<ByWords, SectionsAtOnce, Certificates>();
     sections_stand_apart_from_made::<DeclaredCertificates, DeclaredTypes>();
+    skipping_stands_apart::<ByWords, SectionsAtOnce, Made>();
     searching_is_lawful::<Scans>();
     searching_takes_turns::<Scans>();
     searches_stand_apart::<DeclaredTypes>();
+    picking_stands_apart::<OneByWords, EachValue, Places>();
+    skipping_stands_apart::<ByWords, ValuesAtOnce, Places>();
     searches_stand_apart_from_texts::<DeclaredTexts>();
     searches_stand_apart_from_certificates::<DeclaredSections>();
+    skipping_stands_apart::<ByWords, CertificatesAtOnce, Places>();
     searches_stand_apart_from_sections::<DeclaredCertificates>();
+    skipping_stands_apart::<ByWords, SectionsAtOnce, Places>();
     searches_stand_apart_from_made::<DeclaredTypes>();
     generation_is_lawful::<DeclaredTypes>();
     generation_takes_turns::<DeclaredTypes>();
     made_stands_apart::<DeclaredTypes>();
+    picking_stands_apart::<OneByWords, EachValue, Made>();
+    skipping_stands_apart::<ByWords, ValuesAtOnce, Made>();
     made_stands_apart_from_texts::<DeclaredTexts, DeclaredTypes>();
     choices_are_lawful::<Values, Texts>();
     choices_take_turns::<Values, Texts>();
@@ -166,7 +211,7 @@ pub fn all_commands_have_one_outcome()
     lawful_commands::<All>();
 }
 
-/// So have they by the commands on values.
+/// So have they by the commands on values, where nothing is passed over.
 pub fn values_have_one_outcome()
     ensures { HaveOneOutcome on_values }
 {
@@ -176,10 +221,10 @@ pub fn values_have_one_outcome()
 
 /// Each set is a part of all, for words that ask only for what is its own.
 pub fn all_commands_have_parts()
-    ensures values { IsPart on_values IsOfValues }
+    ensures values { IsPart on_values_after IsOfValues }
     ensures texts { IsPart on_texts IsOfTexts }
-    ensures certificates { IsPart on_certificates IsOfCertificates }
-    ensures sections { IsPart on_certified IsOfSections }
+    ensures certificates { IsPart on_certificates_after IsOfCertificates }
+    ensures sections { IsPart on_certified_after IsOfSections }
     ensures places { IsPart on_places IsOfPlaces }
     ensures made { IsPart on_made IsOfMade }
 {
@@ -207,10 +252,18 @@ pub fn all_commands_have_parts()
 /// What is promised of a call by the commands on values gives each status its cause, and to each
 /// cause its status.
 pub fn statuses_of_values_have_causes()
-    ensures { Follow on_values (Causes declared_types) }
+    ensures { Follow on_values_after
+        (CausesBy on_values_after
+        (skipping_tables (picking_tables on_values (values_tables declared_types)))) }
 {
     declared_types_are_lawful();
-    causes_of_statuses::<DeclaredTypes>();
+    commands_are_lawful::<DeclaredTypes>();
+    commands_take_turns::<DeclaredTypes>();
+    values_have_meanings::<DeclaredTypes>();
+    picking_is_lawful::<OneByWords, EachValue>();
+    picking_takes_turns::<OneByWords, EachValue>();
+    picking_has_meanings::<OneByWords, MeantValues<DeclaredTypes>>();
+    causes_after_skipping::<ByWords, Picking<OneByWords, MeantValues<DeclaredTypes>>>();
 }
 
 /// And so does what is promised by the one on texts.
@@ -224,22 +277,28 @@ pub fn statuses_of_texts_have_causes()
 
 /// And so does what is promised by the one that verifies certificates.
 pub fn statuses_of_certificates_have_causes()
-    ensures { Follow on_certificates (CausesBy on_certificates
-        (certificate_tables declared_types reads_sections declared_sections)) }
+    ensures { Follow on_certificates_after (CausesBy on_certificates_after
+        (skipping_tables (certificate_tables declared_types reads_sections declared_sections))) }
 {
     declared_types_are_lawful();
     declared_sections_are_read_once();
-    causes_of_certificates::<DeclaredSections>();
+    verifying_is_lawful::<DeclaredSections>();
+    verifying_takes_turns::<DeclaredSections>();
+    certificates_have_meanings::<DeclaredSections>();
+    causes_after_skipping::<ByWords, CertificatesAtOnce>();
 }
 
 /// And so does what is promised by the one that writes them.
 pub fn statuses_of_sections_have_causes()
-    ensures { Follow on_certified (CausesBy on_certified
-        (certifying_tables declared_types declared_certificates)) }
+    ensures { Follow on_certified_after (CausesBy on_certified_after
+        (skipping_tables (certifying_tables declared_types declared_certificates))) }
 {
     declared_types_are_lawful();
     declared_certificates_are_one();
-    causes_of_sections::<DeclaredCertificates>();
+    certifying_is_lawful::<DeclaredCertificates>();
+    certifying_takes_turns::<DeclaredCertificates>();
+    sections_have_meanings::<DeclaredCertificates>();
+    causes_after_skipping::<ByWords, SectionsAtOnce>();
 }
 
 /// And so does what is promised by the one that tells where values stand.

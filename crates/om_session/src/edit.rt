@@ -15,6 +15,7 @@ use crate::earlier::{Earlier, earlier_value};
 use om_declared::{Requested, check_type, put_bytes};
 use om_edge::Sink;
 use om_edit::{EditRefusal, apply, graft, refusal_text, tables_answer_lines_alike};
+use om_lines::Places;
 use om_literal::LiteralFault;
 use om_model::Memory;
 use om_path::{Action, Script, ScriptLine};
@@ -186,8 +187,9 @@ fn line_stop(
     if is_memory(refusal) {
         return Err(Memory);
     }
-    let text = refusal_text(alloc, &requested.table, refusal)?;
-    Ok(Stop::Edit(number, text))
+    let places = Places::of_line(requested.lines, number as u64);
+    let text = refusal_text(alloc, &requested.table, &places, refusal)?;
+    Ok(Stop::Script(number, text))
 }
 
 fn is_memory(refusal: &EditRefusal) -> bool

@@ -21,6 +21,7 @@ use crate::values::{Job, Values};
 use om_edge::Sink;
 use om_glance::{Answer, Glance};
 use om_model::Memory;
+use om_picker::Counts;
 use om_stops::stop::{Halt, Stop};
 use om_work::Work;
 use std::alloc::Global;
@@ -221,4 +222,14 @@ impl Work for Progress<'_> {
     }
 
     fn laws(&self) {}
+}
+
+impl Counts for Progress<'_> {
+    fn count(&self) -> u64 {
+        self.values.count
+    }
+
+    fn last_well(&self) -> bool {
+        self.values.last
+    }
 }

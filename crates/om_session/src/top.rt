@@ -1,7 +1,7 @@
 //! The top call.
 
 ghost use Rattle.std.specs.Prelude.{List, ℕ};
-ghost use Rattle.om_outcome.specs.Outcome.{Asks, get as get_of, edit as edit_of};
+ghost use Rattle.om_outcome.specs.Outcome.{Asks, asked_type, get as get_of, edit as edit_of};
 ghost use Rattle.om_edge.specs.State.{FilesState, Change, change};
 ghost use Rattle.om_promises.specs.Call.{call};
 ghost use Rattle.om_session.specs.Copied.{LeavesCanonical};
@@ -10,8 +10,7 @@ ghost use Rattle.om_declared.specs.Language.{declared_types};
 ghost use Rattle.om_promises.specs.Account.{Account};
 ghost use Rattle.om_promises.specs.Causes.{OutsideCauses};
 ghost use Rattle.om_promises.specs.Promises.{Promises};
-ghost use Rattle.om_commands.specs.Tasks.{commands};
-ghost use Rattle.om_meanings.specs.Causes.{Causes};
+ghost use Rattle.om_meanings.specs.Tables.{values_tables};
 ghost use Rattle.om_causes.specs.Causes.{Causes as CausesBy};
 ghost use Rattle.om_texts.specs.Meanings.{texts_tables};
 ghost use Rattle.om_build.specs.Lines.{declared_texts};
@@ -21,7 +20,10 @@ ghost use Rattle.om_verifier.specs.Shown.{reads_sections, declared_sections};
 ghost use Rattle.om_certification.specs.Meanings.{certifying_tables};
 ghost use Rattle.om_certifier.specs.Certified.{declared_certificates};
 ghost use Rattle.om_searching.specs.Meanings.{searching_tables};
-ghost use Rattle.om_session.specs.All.{on_texts, on_certificates, on_certified, on_places, all_commands, IsOfValues, IsOfTexts, IsOfMade, IsOfCertificates, IsOfSections, IsOfPlaces, AskOnly};
+ghost use Rattle.om_passer.specs.Passing.{passed_of};
+ghost use Rattle.om_passing.specs.Tables.{skipping_tables};
+ghost use Rattle.om_picking.specs.Tables.{picking_tables};
+ghost use Rattle.om_session.specs.All.{on_values, on_values_after, on_texts, on_certificates_after, on_certified_after, on_places, all_commands, IsOfValues, IsOfTexts, IsOfMade, IsOfCertificates, IsOfSections, IsOfPlaces, AskOnly};
 ghost use Rattle.om_work.specs.Reported.{HasAccount};
 ghost use Rattle.om_session.specs.Telling.{AsksToTell, AsksToEdit};
 ghost use Rattle.om_declared.specs.Types.{IsReady};
@@ -47,9 +49,14 @@ use om_command_line::{Request, Unread, read_words};
 use om_declared::{Requested, find_script, find_type, path_stop};
 use om_edge::{Opener, Sink, Source};
 use om_generator::run_generation;
+use om_outcome::reading::Reading;
 use om_outcome::status::Status;
 use om_outcome::style::Style;
+use om_passer::{Over, Passing};
+use om_passing::laws::ByWords;
 use om_path::{Script, lines_in_time, read_path};
+use om_picker::Picking;
+use om_picking::laws::OneByWords;
 use om_searcher::search_input;
 use om_stops::stop::{Stop, report_stop};
 use om_verifier::verify;
@@ -63,21 +70,27 @@ fn report<E: Sink>(alloc: Global, err: &mut E, stop: Stop<'_>) -> Status
     report_stop(alloc, err, &stop)
 }
 
-// Does the job with the values of the input.
+// Does the job with the values of the input, after the bytes that are passed over; of one value
+// alone something is said, if that is asked for.
 fn take_values<S: Source, K: Sink, E: Sink>(
     alloc: Global,
     job: Job<'_>,
+    over: Over,
+    only: Option<u64>,
     input: &mut S,
     out: &mut K,
     err: &mut E,
 ) -> Status
     requires { IsReadyJob job }
-    ensures { HasAccount (commands declared_types) (task_of job.entry)
+    ensures { HasAccount on_values_after (passed_of over, (only, task_of job.entry))
         (change (S.state input.old) (S.state input.new))
         (change (K.state out.old) (K.state out.new)) (change (E.state err.old) (E.state err.new))
         result }
 {
-    run_reported(alloc, &mut Progress::new(alloc, job), input, out, err)
+    let work = Progress::new(alloc, job);
+    let picking = Picking::<OneByWords, _>::new(work, only);
+    let mut passing = Passing::<ByWords, _>::new(picking, over);
+    run_reported(alloc, &mut passing, input, out, err)
 }
 
 // Tells something of the values, at the type that a FILE and a TYPE gave.
@@ -85,21 +98,25 @@ fn tell_over<S: Source, K: Sink, E: Sink>(
     alloc: Global,
     requested: Requested,
     saying: Saying<'_>,
-    limit: u64,
+    reading: Reading,
     input: &mut S,
     out: &mut K,
     err: &mut E,
 ) -> Status
     requires { IsReady requested }
     ensures { (words : List (List ℕ)) (files : Change FilesState)
-        → AsksToSay words requested (saying_of saying.entry) limit files
-        → Account (commands declared_types) words
+        → AsksToSay words requested (saying_of saying.entry) reading files
+        → Account on_values_after words
         (call (change (S.state input.old) (S.state input.new)) files
         (change (K.state out.old) (K.state out.new))
         (change (E.state err.old) (E.state err.new)) result) }
 {
-    let job = Job::Say(Speech::Tell(&requested, saying), limit);
-    take_values(alloc, job, input, out, err)
+    let job = Job::Say(Speech::Tell(&requested, saying), reading.limit);
+    let over = Over {
+        bytes: reading.skip,
+        copied: false,
+    };
+    take_values(alloc, job, over, reading.only, input, out, err)
 }
 
 // Tells something of the values, at a FILE and a TYPE.
@@ -107,23 +124,25 @@ fn tell<S: Source, O: Opener, K: Sink, E: Sink>(
     alloc: Global,
     file: &str,
     type_text: &str,
+    lines: bool,
     saying: Saying<'_>,
-    limit: u64,
+    reading: Reading,
     input: &mut S,
     files: &mut O,
     out: &mut K,
     err: &mut E,
 ) -> Status
     ensures { (words : List (List ℕ))
-        → AsksToTell words file.now type_text.now (saying_of saying.entry) limit
-        → Account (commands declared_types) words
+        → AsksToTell words file.now (asked_type type_text.now lines) (saying_of saying.entry)
+        reading
+        → Account on_values_after words
         (call (change (S.state input.old) (S.state input.new))
         (change (O.state files.old) (O.state files.new))
         (change (K.state out.old) (K.state out.new))
         (change (E.state err.old) (E.state err.new)) result) }
 {
-    match find_type(alloc, files, file, type_text) {
-        Ok(requested) => tell_over(alloc, requested, saying, limit, input, out, err),
+    match find_type(alloc, files, file, type_text, lines) {
+        Ok(requested) => tell_over(alloc, requested, saying, reading, input, out, err),
         Err(stop) => report(alloc, err, stop),
     }
 }
@@ -135,15 +154,16 @@ fn get<S: Source, O: Opener, K: Sink, E: Sink>(
     type_text: &str,
     path_text: &str,
     style: Style,
-    limit: u64,
+    lines: bool,
+    reading: Reading,
     input: &mut S,
     files: &mut O,
     out: &mut K,
     err: &mut E,
 ) -> Status
     ensures { (words : List (List ℕ))
-        → Asks words (get_of file.now type_text.now path_text.now style limit)
-        → Account (commands declared_types) words
+        → Asks words (get_of file.now type_text.now path_text.now style lines reading)
+        → Account on_values_after words
         (call (change (S.state input.old) (S.state input.new))
         (change (O.state files.old) (O.state files.new))
         (change (K.state out.old) (K.state out.new))
@@ -153,7 +173,7 @@ fn get<S: Source, O: Opener, K: Sink, E: Sink>(
         Ok(path) => {
             let saying = Saying::Part(&path, style);
             tell(
-                alloc, file, type_text, saying, limit, input, files, out, err,
+                alloc, file, type_text, lines, saying, reading, input, files, out, err,
             )
         }
         Err(fault) => report(alloc, err, path_stop(fault)),
@@ -166,7 +186,7 @@ fn edit_with<S: Source, K: Sink, E: Sink>(
     requested: &Requested,
     script: Script,
     compat: bool,
-    limit: u64,
+    reading: Reading,
     input: &mut S,
     out: &mut K,
     err: &mut E,
@@ -174,8 +194,8 @@ fn edit_with<S: Source, K: Sink, E: Sink>(
     requires ready { IsReady requested.now }
     requires in_time { AreInTime script.lines }
     ensures { (words : List (List ℕ)) (before after : FilesState)
-        → AsksForLines words requested.now script compat limit (change before after)
-        → Account (commands declared_types) words
+        → AsksForLines words requested.now script compat reading (change before after)
+        → Account on_values_after words
         (call (change (S.state input.old) (S.state input.new)) (change before after)
         (change (K.state out.old) (K.state out.new))
         (change (E.state err.old) (E.state err.new)) result) }
@@ -185,7 +205,12 @@ fn edit_with<S: Source, K: Sink, E: Sink>(
         script: &script,
         compat,
     };
-    take_values(alloc, Job::Edit(edits, limit), input, out, err)
+    let over = Over {
+        bytes: reading.skip,
+        copied: true,
+    };
+    let job = Job::Edit(edits, reading.limit);
+    take_values(alloc, job, over, reading.only, input, out, err)
 }
 
 // Reads SCRIPT, and edits the values.
@@ -194,7 +219,7 @@ fn edit_by<S: Source, O: Opener, K: Sink, E: Sink>(
     requested: &Requested,
     script: &str,
     compat: bool,
-    limit: u64,
+    reading: Reading,
     input: &mut S,
     files: &mut O,
     out: &mut K,
@@ -202,16 +227,16 @@ fn edit_by<S: Source, O: Opener, K: Sink, E: Sink>(
 ) -> Status
     requires { IsReady requested.now }
     ensures { (words : List (List ℕ)) (before : FilesState)
-        → AsksToEdit words requested.now script.now compat limit
+        → AsksToEdit words requested.now script.now compat reading
         (change before (O.state files.old))
-        → Account (commands declared_types) words
+        → Account on_values_after words
         (call (change (S.state input.old) (S.state input.new))
         (change before (O.state files.new)) (change (K.state out.old) (K.state out.new))
         (change (E.state err.old) (E.state err.new)) result) }
 {
     lines_in_time();
-    match find_script(alloc, files, script) {
-        Ok(script) => edit_with(alloc, requested, script, compat, limit, input, out, err),
+    match find_script(alloc, files, script, requested.lines) {
+        Ok(script) => edit_with(alloc, requested, script, compat, reading, input, out, err),
         Err(stop) => report(alloc, err, stop),
     }
 }
@@ -222,7 +247,7 @@ fn edit_over<S: Source, O: Opener, K: Sink, E: Sink>(
     requested: Requested,
     script: &str,
     compat: bool,
-    limit: u64,
+    reading: Reading,
     input: &mut S,
     files: &mut O,
     out: &mut K,
@@ -230,14 +255,14 @@ fn edit_over<S: Source, O: Opener, K: Sink, E: Sink>(
 ) -> Status
     requires { IsReady requested }
     ensures { (words : List (List ℕ)) (before : FilesState)
-        → AsksToEdit words requested script.now compat limit (change before (O.state files.old))
-        → Account (commands declared_types) words
+        → AsksToEdit words requested script.now compat reading (change before (O.state files.old))
+        → Account on_values_after words
         (call (change (S.state input.old) (S.state input.new))
         (change before (O.state files.new)) (change (K.state out.old) (K.state out.new))
         (change (E.state err.old) (E.state err.new)) result) }
 {
     edit_by(
-        alloc, &requested, script, compat, limit, input, files, out, err,
+        alloc, &requested, script, compat, reading, input, files, out, err,
     )
 }
 
@@ -248,23 +273,24 @@ fn edit<S: Source, O: Opener, K: Sink, E: Sink>(
     type_text: &str,
     script: &str,
     compat: bool,
-    limit: u64,
+    lines: bool,
+    reading: Reading,
     input: &mut S,
     files: &mut O,
     out: &mut K,
     err: &mut E,
 ) -> Status
     ensures { (words : List (List ℕ))
-        → Asks words (edit_of file.now type_text.now script.now compat limit)
-        → Account (commands declared_types) words
+        → Asks words (edit_of file.now type_text.now script.now compat lines reading)
+        → Account on_values_after words
         (call (change (S.state input.old) (S.state input.new))
         (change (O.state files.old) (O.state files.new))
         (change (K.state out.old) (K.state out.new))
         (change (E.state err.old) (E.state err.new)) result) }
 {
-    match find_type(alloc, files, file, type_text) {
+    match find_type(alloc, files, file, type_text, lines) {
         Ok(requested) => edit_over(
-            alloc, requested, script, compat, limit, input, files, out, err,
+            alloc, requested, script, compat, reading, input, files, out, err,
         ),
         Err(stop) => report(alloc, err, stop),
     }
@@ -291,13 +317,15 @@ fn run_request<S: Source, O: Opener, K: Sink, E: Sink>(
         Request::Check {
             file,
             type_text,
-            limit,
+            lines,
+            reading,
         } => tell(
             alloc,
             file,
             type_text,
+            lines,
             Saying::Verdict,
-            limit,
+            reading,
             input,
             files,
             out,
@@ -307,13 +335,15 @@ fn run_request<S: Source, O: Opener, K: Sink, E: Sink>(
             file,
             type_text,
             style,
-            limit,
+            lines,
+            reading,
         } => tell(
             alloc,
             file,
             type_text,
+            lines,
             Saying::Text(style),
-            limit,
+            reading,
             input,
             files,
             out,
@@ -324,54 +354,80 @@ fn run_request<S: Source, O: Opener, K: Sink, E: Sink>(
             type_text,
             path_text,
             style,
-            limit,
+            lines,
+            reading,
         } => get(
-            alloc, file, type_text, path_text, style, limit, input, files, out, err,
+            alloc, file, type_text, path_text, style, lines, reading, input, files, out, err,
         ),
         Request::Edit {
             file,
             type_text,
             script,
             compat,
-            limit,
+            lines,
+            reading,
         } => edit(
-            alloc, file, type_text, script, compat, limit, input, files, out, err,
+            alloc, file, type_text, script, compat, lines, reading, input, files, out, err,
         ),
         Request::Trees {
             file,
             type_text,
-            limit,
+            lines,
+            reading,
         } => tell(
             alloc,
             file,
             type_text,
+            lines,
             Saying::Trees,
-            limit,
+            reading,
             input,
             files,
             out,
             err,
         ),
-        Request::Dump { limit } => take_values(
+        Request::Dump { reading } => take_values(
             alloc,
-            Job::Say(Speech::Dump, limit),
+            Job::Say(Speech::Dump, reading.limit),
+            Over {
+                bytes: reading.skip,
+                copied: false,
+            },
+            reading.only,
             input,
             out,
             err,
         ),
-        Request::Same { limit } => take_values(alloc, Job::Compare(limit), input, out, err),
-        Request::Build { file, type_text } => build(alloc, file, type_text, input, files, out, err),
+        Request::Same { reading } => take_values(
+            alloc,
+            Job::Compare(reading.limit),
+            Over {
+                bytes: reading.skip,
+                copied: false,
+            },
+            reading.only,
+            input,
+            out,
+            err,
+        ),
+        Request::Build {
+            file,
+            type_text,
+            lines,
+        } => build(alloc, file, type_text, lines, input, files, out, err),
         Request::Verify {
             file,
             type_text,
             certificate,
-            limit,
+            lines,
+            reading,
         } => verify(
             alloc,
             file,
             type_text,
             certificate,
-            limit,
+            lines,
+            reading,
             input,
             files,
             out,
@@ -380,8 +436,11 @@ fn run_request<S: Source, O: Opener, K: Sink, E: Sink>(
         Request::Certify {
             file,
             type_text,
-            limit,
-        } => certify(alloc, file, type_text, limit, input, files, out, err),
+            lines,
+            reading,
+        } => certify(
+            alloc, file, type_text, lines, reading, input, files, out, err,
+        ),
         Request::Generate {
             number,
             count,
@@ -433,8 +492,10 @@ pub fn run<S: Source, O: Opener, K: Sink, E: Sink>(
         (change (O.state files.old) (O.state files.new))
         (change (K.state out.old) (K.state out.new))
         (change (E.state err.old) (E.state err.new)) result) }
-    ensures causes { AskOnly IsOfValues (texts words.now) → Causes declared_types (texts words.now)
-        (call (change (S.state input.old) (S.state input.new))
+    ensures causes { AskOnly IsOfValues (texts words.now)
+        → CausesBy on_values_after
+        (skipping_tables (picking_tables on_values (values_tables declared_types)))
+        (texts words.now) (call (change (S.state input.old) (S.state input.new))
         (change (O.state files.old) (O.state files.new))
         (change (K.state out.old) (K.state out.new))
         (change (E.state err.old) (E.state err.new)) result) }
@@ -445,14 +506,15 @@ pub fn run<S: Source, O: Opener, K: Sink, E: Sink>(
         (change (K.state out.old) (K.state out.new))
         (change (E.state err.old) (E.state err.new)) result) }
     ensures causes_of_certificates { AskOnly IsOfCertificates (texts words.now)
-        → CausesBy on_certificates
-        (certificate_tables declared_types reads_sections declared_sections) (texts words.now)
-        (call (change (S.state input.old) (S.state input.new))
+        → CausesBy on_certificates_after
+        (skipping_tables (certificate_tables declared_types reads_sections declared_sections))
+        (texts words.now) (call (change (S.state input.old) (S.state input.new))
         (change (O.state files.old) (O.state files.new))
         (change (K.state out.old) (K.state out.new))
         (change (E.state err.old) (E.state err.new)) result) }
     ensures causes_of_sections { AskOnly IsOfSections (texts words.now)
-        → CausesBy on_certified (certifying_tables declared_types declared_certificates)
+        → CausesBy on_certified_after
+        (skipping_tables (certifying_tables declared_types declared_certificates))
         (texts words.now) (call (change (S.state input.old) (S.state input.new))
         (change (O.state files.old) (O.state files.new))
         (change (K.state out.old) (K.state out.new))

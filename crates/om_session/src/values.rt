@@ -121,12 +121,14 @@ fn compare<K: Sink>(alloc: Global, kept: &[Value], out: &mut K) -> Result<bool, 
     Ok(alike)
 }
 
-/// The values so far: how many there are, whether nothing is wrong with any, those that are kept to
-/// be compared, those that later lines copy parts of, and the reader of the next one.
+/// The values so far: how many there are, whether nothing is wrong with any and with the last one,
+/// those that are kept to be compared, those that later lines copy parts of, and the reader of the
+/// next one.
 #[derive(Drop)]
 pub struct Values {
     reader: Reader,
     well: bool,
+    pub last: bool,
     pub count: u64,
     kept: Vec<Value>,
     earlier: Vec<Earlier>,
@@ -141,6 +143,7 @@ impl Values {
         Values {
             reader: Reader::new(alloc, job.limit()),
             well: true,
+            last: true,
             count: 0,
             kept: Vec::new(alloc),
             earlier: Vec::new(alloc),
@@ -179,6 +182,7 @@ impl Values {
         let well = put_said(alloc, value.heap, value.root, speech, out)?;
         self.reader.restart(limit);
         self.well &= well;
+        self.last = well;
         self.count += 1;
         Ok(())
     }
@@ -220,6 +224,7 @@ impl Values {
             value,
             last,
         );
+        self.last = true;
         self.count += 1;
         Ok(())
     }
@@ -234,6 +239,7 @@ impl Values {
     {
         let reader = mem::replace(&mut self.reader, Reader::new(alloc, limit));
         keep(&mut self.kept, reader.finish())?;
+        self.last = true;
         self.count += 1;
         Ok(())
     }
@@ -289,6 +295,7 @@ impl Values {
             (change (K.state out.old) (K.state out.new)) result }
     {
         put_all(out, b"yes\n")?;
+        self.last = true;
         self.count += 1;
         Ok(n)
     }
@@ -315,6 +322,7 @@ impl Values {
             (change (K.state out.old) (K.state out.new)) result }
     {
         put_all(out, &in_hand[..n])?;
+        self.last = true;
         self.count += 1;
         Ok(n)
     }

@@ -1,15 +1,17 @@
 -- What is shown is built, by all commands as by those on values and the one on texts.
-use Rattle.om_outcome.specs.Outcome.{tell, the_text, plain, own, build}
+use Rattle.std.proofs.Common.{refl}
+use Rattle.om_outcome.specs.Outcome.{all_under, tell, the_text, plain, own, build}
 use Rattle.om_shown.specs.Shown.{ShownTextsAreBuilt}
-use Rattle.om_session.specs.All.{on_values, on_texts, all_commands, IsOfValues, IsOfTexts, IsPart}
-use Rattle.om_session.proofs.PartLemmas.{only_this}
+use Rattle.om_session.specs.All.{on_values, on_values_after, on_texts, all_commands, IsOfValues, IsOfTexts, IsPart}
+use Rattle.om_session.proofs.PartLemmas.{only_this, values_at_once}
 
-pub all_build_shown_texts : IsPart on_values IsOfValues → IsPart on_texts IsOfTexts
+pub all_build_shown_texts : IsPart on_values_after IsOfValues → IsPart on_texts IsOfTexts
     → ShownTextsAreBuilt on_values on_texts → ShownTextsAreBuilt all_commands all_commands
 all_build_shown_texts values texts law words call tells promises later_words later later_tells
     later_promises file type limit contents input shown shows hides builds =
-    let show = only_this IsOfValues words (tell (the_text plain) file type limit) shows.asks tt in
-    let built = only_this IsOfTexts later_words (own (build file type)) builds.asks tt in
-    law words call tells (values.promises words call show promises)
+    let show = tell (the_text plain) file type shows.lines (all_under limit) in
+    let built = only_this IsOfTexts later_words (own (build file type builds.lines)) builds.asks tt in
+    law words call tells
+    (values_at_once values words call show shows.asks tt refl refl promises)
     later_words later later_tells (texts.promises later_words later built later_promises)
     file type limit contents input shown shows hides builds

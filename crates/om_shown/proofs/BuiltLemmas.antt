@@ -1,5 +1,5 @@
 -- So `build` of these lines has one outcome, which puts the canonical bytes of the values.
-use Rattle.std.proofs.Common.{◌≡◌, ℕ, List, [], ◌∷◌, ◌++◌, map, Some, Ok, inl, inr, refl, sym, ap, ◌∙◌, subst, append_assoc}
+use Rattle.std.proofs.Common.{◌≡◌, ℕ, Bool, List, [], ◌∷◌, ◌++◌, map, Some, Ok, inl, inr, refl, sym, ap, ◌∙◌, subst, append_assoc}
 use Rattle.std.specs.Prelude.{if◌then◌else◌, IfSome}
 use Rattle.std.specs.List.{AllByRecursion}
 use Rattle.om_model.specs.Bytes.{AreBytes}
@@ -8,7 +8,7 @@ use Rattle.om_format.specs.Spelled.{SpelledUnder}
 use Rattle.om_format.specs.Stream.{SpellAll}
 use Rattle.om_format.specs.Tree.{Tree}
 use Rattle.om_outcome.specs.declared.status.Status.TheVariants as statuses
-use Rattle.om_outcome.specs.Outcome.{whole, found_of, own, build, Asks, tell, the_text, ending_of, plain}
+use Rattle.om_outcome.specs.Outcome.{whole, found_of, asked_type, line, own, build, Asks, all_under, tell, the_text, ending_of, plain}
 use Rattle.om_edge.specs.Files.{File, contents_of}
 use Rattle.om_edge.specs.Sink.{Puts}
 use Rattle.om_promises.specs.Account.{IsWanted}
@@ -23,7 +23,8 @@ use Rattle.om_promises.specs.Promises.{Promises, told_files}
 use Rattle.om_commands.specs.Tasks.{commands}
 use Rattle.om_decl.specs.Read.{IsDeclared, IsTypeOf}
 use Rattle.om_rebuild.specs.Laws.{DeclaredTextsAreReadBack}
-use Rattle.om_declared.specs.Language.{TypeOver, declared_types}
+use Rattle.om_declared.specs.Language.{TypeOver, IsAccepted, declared_types}
+use Rattle.om_declared.proofs.GivenLemmas.{lined, accepted_lined}
 use Rattle.om_texts.specs.Texts.{blank, made, put_bytes, building}
 use Rattle.om_texts.proofs.SaidLemmas.{texts}
 use Rattle.om_texts.proofs.TableLemmas.{goes_on}
@@ -37,10 +38,10 @@ module _ (t : TypeOver) where
   abbrev lines : List Tree → List Item
   lines trees = texts (map (text_of t) trees)
 
-  cut_in_lines : (trees : List Tree) → AllByRecursion (IsBuilt t) trees
-      → Cut (building declared_types declared_texts) t (lines_of t trees) (lines trees) []
-  cut_in_lines [] h = refl
-  cut_in_lines (tree ∷ trees) h = (
+  cut_in_lines : (before : List Item) (trees : List Tree) → AllByRecursion (IsBuilt t) trees
+      → Cut (building declared_types declared_texts) t before (lines_of t trees) (lines trees) []
+  cut_in_lines before [] h = refl
+  cut_in_lines before (tree ∷ trees) h = (
     lines_of t trees,
     (
       text_of t tree,
@@ -50,7 +51,7 @@ module _ (t : TypeOver) where
       },
       refl,
     ),
-    cut_in_lines trees h.1,
+    cut_in_lines (before ++ text (text_of t tree) ∷ []) trees h.1,
   )
 
   all_say : (before : List Item) (trees : List Tree) → AllByRecursion (IsBuilt t) trees
@@ -70,7 +71,7 @@ module _ (t : TypeOver) where
     record {
       items = lines trees;
       rest = [];
-      first = record { cut = cut_in_lines trees h; all_say = all_say [] trees h };
+      first = record { cut = cut_in_lines [] trees h; all_say = all_say [] trees h };
       last = inr (
         goes_on declared_types declared_texts t (lines trees) [] tt,
         (blank, ([], tt, refl, refl), refl),
@@ -88,6 +89,18 @@ all_built t limit one bytes [] rest s h = tt
 all_built t limit one bytes (tree ∷ trees) rest (first, more, is, spelled, s) h =
     (one first tree spelled h.0, all_built t limit one more trees rest s h.1)
 
+-- the texts of values are the same, however places are told
+lines_lined : (t : TypeOver) (places : Bool) (trees : List Tree)
+    → lines_of t trees ≡ lines_of (lined t places) trees
+lines_lined t places [] = refl
+lines_lined t places (tree ∷ trees) =
+    ap (λ rest. line (text_of t tree) ++ rest) (lines_lined t places trees)
+
+have_lined : (t : TypeOver) (places : Bool) (trees : List Tree) → AllByRecursion (HasIt t) trees
+    → AllByRecursion (HasIt (lined t places)) trees
+have_lined t places [] h = tt
+have_lined t places (tree ∷ trees) h = (h.0, have_lined t places trees h.1)
+
 module _ (told : Follow (commands declared_types) (AreAsTold (commands declared_types)))
     (once : HaveOneOutcome (building declared_types declared_texts))
     (read_back : DeclaredTextsAreReadBack)
@@ -99,13 +112,20 @@ module _ (told : Follow (commands declared_types) (AreAsTold (commands declared_
       (hides : HidesNothing contents type)
       (e : HasEnded (commands declared_types) words call)
       (well : (ending_of e.all).status ≡ statuses.Well)
-      (v : AreShown words file type limit shows.asks e.given e.all well) where
+      (v : AreShown words file type shows.lines limit shows.asks e.given e.all well) where
     same_contents : contents ≡ v.read.contents
     same_contents =
         let wanted : IsWanted (commands declared_types) words e.given.files 0 file = record {
-          request = tell (the_text plain) file type limit;
+          request = tell (the_text plain) file type shows.lines (all_under limit);
           asks = shows.asks;
-          wants = inl (refl, record { has_path = tt; type = type; typed = refl });
+          wants = inl (
+            refl,
+            record {
+              has_path = tt;
+              type = asked_type type shows.lines;
+              typed = refl;
+            },
+          );
         } in
         let found : IfSome call.files.before.map (λ all.
         IsFoundOf (contents_of all file) (e.given.files 0 file)) =
@@ -125,41 +145,56 @@ module _ (told : Follow (commands declared_types) (AreAsTold (commands declared_
     values : SpellAll limit input v.trees []
     values = subst (λ bytes. SpellAll limit bytes v.trees []) (sym same_input) v.spelled
 
-    shown_is : shown ≡ lines_of v.t v.trees
-    shown_is = put_once call shown (ending_of e.all).out shows.puts e.out ∙ v.out
-
     declared : IsDeclared contents v.read.decls
     declared = subst (λ text. IsDeclared text v.read.decls) (sym same_contents) v.read.declared
 
-    built : AllByRecursion (IsBuilt v.t) v.trees
-    built =
-        let accepted = v.read.accepted in
-        let here : IsDeclared contents v.t.decls =
-        subst (IsDeclared contents) (sym accepted.over) declared in
-        let written : IsTypeOf v.t.decls type v.t.type =
-        subst (λ decls. IsTypeOf decls type v.t.type) (sym accepted.over) accepted.written in
-        let is_sound = sound v.t (contents, type, v.read.decls, declared, accepted) in
-        let none = hides v.t.decls v.t.type is_sound.few.types here written is_sound.few.reached in
-        let one = is_built v.t read_back contents type here written is_sound none limit in
-        all_built v.t limit one input v.trees [] values v.have
+    -- at the type, where places are told so, each line is built
+    module _ (places : Bool) where
+      abbrev now : TypeOver
+      now = lined v.t places
 
-    its_outcome : (words : List (List ℕ)) (files : List File) → Asks words (own (build file type))
-        → contents_of files file ≡ Some contents
+      accepted : IsAccepted v.read.decls (asked_type type places) now
+      accepted =
+          accepted_lined v.read.decls (asked_type type shows.lines) v.t places v.read.accepted
+
+      shown_is : shown ≡ lines_of now v.trees
+      shown_is =
+          put_once call shown (ending_of e.all).out shows.puts e.out
+          ∙ (v.out ∙ lines_lined v.t places v.trees)
+
+      built : AllByRecursion (IsBuilt now) v.trees
+      built =
+          let here : IsDeclared contents now.decls =
+          subst (IsDeclared contents) (sym accepted.over) declared in
+          let written : IsTypeOf now.decls type now.type =
+          subst (λ decls. IsTypeOf decls type now.type) (sym accepted.over) accepted.written in
+          let is_sound =
+          sound now (contents, asked_type type places, v.read.decls, declared, accepted) in
+          let none =
+          hides now.decls now.type is_sound.few.types here written is_sound.few.reached in
+          let one = is_built now read_back contents type here written is_sound none limit in
+          all_built now limit one input v.trees [] values
+          (have_lined v.t places v.trees v.have)
+
+    its_outcome : (words : List (List ℕ)) (files : List File) (places : Bool)
+        → Asks words (own (build file type places)) → contents_of files file ≡ Some contents
         → Outcome (building declared_types declared_texts) words (contents_of files) shown
         (said_all v.trees)
-    its_outcome words files asks holds = (
-      Ok v.t,
+    its_outcome words files places asks holds = (
+      Ok (now places),
       (
-        Ok (own (build file type)),
+        Ok (own (build file type places)),
         asks,
         (
-          (file, type),
+          (file, asked_type type places),
           refl,
-          (Ok contents, ap found_of holds, (Ok v.read.decls, declared, v.read.accepted)),
+          (Ok contents, ap found_of holds, (Ok v.read.decls, declared, accepted places)),
         ),
       ),
-      subst (λ b. Answers (building declared_types declared_texts) v.t (whole b) (said_all v.trees))
-          (sym shown_is) (answers v.t v.trees built),
+      subst
+          (λ b. Answers (building declared_types declared_texts) (now places) (whole b)
+          (said_all v.trees))
+          (sym (shown_is places)) (answers (now places) v.trees (built places)),
     )
 
     puts_canonical : (later_words : List (List ℕ)) (later : Call) → TellsBytes later.input
@@ -171,7 +206,7 @@ module _ (told : Follow (commands declared_types) (AreAsTold (commands declared_
         let given : Given = record { files = told_files builds.files; input = whole shown } in
         let same : o.all ≡ said_all v.trees =
         once later_words given are_bytes o.all (said_all v.trees) o.outcome
-        (its_outcome later_words builds.files builds.asks builds.holds) in
+        (its_outcome later_words builds.files builds.lines builds.asks builds.holds) in
         record {
           trees = v.trees;
           values = values;
@@ -192,6 +227,6 @@ module _ (told : Follow (commands declared_types) (AreAsTold (commands declared_
       file type limit contents input shown shows hides builds =
       let e = has_ended (commands declared_types) words call promises.account (inl shows.well) in
       let well = sym e.status ∙ shows.well in
-      let v = are_shown words file type limit shows.asks e.given e.all well e.outcome in
+      let v = are_shown words file type shows.lines limit shows.asks e.given e.all well e.outcome in
       puts_canonical words call tells promises file type limit contents input shown shows hides e well v
       later_words later later_tells later_promises builds

@@ -8,7 +8,7 @@ use Rattle.om_format.specs.Tree.{Tree, root, objects_of}
 use Rattle.om_types.specs.declared.decl.Decl.{Decl}
 use Rattle.om_outcome.specs.declared.status.Status.TheVariants.{Well, No}
 use Rattle.om_outcome.specs.RefusalText.{truncated_text}
-use Rattle.om_outcome.specs.Outcome.{InputEnd, at_end, at_fault, at_length, unasked, whole, opened, tell, the_text, plain, Asks, Stop, value, read_fault, too_long, ending_of, line, Said, nothing_said, says, Replies, replies, all_well, texts_of, tells, Task, task, ReadsTypeOf}
+use Rattle.om_outcome.specs.Outcome.{AskedType, asked_type, InputEnd, at_end, at_fault, at_length, unasked, whole, opened, all_under, tell, the_text, plain, Asks, Stop, value, read_fault, too_long, ending_of, line, Said, nothing_said, says, Replies, replies, all_well, texts_of, tells, Task, task, ReadsTypeOf}
 use Rattle.om_command_line.proofs.RequestLemmas.{one_request}
 use Rattle.om_path.specs.declared.edits.ScriptLine.{ScriptLine}
 use Rattle.om_promises.specs.Commands.{Item, Given, Fetches, Prepares, IsLast, Closes, SaysAll, Answers}
@@ -23,14 +23,14 @@ use Rattle.om_shown.proofs.WellLemmas.{not_last, not_stopped}
 -- ---- FILE and TYPE
 
 -- what FILE holds, and TYPE, are read as this
-pub record AreRead (files : Fetches) (file type : List ℕ) (t : TypeOver) : Type 0 where
+pub record AreRead (files : Fetches) (file : List ℕ) (type : AskedType) (t : TypeOver) : Type 0 where
   pub contents : List ℕ
   pub read : files 0 file ≡ opened (whole contents)
   pub decls : List Decl
   pub declared : IsDeclared contents decls
   pub accepted : IsAccepted decls type t
 
-are_read : (files : Fetches) (file type : List ℕ) (t : TypeOver)
+are_read : (files : Fetches) (file : List ℕ) (type : AskedType) (t : TypeOver)
     → ReadsTypeOf declared_types (files 0) (file, type) (Ok t) → AreRead files file type t
 are_read files file type t (Err stop, fault, e) = absurd (cc e)
 are_read files file type t (Ok contents, read, (Err stop, refusal, e)) = absurd (cc e)
@@ -87,20 +87,20 @@ module _ (t : TypeOver) where
 
 -- ---- the call
 
-module _ (words : List (List ℕ)) (file type : List ℕ) (limit : ℕ)
-    (asks : Asks words (tell (the_text plain) file type limit)) (given : Given) (all : Replies)
+module _ (words : List (List ℕ)) (file type : List ℕ) (lined : Bool) (limit : ℕ)
+    (asks : Asks words (tell (the_text plain) file type lined (all_under limit))) (given : Given) (all : Replies)
     (well : (ending_of all).status ≡ Well) where
   -- all of the input is values of the type, and their texts are put
   pub record AreShown : Type 0 where
     pub t : TypeOver
-    pub read : AreRead given.files file type t
+    pub read : AreRead given.files file (asked_type type lined) t
     pub ended : given.input.until ≡ at_end
     pub trees : List Tree
     pub spelled : SpellAll limit given.input.bytes trees []
     pub have : AllByRecursion (HasIt t) trees
     pub out : (ending_of all).out ≡ lines_of t trees
 
-  module _ (t : TypeOver) (read : AreRead given.files file type t) where
+  module _ (t : TypeOver) (read : AreRead given.files file (asked_type type lined) t) where
     abbrev its_task : Task TypeOver ScriptLine
     its_task = task (tells (the_text plain) t) limit
 
@@ -150,7 +150,7 @@ module _ (words : List (List ℕ)) (file type : List ℕ) (limit : ℕ)
     of_answers (inr alone) = absurd (alone.unread tt)
 
   of_request : (found : Result (Task TypeOver ScriptLine) Stop)
-      → (commands declared_types).Finds (tell (the_text plain) file type limit) given.files found
+      → (commands declared_types).Finds (tell (the_text plain) file type lined (all_under limit)) given.files found
       → Goes (commands declared_types) given all found → AreShown
   of_request found (Err stop, finds, e) goes =
       absurd (not_stopped all well stop (subst (Goes (commands declared_types) given all) e goes))
@@ -160,16 +160,16 @@ module _ (words : List (List ℕ)) (file type : List ℕ) (limit : ℕ)
       let same : work ≡ tells (the_text plain) t = cc made in
       let is : found ≡ Ok (task (tells (the_text plain) t) limit) =
       subst (λ w. found ≡ Ok (task w limit)) same e in
-      of_answers t (are_read given.files file type t reads)
+      of_answers t (are_read given.files file (asked_type type lined) t reads)
       (subst (Goes (commands declared_types) given all) is goes)
 
   of_words : (found : Result (Task TypeOver ScriptLine) Stop)
       → Prepares (commands declared_types) words given.files found
       → Goes (commands declared_types) given all found → AreShown
   of_words found (Err stop, (usage, is), e) goes =
-      absurd (usage (tell (the_text plain) file type limit) asks)
+      absurd (usage (tell (the_text plain) file type lined (all_under limit)) asks)
   of_words found (Ok request, asked, finds) goes =
-      let same = one_request words request (tell (the_text plain) file type limit) asked asks in
+      let same = one_request words request (tell (the_text plain) file type lined (all_under limit)) asked asks in
       let found_so = subst (λ r. (commands declared_types).Finds r given.files found) same finds in
       of_request found found_so goes
 

@@ -1,7 +1,7 @@
 -- A call that ended well has no stop.
 use Rattle.std.proofs.Common.{◌≡◌, ◌⊎◌, sym, ap, ◌∙◌}
 use Rattle.om_outcome.specs.declared.status.Status.TheVariants as statuses
-use Rattle.om_outcome.specs.Outcome.{Stop, usage, bad_path, not_two_values, cannot_open, declarations, requested_type, value, script_line, text_line, untyped_value, large_value, certificate_line, uncertified_value, sections_left, read_fault, too_long, out_of_memory, status_of, ending_of, stops, Replies, stopped}
+use Rattle.om_outcome.specs.Outcome.{Stop, usage, bad_path, not_two_values, cannot_open, declarations, requested_type, value, script_line, text_line, untyped_value, large_value, certificate_line, uncertified_value, sections_left, short_input, read_fault, too_long, out_of_memory, status_of, ending_of, stops, Replies, stopped}
 use Rattle.om_promises.proofs.SettledLemmas.{stop_status}
 
 -- no stop ends a run well
@@ -20,6 +20,7 @@ stop_not_well (large_value number refusal) e = cc e
 stop_not_well (certificate_line number) e = cc e
 stop_not_well (uncertified_value number reason) e = cc e
 stop_not_well sections_left e = cc e
+stop_not_well (short_input taken) e = cc e
 stop_not_well read_fault e = cc e
 stop_not_well too_long e = cc e
 stop_not_well out_of_memory e = cc e

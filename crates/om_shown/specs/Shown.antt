@@ -1,6 +1,6 @@
 -- What `show` put is the input of `build`: the values that were shown come out, as their canonical
 -- bytes.
-use Rattle.std.specs.Prelude.{ℕ, ◌≡◌, ◌≢◌, List, [], ◌++◌, map, Some}
+use Rattle.std.specs.Prelude.{ℕ, ◌≡◌, ◌≢◌, Bool, List, [], ◌++◌, map, Some}
 use Rattle.std.specs.List.{concat}
 use Rattle.om_format.specs.Canonical.{canon}
 use Rattle.om_format.specs.Stream.{SpellAll}
@@ -10,7 +10,7 @@ use Rattle.om_types.specs.Ty.{Ty}
 use Rattle.om_types.specs.Reached.{IsReached, NoneIsHidden}
 use Rattle.om_decl.specs.Read.{IsDeclared, IsTypeOf}
 use Rattle.om_outcome.specs.declared.status.Status.TheVariants.{Well, Memory}
-use Rattle.om_outcome.specs.Outcome.{tell, the_text, plain, own, build, Asks}
+use Rattle.om_outcome.specs.Outcome.{all_under, tell, the_text, plain, own, build, Asks}
 use Rattle.om_edge.specs.Files.{File, contents_of}
 use Rattle.om_edge.specs.Sink.{Puts}
 use Rattle.om_promises.specs.Call.{Call, HasPut}
@@ -18,11 +18,12 @@ use Rattle.om_promises.specs.Commands.{Commands}
 use Rattle.om_promises.specs.CommandLaws.{Follow}
 use Rattle.om_promises.specs.Outside.{IsHonest}
 
--- The words ask to show the values of the input at FILE and TYPE, each under the limit, and the
+-- The words ask to show all values of the input at FILE and TYPE, each under the limit, and the
 -- call ended well; its input, what FILE holds, and what it put on out are told.
 pub record Shows (words : List (List ℕ)) (call : Call) (file type : List ℕ) (limit : ℕ)
     (contents input shown : List ℕ) : Type 0 where
-  pub asks : Asks words (tell (the_text plain) file type limit)
+  pub lines : Bool
+  pub asks : Asks words (tell (the_text plain) file type lines (all_under limit))
   pub well : call.status ≡ Well
   pub files : List File
   pub map : call.files.before.map ≡ Some files
@@ -34,7 +35,8 @@ pub record Shows (words : List (List ℕ)) (call : Call) (file type : List ℕ) 
 -- No call on the outside failed, nothing is too long, and memory did not run out.
 pub record Builds (words : List (List ℕ)) (call : Call) (file type contents shown : List ℕ)
     : Type 0 where
-  pub asks : Asks words (own (build file type))
+  pub lines : Bool
+  pub asks : Asks words (own (build file type lines))
   pub files : List File
   pub holds : contents_of files file ≡ Some contents
   pub honest : IsHonest call shown files

@@ -1,13 +1,8 @@
 -- The stops of the code, and what is put of them.
-use Rattle.std.specs.Prelude.{ℕ, ◌≡◌, ◌⊎◌, List, [], ◌++◌, Option, Some, None, codes, decimal}
+use Rattle.std.specs.Prelude.{ℕ, ◌≡◌, ◌⊎◌, List, ◌++◌, codes, decimal}
 use Rattle.std.specs.Fmt.{signed_decimal}
 use Rattle.om_outcome.specs.declared.status.Status.{Status}
 use Rattle.om_outcome.specs.declared.status.Status.TheVariants.{WriteFault}
-use Rattle.om_grammar.specs.Grammar.{FileTree}
-use Rattle.om_decl.specs.declared.fault.DeclFault.{DeclFault}
-use Rattle.om_decl.specs.Answer.{Answer}
-use Rattle.om_decl.specs.Fault.{told}
-use Rattle.om_decl.specs.Text.{answer_text}
 use Rattle.om_outcome.specs.RefusalText.{refusal_text, truncated_text}
 use Rattle.om_outcome.specs.Outcome as outcome
 use Rattle.om_edge.specs.Sink.{Puts, PutsPart}
@@ -16,14 +11,6 @@ use Rattle.om_write.specs.declared.compat.Compat.{Compat}
 use Rattle.om_write.specs.declared.compat.Compat.TheVariants as compats
 use Rattle.om_stops.specs.declared.stop.Stop.{Stop}
 use Rattle.om_stops.specs.declared.stop.Stop.TheVariants as stops
-
-abbrev pub text_if : {Tree : Type 0} → Option (Answer Tree) → List ℕ
-text_if None = []
-text_if (Some answer) = answer_text answer
-
--- the text of a fault of declarations or of a type
-abbrev pub declared_text : DeclFault → List ℕ
-declared_text fault = text_if (told {Tree = FileTree} fault)
 
 -- what is too large for a reader on 32 bits
 abbrev pub text_of_compat : Compat → List ℕ
@@ -39,8 +26,8 @@ stop_of stops.Usage = outcome.usage
 stop_of stops.BadPath = outcome.bad_path
 stop_of stops.NotTwoValues = outcome.not_two_values
 stop_of (stops.CannotOpen name) = outcome.cannot_open name.now
-stop_of (stops.Declarations fault) = outcome.declarations (declared_text fault)
-stop_of (stops.RequestedType fault) = outcome.requested_type (declared_text fault)
+stop_of (stops.Declarations refusal) = outcome.declarations refusal
+stop_of (stops.RequestedType refusal) = outcome.requested_type refusal
 stop_of stops.TooManyTypes = outcome.requested_type (codes "TooManyTypes")
 stop_of (stops.Refused number refusal) = outcome.value number (refusal_text refusal)
 stop_of (stops.Cut number taken) = outcome.value number (truncated_text taken)
@@ -49,9 +36,9 @@ stop_of (stops.Large number compat) = outcome.large_value number (text_of_compat
 stop_of (stops.Certificate number) = outcome.certificate_line number
 stop_of (stops.Uncertified number reason) = outcome.uncertified_value number reason
 stop_of stops.SectionsLeft = outcome.sections_left
-stop_of (stops.Script number fault) = outcome.script_line number (declared_text fault)
+stop_of (stops.Short taken) = outcome.short_input taken
+stop_of (stops.Script number refusal) = outcome.script_line number refusal
 stop_of (stops.Later number) = outcome.script_line number (codes "Later")
-stop_of (stops.Edit number text) = outcome.script_line number text
 stop_of (stops.NoValue number) = outcome.script_line number (codes "NoValue")
 stop_of (stops.Text number text) = outcome.text_line number text
 stop_of stops.ReadFault = outcome.read_fault

@@ -2,16 +2,15 @@
 
 ghost use Rattle.std.specs.Prelude.{◌≡◌, ◌++◌, codes, decimal, IfOk, OnOk, string_bytes};
 ghost use Rattle.std.specs.Fmt.{signed_decimal};
-ghost use Rattle.om_outcome.specs.Outcome.{status_of, stop_text, err_line, value, value_text as text_of_value, script_line, text_line, large_value, certificate_line, cannot_open};
+ghost use Rattle.om_outcome.specs.Outcome.{status_of, stop_text, err_line, value, value_text as text_of_value, script_line, text_line, large_value, certificate_line, short_input, cannot_open};
 ghost use Rattle.om_outcome.specs.RefusalText.{refusal_text as text_of_refusal, truncated_text as text_of_cut};
 ghost use Rattle.om_edge.specs.State.{change};
-ghost use Rattle.om_stops.specs.Stops.{stop_of, declared_text, text_of_compat, Reports};
+ghost use Rattle.om_stops.specs.Stops.{stop_of, text_of_compat, Reports};
 
 use crate::put::put;
 use crate::refusal_text::{refusal_text, truncated_text};
 use crate::report::report;
 use itoa::Buffer;
-use om_decl::{DeclFault, fault_text};
 use om_edge::{Failed, Sink};
 use om_model::Memory;
 use om_model::list::List;
@@ -21,15 +20,16 @@ use om_write::Compat;
 use std::alloc::{AllocError, Global};
 
 /// Why a run stops. The first number of a value, or of a line of a script or of the input, is its
-/// own; a text is that of a fault.
+/// own; a text is that of a fault, or of why a file, a type or a line is refused. An input is short
+/// by what is to be passed over of it.
 #[derive(Drop)]
 pub enum Stop<'a> {
     Usage,
     BadPath,
     NotTwoValues,
     CannotOpen(&'a str),
-    Declarations(DeclFault),
-    RequestedType(DeclFault),
+    Declarations(List<u8>),
+    RequestedType(List<u8>),
     TooManyTypes,
     Refused(u64, ReadRefusal),
     Cut(u64, u64),
@@ -38,9 +38,9 @@ pub enum Stop<'a> {
     Certificate(usize),
     Uncertified(u64, List<u8>),
     SectionsLeft,
-    Script(usize, DeclFault),
+    Short(u64),
+    Script(usize, List<u8>),
     Later(usize),
-    Edit(usize, List<u8>),
     NoValue(usize),
     Text(u64, List<u8>),
     ReadFault,
@@ -83,13 +83,11 @@ fn status(stop: &Stop) -> Status
         Stop::Usage | Stop::BadPath | Stop::NotTwoValues => Status::Usage,
         Stop::CannotOpen(_) => Status::OpenFault,
         Stop::Declarations(_) | Stop::RequestedType(_) | Stop::TooManyTypes => Status::Types,
-        Stop::Refused(..) | Stop::Cut(..) => Status::Value,
+        Stop::Refused(..) | Stop::Cut(..) | Stop::Short(_) => Status::Value,
         Stop::Untyped(..) => Status::No,
         Stop::Large(..) => Status::Compat,
         Stop::Certificate(_) | Stop::Uncertified(..) | Stop::SectionsLeft => Status::Certificate,
-        Stop::Script(..) | Stop::Later(_) | Stop::Edit(..) | Stop::NoValue(_) | Stop::Text(..) => {
-            Status::Script
-        }
+        Stop::Script(..) | Stop::Later(_) | Stop::NoValue(_) | Stop::Text(..) => Status::Script,
         Stop::ReadFault => Status::ReadFault,
         Stop::TooLong => Status::TooLong,
         Stop::Memory => Status::Memory,
@@ -180,29 +178,12 @@ fn compat_text(alloc: Global, compat: Compat) -> Result<String, AllocError>
     }
 }
 
-// The text of a fault of declarations or of a type.
-fn text_of_fault(alloc: Global, fault: &DeclFault) -> Result<List<u8>, Memory>
-    ensures { IfOk result (λ text. text ≡ declared_text fault.now) }
+// Puts what is refused, and why, at the end.
+fn put_refused(line: &mut Vec<u8>, name: &[u8], refusal: &[u8]) -> Result<(), Memory>
+    ensures { OnOk result (line.new.items ≡ line.old.items ++ (name.now ++ refusal.now)) }
 {
-    match fault {
-        DeclFault::Memory => Ok(List::new(alloc)),
-        _ => fault_text(alloc, fault),
-    }
-}
-
-// Puts a name and the text of a fault at the end.
-fn put_fault(
-    line: &mut Vec<u8>,
-    alloc: Global,
-    name: &[u8],
-    fault: &DeclFault,
-) -> Result<(), Memory>
-    ensures { OnOk result
-        (line.new.items ≡ line.old.items ++ (name.now ++ declared_text fault.now)) }
-{
-    let text = text_of_fault(alloc, fault)?;
     put(line, name)?;
-    put(line, text.as_slice())
+    put(line, refusal)
 }
 
 // Puts the text of a value's refusal at the end.
@@ -228,6 +209,15 @@ fn put_cut(line: &mut Vec<u8>, alloc: Global, number: u64, taken: u64) -> Result
     let cut = truncated_text(alloc, taken)?;
     let text = value_text(alloc, number, cut.as_str())?;
     put(line, text.as_bytes())
+}
+
+// Puts that the input ends within what is to be passed over at the end.
+fn put_short(line: &mut Vec<u8>, alloc: Global, taken: u64) -> Result<(), Memory>
+    ensures { OnOk result (line.new.items ≡ line.old.items ++ stop_text (short_input taken)) }
+{
+    let cut = truncated_text(alloc, taken)?;
+    put(line, b"skip: ")?;
+    put(line, cut.as_bytes())
 }
 
 // Puts the text of a fault of a value at the end.
@@ -257,21 +247,6 @@ fn put_script(line: &mut Vec<u8>, alloc: Global, number: usize, text: &[u8]) -> 
     let front = line_front(alloc, number)?;
     put(line, front.as_bytes())?;
     put(line, text)
-}
-
-// Puts that a line is none of a script at the end.
-fn put_script_fault(
-    line: &mut Vec<u8>,
-    alloc: Global,
-    number: usize,
-    fault: &DeclFault,
-) -> Result<(), Memory>
-    ensures { OnOk result
-        (line.new.items
-        ≡ line.old.items ++ stop_text (script_line number (declared_text fault.now))) }
-{
-    let text = text_of_fault(alloc, fault)?;
-    put_script(line, alloc, number, text.as_slice())
 }
 
 // Puts the text of a fault of a line of the input at the end.
@@ -310,8 +285,8 @@ fn put_text(line: &mut Vec<u8>, alloc: Global, stop: &Stop) -> Result<(), Memory
         Stop::BadPath => put(line, b"bad path"),
         Stop::NotTwoValues => put(line, b"not two values"),
         Stop::CannotOpen(name) => put_name(line, name),
-        Stop::Declarations(fault) => put_fault(line, alloc, b"types: ", fault),
-        Stop::RequestedType(fault) => put_fault(line, alloc, b"type: ", fault),
+        Stop::Declarations(refusal) => put_refused(line, b"types: ", refusal.as_slice()),
+        Stop::RequestedType(refusal) => put_refused(line, b"type: ", refusal.as_slice()),
         Stop::TooManyTypes => put(line, b"type: TooManyTypes"),
         Stop::Refused(number, refusal) => put_refusal(line, alloc, *number, *refusal),
         Stop::Cut(number, taken) => put_cut(line, alloc, *number, *taken),
@@ -320,9 +295,9 @@ fn put_text(line: &mut Vec<u8>, alloc: Global, stop: &Stop) -> Result<(), Memory
         Stop::Certificate(number) => put_certificate(line, alloc, *number),
         Stop::Uncertified(number, reason) => put_value(line, alloc, *number, reason.as_slice()),
         Stop::SectionsLeft => put(line, b"sections left"),
-        Stop::Script(number, fault) => put_script_fault(line, alloc, *number, fault),
+        Stop::Short(taken) => put_short(line, alloc, *taken),
+        Stop::Script(number, text) => put_script(line, alloc, *number, text.as_slice()),
         Stop::Later(number) => put_script(line, alloc, *number, b"Later"),
-        Stop::Edit(number, text) => put_script(line, alloc, *number, text.as_slice()),
         Stop::NoValue(number) => put_script(line, alloc, *number, b"NoValue"),
         Stop::Text(number, text) => put_text_line(line, alloc, *number, text.as_slice()),
         Stop::ReadFault => put(line, b"read fault"),

@@ -1,6 +1,6 @@
 -- The command on texts is idle at each other request, and the commands on values are at its own.
 use Rattle.std.proofs.Common.{◌≡◌, ◌∙◌, ℕ, List, Some, None, Result, inl, inr, refl, sym}
-use Rattle.om_outcome.specs.Outcome.{Request, tell, get, edit, dump, compare, own, OwnRequest, Stop, Language, Task}
+use Rattle.om_outcome.specs.Outcome.{Request, AskedType, tell, get, edit, dump, compare, own, OwnRequest, Stop, Language, Task}
 use Rattle.om_promises.specs.Commands.{Fetches}
 use Rattle.om_choice.specs.Choice.{IsIdleAt, AreApart}
 use Rattle.om_commands.specs.Tasks.{Wants, Finds, commands}
@@ -29,13 +29,13 @@ module _ {D T E : Type 0} (language : Language D T E) (TextOf : T → List ℕ �
     unwanted = λ files turn name h. differ (name, h.1) h.2;
     unfound = λ files result h. differ h.0 h.1;
   } where
-    differ : (typed : List ℕ × List ℕ) → built_by request ≡ Some typed → ⊥
+    differ : (typed : List ℕ × AskedType) → built_by request ≡ Some typed → ⊥
     differ typed e = let never : None ≡ Some typed = sym none ∙ e in cc never
 
   pub apart : AreApart (commands language) (building language TextOf)
-  apart (tell saying f t most) = inr (texts_idle (tell saying f t most) refl)
-  apart (get f t path style most) = inr (texts_idle (get f t path style most) refl)
-  apart (edit f t script compat most) = inr (texts_idle (edit f t script compat most) refl)
+  apart (tell saying f t lined most) = inr (texts_idle (tell saying f t lined most) refl)
+  apart (get f t path style lined most) = inr (texts_idle (get f t path style lined most) refl)
+  apart (edit f t script compat lined most) = inr (texts_idle (edit f t script compat lined most) refl)
   apart (dump most) = inr (texts_idle (dump most) refl)
   apart (compare most) = inr (texts_idle (compare most) refl)
   apart (own request) = inl (values_idle language request)

@@ -1,6 +1,6 @@
 -- The command on texts is lawful, where the language is and a line is read in one way.
 use Rattle.std.proofs.Common.{◌≡◌, ◌⊎◌, ◌<◌, ◌+◌, ℕ, List, [], ◌∷◌, ◌++◌, Some, Result, Ok, Err, inl, inr, refl, sym, ap, ◌∙◌, subst, arith}
-use Rattle.om_outcome.specs.Outcome.{Found, opened, whole, Request, Stop, untyped_value, Said, says, stops, Language, ReadsFile, ReadsTypeOf}
+use Rattle.om_outcome.specs.Outcome.{Found, opened, whole, Request, AskedType, Stop, untyped_value, Said, says, stops, Language, ReadsFile, ReadsTypeOf}
 use Rattle.om_promises.specs.Commands.{Item, value, text, Fetches}
 use Rattle.om_promises.specs.Lawful.{IsOnce, IsInner, IsWhole, FailsAtFile, AreLawfulAt, AreLawful, AreInTurns}
 use Rattle.om_promises.specs.LawfulLanguage.{IsGiven, IsLawful}
@@ -95,15 +95,15 @@ module _ {D T E : Type 0} (language : Language D T E) (TextOf : T → List ℕ �
       (type : T) → ((line : List ℕ) → IsOnce (TextOf type line))
       → AreLawfulAt (building language TextOf) type
   lawful_at type once = record {
-    first_once = λ bytes are_bytes item other more rest h k.
+    first_once = λ items bytes are_bytes item other more rest h k.
         let one = line_once bytes h.0 k.0 more rest h.1 k.1 in
         (h.2 ∙ (ap (λ line. text line) one.0 ∙ sym k.2), one.1);
     says_once = said_of_line TextOf type once;
     stops_once = λ items bytes are_bytes. stop_of_line TextOf type once items bytes;
     ends_once = λ items bytes are_bytes. end_of_line TextOf type once items bytes;
-    front = λ bytes item more h.
+    front = λ items bytes item more h.
         (h.0 ++ 10 ∷ [], line_front bytes h.0 more h.1, some_line h.0);
-    item_stays = λ bytes item more later h. (h.0, line_stays bytes h.0 more later h.1, h.2);
+    item_stays = λ items bytes item more later h. (h.0, line_stays bytes h.0 more later h.1, h.2);
     stop_stays = λ items bytes later stop h.
         (h.0, h.1 ++ later, line_stays bytes h.0 h.1 later h.2, h.3, h.4, h.5);
     stops_inside = λ items bytes stop h. inner TextOf type once items h.3 stop h.5;
@@ -114,12 +114,12 @@ module _ {D T E : Type 0} (language : Language D T E) (TextOf : T → List ℕ �
   -- ---- the file
 
   module _ (lawful : IsLawful language) where
-    same_typed : (x y : List ℕ × List ℕ) → Some x ≡ Some y → x ≡ y
+    same_typed : (x y : List ℕ × AskedType) → Some x ≡ Some y → x ≡ y
     same_typed x y e = cc e
 
     -- FILE of the words is the one that is wanted
     file_is :
-        (request : Request) (typed : List ℕ × List ℕ) (name type : List ℕ)
+        (request : Request) (typed : List ℕ × AskedType) (name : List ℕ) (type : AskedType)
         → built_by request ≡ Some typed → built_by request ≡ Some (name, type) → typed.0 ≡ name
     file_is request typed name type h k =
         ap (λ p. p.0) (same_typed typed (name, type) (sym h ∙ k))
@@ -132,7 +132,7 @@ module _ {D T E : Type 0} (language : Language D T E) (TextOf : T → List ℕ �
         (subst (λ p. ReadsTypeOf language (files 0) p result) same reads) reads'
 
     wants_typed :
-        (request : Request) (typed : List ℕ × List ℕ) (files : Fetches)
+        (request : Request) (typed : List ℕ × AskedType) (files : Fetches)
         → built_by request ≡ Some typed → Wants language TextOf request files 0 typed.0
     wants_typed request typed files is = (refl, typed.1, is)
 

@@ -70,7 +70,7 @@ module _ {D T E : Type 0} (language : Language D T E) (TextOf : T → List ℕ �
     -- items of which something is said are lines that are fine
     pub lines_said :
         (before : List Item) (bytes : List ℕ) (items : List Item) (said : List Said) (rest : List ℕ)
-        → Cut (building language TextOf) type bytes items rest
+        → Cut (building language TextOf) type before bytes items rest
         → AllSay (building language TextOf) type before items said
         → (lines : List (List ℕ)) × AreLines bytes lines rest
         × AllByRecursion (IsFine TextOf type) lines × (all_well said ≡ true)
@@ -91,7 +91,7 @@ module _ {D T E : Type 0} (language : Language D T E) (TextOf : T → List ℕ �
     pub said_of_lines :
         (before : List Item) (bytes : List ℕ) (lines : List (List ℕ)) (rest : List ℕ)
         → AreLines bytes lines rest → AllByRecursion (IsFine TextOf type) lines
-        → (said : List Said) × Cut (building language TextOf) type bytes (texts lines) rest
+        → (said : List Said) × Cut (building language TextOf) type before bytes (texts lines) rest
         × AllSay (building language TextOf) type before (texts lines) said × (all_well said ≡ true)
     said_of_lines before bytes [] rest are fine = ([], are, tt, refl)
     said_of_lines before bytes (line ∷ lines) rest (more, is, are) (fine, all) =

@@ -4,7 +4,7 @@ use Rattle.std.specs.Prelude.{◌&&◌, if◌then◌else◌}
 use Rattle.std.specs.List.{AllByRecursion}
 use Rattle.om_outcome.specs.declared.status.Status.{Status}
 use Rattle.om_outcome.specs.declared.status.Status.TheVariants.{Well, No, Types, Script, ReadFault, OpenFault, TooLong}
-use Rattle.om_outcome.specs.Outcome.{Request, Stop, declarations, requested_type, text_line, untyped_value, status_of, ending_of, Said, Reply, says, stops, Replies, replies, all_well, Language, ReadsFile, ReadsTypeOf}
+use Rattle.om_outcome.specs.Outcome.{Request, AskedType, Stop, declarations, requested_type, text_line, untyped_value, status_of, ending_of, Said, Reply, says, stops, Replies, replies, all_well, Language, ReadsFile, ReadsTypeOf}
 use Rattle.om_promises.specs.Commands.{Item, text as text_item, Cut, AllSay, Fetches, HoldStop, GoesOn}
 use Rattle.om_promises.specs.Promises.{HoldEnd}
 use Rattle.om_promises.proofs.ValueLemmas.{all_well-snoc}
@@ -38,7 +38,9 @@ module _ {T : Type 0} (TextOf : T → List ℕ → Built → Type 0) (type : T) 
       let n = counts_of TextOf type lines fine in
       (untyped_value n.0 fault, refl, untyped fault, of, (n.0, n.1, refl))
   stop_of lines line Script fine (refusal, of) =
-      (text_line (suc (length (texts lines))) refusal, refl, refused refusal, of, refl)
+      let stop : Stop =
+      text_line (suc (length (texts lines))) (refusal (suc (length (texts lines)))) in
+      (stop, refl, refused refusal, of, refl)
   stop_of lines line status fine h = absurd h
 
   -- the reply to a last line shows its status
@@ -143,7 +145,7 @@ module _ {D T E : Type 0} (language : Language D T E) (TextOf : T → List ℕ �
       (type : T) (bytes : List ℕ) (status : Status) → AreEnded TextOf type bytes status
       → (all : Replies) × ((ending_of all).status ≡ status) × Ending type bytes all
   end_held type bytes status h = by h.ends where
-    s : (said : List Said) × Cut (building language TextOf) type bytes (texts h.lines) h.last
+    s : (said : List Said) × Cut (building language TextOf) type [] bytes (texts h.lines) h.last
         × AllSay (building language TextOf) type [] (texts h.lines) said × (all_well said ≡ true)
     s = said_of_lines language TextOf type [] bytes h.lines h.last h.are h.fine
 
@@ -186,7 +188,7 @@ module _ {D T E : Type 0} (language : Language D T E) (TextOf : T → List ℕ �
     abbrev BarBy : Stop → Type 0
     BarBy stop = Bar language TextOf request files (status_of stop)
 
-    module _ (name type : List ℕ) (asked : built_by request ≡ Some (name, type)) where
+    module _ (name : List ℕ) (type : AskedType) (asked : built_by request ≡ Some (name, type)) where
       unread : (stop : Stop) → ReadsFile name (files 0 name) (Err stop) → BarBy stop
       unread stop fault = by (status_of stop) refl (file_status name (files 0 name) stop fault) where
         so : (status : Status) → status_of stop ≡ status

@@ -15,7 +15,7 @@ use Rattle.std.specs.Prelude.{ℕ, ◌≡◌, ◌≢◌, ◌⊎◌, List, [], �
 use Rattle.std.specs.List.{AllByRecursion}
 use Rattle.om_outcome.specs.declared.status.Status.{Status}
 use Rattle.om_outcome.specs.declared.status.Status.TheVariants.{Well, No, Types, Value, Script, ReadFault, OpenFault, TooLong, Compat}
-use Rattle.om_outcome.specs.Outcome.{whole, opened, Request, Stop, status_of, ReadsFile, Language}
+use Rattle.om_outcome.specs.Outcome.{whole, opened, Request, AskedType, Stop, status_of, ReadsFile, Language}
 use Rattle.om_promises.specs.Call.{Call}
 use Rattle.om_promises.specs.Commands.{Fetches}
 use Rattle.om_causes.specs.Causes.{Tables}
@@ -36,7 +36,7 @@ module _ {T : Type 0} (TextOf : T → List ℕ → Built → Type 0) (type : T) 
   -- after lines that are fine this one stops the run with this status
   abbrev pub Break : List ℕ → Status → Type 0
   Break line No = (fault : List ℕ) × TextOf type line (untyped fault)
-  Break line Script = (refusal : List ℕ) × TextOf type line (refused refusal)
+  Break line Script = (refusal : ℕ → List ℕ) × TextOf type line (refused refusal)
   Break line status = ⊥
 
   -- the bytes begin with lines that are fine, and the next one stops the run with this status
@@ -64,7 +64,7 @@ module _ {D T E : Type 0} (language : Language D T E) (TextOf : T → List ℕ �
   -- FILE is read, and what it holds is refused, or TYPE
   pub record RefusesTypes (request : Request) (files : Fetches) : Type 0 where
     pub name : List ℕ
-    pub type : List ℕ
+    pub type : AskedType
     pub asked : built_by request ≡ Some (name, type)
     pub text : List ℕ
     pub read : files 0 name ≡ opened (whole text)
@@ -73,7 +73,7 @@ module _ {D T E : Type 0} (language : Language D T E) (TextOf : T → List ℕ �
   -- FILE is not read to its end, and the stop has this status
   pub record IsUnread (request : Request) (files : Fetches) (status : Status) : Type 0 where
     pub name : List ℕ
-    pub type : List ℕ
+    pub type : AskedType
     pub asked : built_by request ≡ Some (name, type)
     pub stop : Stop
     pub fault : ReadsFile name (files 0 name) (Err stop)

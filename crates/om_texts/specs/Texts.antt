@@ -2,17 +2,18 @@
 -- behind it. A line is blank, or a text, which becomes bytes.
 use Rattle.std.specs.Prelude.{ℕ, suc, ◌+◌, ◌≡◌, ◌≢◌, true, List, [], ◌∷◌, ◌++◌, length, Option, Some, None, Result}
 use Rattle.std.specs.List.{AllByRecursion}
-use Rattle.om_outcome.specs.Outcome.{Request, own, build, Stop, text_line, untyped_value, Said, nothing_said, Reply, says, stops, Language, ReadsTypeOf}
+use Rattle.om_outcome.specs.Outcome.{Request, AskedType, asked_type, own, build, Stop, text_line, untyped_value, Said, nothing_said, Reply, says, stops, Language, ReadsTypeOf}
 use Rattle.om_promises.specs.Commands.{Item, value, text, Fetches, Commands}
 use Rattle.om_promises.specs.Lawful.{IsOnce}
 use Rattle.om_promises.specs.LawfulLanguage.{IsGiven}
 
 -- What a line is at a type: blank; a text of a value that has the type, with its bytes; a text that
--- is refused; or one of a value that has not the type, with the line that tells it.
+-- is refused, with why, by the number of the line; or one of a value that has not the type, with
+-- the line that tells it.
 pub data Built : Type 0 where
   blank : Built
   made : (bytes : List ℕ) → Built
-  refused : (refusal : List ℕ) → Built
+  refused : (refusal : ℕ → List ℕ) → Built
   untyped : (fault : List ℕ) → Built
 
 -- ---- lines
@@ -62,7 +63,8 @@ module _ {T : Type 0} (TextOf : T → List ℕ → Built → Type 0) (type : T) 
   abbrev pub StopsBy : List Item → Built → Stop → Type 0
   StopsBy items blank stop = ⊥
   StopsBy items (made bytes) stop = ⊥
-  StopsBy items (refused refusal) stop = stop ≡ text_line (suc (length items)) refusal
+  StopsBy items (refused refusal) stop =
+      stop ≡ text_line (suc (length items)) (refusal (suc (length items)))
   StopsBy items (untyped fault) stop =
       (n : ℕ) × AreTexts items n × (stop ≡ untyped_value n fault)
 
@@ -91,20 +93,20 @@ module _ {T : Type 0} (TextOf : T → List ℕ → Built → Type 0) (type : T) 
 -- ---- the command
 
 -- FILE and TYPE, where texts are to become bytes
-abbrev pub built_by : Request → Option (List ℕ × List ℕ)
-built_by (own (build file type)) = Some (file, type)
+abbrev pub built_by : Request → Option (List ℕ × AskedType)
+built_by (own (build file type lines)) = Some (file, asked_type type lines)
 built_by request = None
 
 module _ {D T E : Type 0} (language : Language D T E) (TextOf : T → List ℕ → Built → Type 0) where
   -- FILE is wanted, in the first turn
   abbrev pub Wants : Request → Fetches → ℕ → List ℕ → Type 0
   Wants request files turn name =
-      (turn ≡ 0) × (type : List ℕ) × (built_by request ≡ Some (name, type))
+      (turn ≡ 0) × (type : AskedType) × (built_by request ≡ Some (name, type))
 
   -- TYPE is found as it is for all commands
   abbrev pub Finds : Request → Fetches → Result T Stop → Type 0
   Finds request files result =
-      (typed : List ℕ × List ℕ) × (built_by request ≡ Some typed)
+      (typed : List ℕ × AskedType) × (built_by request ≡ Some typed)
       × ReadsTypeOf language (files 0) typed result
 
   abbrev pub building : Commands T
@@ -112,7 +114,7 @@ module _ {D T E : Type 0} (language : Language D T E) (TextOf : T → List ℕ �
     Wants = Wants;
     Finds = Finds;
     Reads = λ type. Unit {0};
-    IsFirst = λ type. IsFirstLine;
+    IsFirst = λ type items. IsFirstLine;
     Says = λ type items. SaysLine TextOf type;
     Stops = λ type. StopsAtLine TextOf type;
     Ends = λ type. EndsWithLine TextOf type;

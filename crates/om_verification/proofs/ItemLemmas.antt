@@ -209,12 +209,12 @@ module _ {T S : Type 0} (ShownBy : T → S → Tree → Shown → Type 0) (a : V
 
     pub lawful_at : AreLawfulAt (verifying language Reads ShownBy) a
     lawful_at = record {
-      first_once = item_once;
+      first_once = λ items. item_once;
       says_once = said_once;
       stops_once = stop_once;
       ends_once = end_reply_once;
-      front = item_front;
-      item_stays = item_stays ShownBy a language Reads;
+      front = λ items. item_front;
+      item_stays = λ items. item_stays ShownBy a language Reads;
       stop_stays = stop_stays ShownBy a;
       stops_inside = stop_inner;
       ends_inside = λ items bytes stop h. end_inner (length items) h.0 stop h.2;

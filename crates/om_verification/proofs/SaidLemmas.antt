@@ -199,22 +199,23 @@ module _ {T S : Type 0} (ShownBy : T → S → Tree → Shown → Type 0) (a : V
 
   module _ {D E : Type 0} (language : Language D T E) (Reads : ReadsSections S) where
     cut_of :
-        (bytes : List ℕ) (trees : List Tree) (rest : List ℕ) → SpellAll a.limit bytes trees rest
-        → Cut (verifying language Reads ShownBy) a bytes (items_of trees) rest
-    cut_of bytes [] rest same = same
-    cut_of bytes (tree ∷ trees) rest (first, more, same, spelled, all) = (
+        (before : List Item) (bytes : List ℕ) (trees : List Tree) (rest : List ℕ)
+        → SpellAll a.limit bytes trees rest
+        → Cut (verifying language Reads ShownBy) a before bytes (items_of trees) rest
+    cut_of before bytes [] rest same = same
+    cut_of before bytes (tree ∷ trees) rest (first, more, same, spelled, all) = (
       more,
       record { tree = tree; is = refl; spelled = (first, more, same, spelled, refl) },
-      cut_of more trees rest all,
+      cut_of (before ++ value tree ∷ []) more trees rest all,
     )
 
     spelled_of :
-        (bytes : List ℕ) (items : List Item) (rest : List ℕ)
-        → Cut (verifying language Reads ShownBy) a bytes items rest
+        (before : List Item) (bytes : List ℕ) (items : List Item) (rest : List ℕ)
+        → Cut (verifying language Reads ShownBy) a before bytes items rest
         → (trees : List Tree) × (items ≡ items_of trees) × SpellAll a.limit bytes trees rest
-    spelled_of bytes [] rest same = ([], refl, same)
-    spelled_of bytes (item ∷ items) rest (more, is, cut) =
-        let next = spelled_of more items rest cut in
+    spelled_of before bytes [] rest same = ([], refl, same)
+    spelled_of before bytes (item ∷ items) rest (more, is, cut) =
+        let next = spelled_of (before ++ item ∷ []) more items rest cut in
         let s = is.spelled in (
           is.tree ∷ next.0,
           ap (λ items. item ∷ items) next.1 ∙ ap (λ item. item ∷ items_of next.0) is.is,
@@ -265,7 +266,7 @@ module _ {T S : Type 0} (ShownBy : T → S → Tree → Shown → Type 0) (a : V
         → SpellAll a.limit bytes trees rest → AreSaid 0 trees said
         → SaysFirst (verifying language Reads ShownBy) a bytes (items_of trees) said rest
     says_first bytes trees said rest spelled say = record {
-      cut = cut_of bytes trees rest spelled;
+      cut = cut_of [] bytes trees rest spelled;
       all_say = say_of [] 0 refl trees said say;
     }
 
@@ -276,6 +277,6 @@ module _ {T S : Type 0} (ShownBy : T → S → Tree → Shown → Type 0) (a : V
         → (trees : List Tree) × (items ≡ items_of trees) × SpellAll a.limit bytes trees rest
         × AreSaid 0 trees said
     say_first bytes items said rest h =
-        let s = spelled_of bytes items rest h.cut in
+        let s = spelled_of [] bytes items rest h.cut in
         let say = subst (λ items. AllSay (verifying language Reads ShownBy) a [] items said) s.1 h.all_say in
         (s.0, s.1, s.2, told_of [] 0 refl s.0 said say)

@@ -4,7 +4,7 @@ use Rattle.std.specs.Prelude.{ℕ, ◌≡◌, ◌⊎◌, Bool, if◌then◌else�
 use Rattle.om_model.specs.declared.refusal.ReadRefusal.{ReadRefusal}
 use Rattle.om_format.specs.Stream.{SpellAll, End, clean, refused, cut, IsTail}
 use Rattle.om_format.specs.Tree.{Tree}
-use Rattle.om_outcome.specs.Outcome.{Found, Request, own, verify, Stop, value, certificate_line, uncertified_value, sections_left, Said, nothing_said, Reply, says, stops, line, Language, Then, OrRefusal, ReadsFile, ReadsTypeOf}
+use Rattle.om_outcome.specs.Outcome.{Found, Request, AskedType, asked_type, own, verify, Stop, value, certificate_line, uncertified_value, sections_left, Said, nothing_said, Reply, says, stops, line, Language, Then, OrRefusal, ReadsFile, ReadsTypeOf}
 use Rattle.om_outcome.specs.RefusalText.{refusal_text, truncated_text}
 use Rattle.om_promises.specs.Commands.{Item, value as value_item, Fetches, Commands}
 use Rattle.om_promises.specs.Lawful.{IsOnce}
@@ -87,16 +87,21 @@ module _ {T S : Type 0} (ShownBy : T → S → Tree → Shown → Type 0) (a : V
 -- FILE, TYPE and CERT, with the limit, where a certificate is to be verified
 pub record Asked : Type 0 where
   pub file : List ℕ
-  pub type : List ℕ
+  pub type : AskedType
   pub certificate : List ℕ
   pub limit : ℕ
 
-abbrev pub typed_of : Asked → List ℕ × List ℕ
+abbrev pub typed_of : Asked → List ℕ × AskedType
 typed_of asked = (asked.file, asked.type)
 
 abbrev pub verified_by : Request → Option Asked
-verified_by (own (verify file type certificate limit)) =
-    Some (record { file = file; type = type; certificate = certificate; limit = limit })
+verified_by (own (verify file type certificate lines reading)) =
+    Some (record {
+      file = file;
+      type = asked_type type lines;
+      certificate = certificate;
+      limit = reading.limit;
+    })
 verified_by request = None
 
 -- a text is read as sections, or has a first faulty line
@@ -143,7 +148,7 @@ module _ {D T E S : Type 0} (language : Language D T E) (Reads : ReadsSections S
     Wants = Wants;
     Finds = Finds;
     Reads = λ a. Unit {0};
-    IsFirst = λ a. IsFirstValue language a.limit;
+    IsFirst = λ a items. IsFirstValue language a.limit;
     Says = SaysOf ShownBy;
     Stops = StopsHere ShownBy;
     Ends = EndsHere ShownBy;

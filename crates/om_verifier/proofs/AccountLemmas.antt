@@ -1,7 +1,8 @@
 -- The account of a call that verifies a certificate, from what its files gave.
-use Rattle.std.proofs.Common.{◌≡◌, ◌⊎◌, ◌<◌, ℕ, zero, suc, List, Ok, Err, inl, inr, refl, subst, arith}
+use Rattle.std.proofs.Common.{◌≡◌, ◌⊎◌, ◌<◌, ℕ, zero, suc, Bool, List, Ok, Err, inl, inr, refl, subst, arith}
 use Rattle.om_outcome.specs.declared.status.Status.{Status}
-use Rattle.om_outcome.specs.Outcome.{Found, unfetched, Request, own, verify, Asks, out_of_memory}
+use Rattle.om_outcome.specs.declared.reading.Reading.{Reading}
+use Rattle.om_outcome.specs.Outcome.{Found, unfetched, Request, asked_type, own, verify, Asks, out_of_memory}
 use Rattle.om_edge.specs.State.{ByteState, FilesState, Change, change}
 use Rattle.om_section.specs.declared.section.Section.{Section}
 use Rattle.om_stops.specs.declared.stop.Stop.{Stop}
@@ -11,13 +12,15 @@ use Rattle.om_promises.specs.Call.{call}
 use Rattle.om_promises.specs.Commands.{Fetches, Prepares}
 use Rattle.om_promises.specs.Given.{Fetched}
 use Rattle.om_declared.specs.declared.types.Requested.{Requested}
+use Rattle.om_declared.specs.Language.{TypeOver}
 use Rattle.om_declared.specs.Types.{type_over, GivesType}
 use Rattle.om_work.specs.Reported.{HasAccount}
 use Rattle.om_work.proofs.StopLemmas.{WantsInTurns, stop_account}
-use Rattle.om_verification.specs.Verification.{Asked}
+use Rattle.om_verification.specs.Verification.{Asked, Verification}
 use Rattle.om_verifier.specs.Asked.{AsksToVerify}
 use Rattle.om_verifier.specs.Files.{GivesCertificate}
-use Rattle.om_verifier.specs.Reading.{on_certificates, certified}
+use Rattle.om_verifier.specs.Reading.{on_certificates_after, certified_after}
+use Rattle.om_passing.specs.Skipping.{Passed}
 
 -- what came of the first turn and of the second one
 abbrev two_found : Found → Found → ℕ → List ℕ → Found
@@ -25,7 +28,7 @@ two_found first second zero name = first
 two_found first second (suc turn) name = second
 
 -- FILE and CERT are wanted in two turns
-pub wanted_soon : WantsInTurns 2 on_certificates
+pub wanted_soon : WantsInTurns 2 on_certificates_after
 wanted_soon request files turn name (asked, is, inl (first, e)) = omega (arith, first)
 wanted_soon request files turn name (asked, is, inr (second, e, type, reads)) =
     omega (arith, second)
@@ -34,9 +37,9 @@ module _ (words : List (List ℕ)) (found : Fetches) where
   -- two turns, one after the other
   new_fetches :
       (before between after : FilesState)
-      → FetchesIn on_certificates words (change before between) found 0
-      → FetchesIn on_certificates words (change between after) found 1
-      → FetchesFor on_certificates words (change before after) found
+      → FetchesIn on_certificates_after words (change before between) found 0
+      → FetchesIn on_certificates_after words (change between after) found 1
+      → FetchesFor on_certificates_after words (change before after) found
   new_fetches before between after first second = record {
     turns = 2;
     state = state;
@@ -51,84 +54,93 @@ module _ (words : List (List ℕ)) (found : Fetches) where
     state (suc (suc n)) = after
 
     each : (turn : ℕ) → turn < 2
-        → FetchesIn on_certificates words (change (state turn) (state (suc turn))) found turn
+        → FetchesIn on_certificates_after words (change (state turn) (state (suc turn))) found turn
     each zero less = first
     each (suc zero) less = second
     each (suc (suc n)) less = absurd (omega (arith, less))
 
 -- FILE or TYPE is not read
-module _ (words : List (List ℕ)) (file type certificate : List ℕ) (limit : ℕ)
-    (asks : Asks words (own (verify file type certificate limit))) (files : Change FilesState)
+module _ (words : List (List ℕ)) (file type certificate : List ℕ) (lines : Bool)
+    (reading : Reading) (asks : Asks words (own (verify file type certificate lines reading))) (files : Change FilesState)
     (found : Found) (fetched : Fetched files file found) where
   abbrev asked : Asked
-  asked = record { file = file; type = type; certificate = certificate; limit = limit }
+  asked = record {
+    file = file;
+    type = asked_type type lines;
+    certificate = certificate;
+    limit = reading.limit;
+  }
 
   abbrev request : Request
-  request = own (verify file type certificate limit)
+  request = own (verify file type certificate lines reading)
 
   abbrev file_found : Fetches
   file_found = two_found found unfetched
 
-  wanted : IsWanted on_certificates words file_found 0 file
+  wanted : IsWanted on_certificates_after words file_found 0 file
   wanted = record { request = request; asks = asks; wants = (asked, refl, inl (refl, refl)) }
 
-  fetches : FetchesFor on_certificates words files file_found
+  fetches : FetchesFor on_certificates_after words files file_found
   fetches =
       new_fetches words file_found files.before files.after files.after (inl (file, wanted, fetched))
       (inr (refl, λ name is. refl))
 
   gives_stop :
-      (stop : Stop) → GivesType file type found (Err stop)
-      → Prepares on_certificates words file_found (Err (stop_of stop))
+      (stop : Stop) → GivesType file (asked_type type lines) found (Err stop)
+      → Prepares on_certificates_after words file_found (Err (stop_of stop))
       ⊎ (stop_of stop ≡ out_of_memory)
   gives_stop stop (inl reads) =
       inl (Ok request, asks, (asked, refl, (Err (stop_of stop), reads, refl)))
   gives_stop stop (inr memory) = inr memory
 
   pub no_type_account :
-      (stop : Stop) → GivesType file type found (Err stop) → (input out : ByteState)
+      (stop : Stop) → GivesType file (asked_type type lines) found (Err stop) → (input out : ByteState)
       (err : Change ByteState) (status : Status) → Reports (stop_of stop) err status
-      → Account on_certificates words (call (change input input) files (change out out) err status)
+      → Account on_certificates_after words (call (change input input) files (change out out) err status)
   no_type_account stop gives input out err status r =
-      stop_account on_certificates words file_found input out files fetches err status (stop_of stop)
+      stop_account on_certificates_after words file_found input out files fetches err status (stop_of stop)
       (gives_stop stop gives) r
 
 -- they are, and CERT comes next
-module _ (words : List (List ℕ)) (r : Requested) (certificate : List ℕ) (limit : ℕ)
-    (a b c : FilesState) (asks : AsksToVerify words r certificate limit (change a b)) (found : Found)
-    (fetched : Fetched (change b c) certificate found) where
+module _ (words : List (List ℕ)) (r : Requested) (certificate : List ℕ) (reading : Reading)
+    (a b c : FilesState) (asks : AsksToVerify words r certificate reading (change a b))
+    (found : Found) (fetched : Fetched (change b c) certificate found) where
   abbrev both_found : Fetches
   both_found = two_found asks.found found
 
   abbrev asked_of : Asked
-  asked_of =
-      record { file = asks.file; type = asks.type; certificate = certificate; limit = limit }
+  asked_of = record {
+    file = asks.file;
+    type = asked_type asks.type asks.lines;
+    certificate = certificate;
+    limit = reading.limit;
+  }
 
   abbrev request_of : Request
-  request_of = own (verify asks.file asks.type certificate limit)
+  request_of = own (verify asks.file asks.type certificate asks.lines reading)
 
-  file_wanted : IsWanted on_certificates words both_found 0 asks.file
+  file_wanted : IsWanted on_certificates_after words both_found 0 asks.file
   file_wanted = record {
     request = request_of;
     asks = asks.asks;
     wants = (asked_of, refl, inl (refl, refl));
   }
 
-  certificate_wanted : IsWanted on_certificates words both_found 1 certificate
+  certificate_wanted : IsWanted on_certificates_after words both_found 1 certificate
   certificate_wanted = record {
     request = request_of;
     asks = asks.asks;
     wants = (asked_of, refl, inr (refl, refl, type_over r, asks.gives.0));
   }
 
-  both_fetched : FetchesFor on_certificates words (change a c) both_found
+  both_fetched : FetchesFor on_certificates_after words (change a c) both_found
   both_fetched =
       new_fetches words both_found a b c (inl (asks.file, file_wanted, asks.fetched))
       (inl (certificate, certificate_wanted, fetched))
 
   stop_given :
       (stop : Stop) → GivesCertificate certificate found (Err stop)
-      → Prepares on_certificates words both_found (Err (stop_of stop))
+      → Prepares on_certificates_after words both_found (Err (stop_of stop))
       ⊎ (stop_of stop ≡ out_of_memory)
   stop_given stop (inl reads) =
       inl (
@@ -142,32 +154,31 @@ module _ (words : List (List ℕ)) (r : Requested) (certificate : List ℕ) (lim
   pub no_sections_account :
       (stop : Stop) → GivesCertificate certificate found (Err stop) → (input out : ByteState)
       (err : Change ByteState) (status : Status) → Reports (stop_of stop) err status
-      → Account on_certificates words
+      → Account on_certificates_after words
       (call (change input input) (change a c) (change out out) err status)
   no_sections_account stop gives input out err status reports =
-      stop_account on_certificates words both_found input out (change a c) both_fetched err status
+      stop_account on_certificates_after words both_found input out (change a c) both_fetched err status
       (stop_of stop) (stop_given stop gives) reports
 
   -- the values are verified
   pub sections_account :
       (sections : List Section) → GivesCertificate certificate found (Ok sections)
       → (input out err : Change ByteState) (status : Status)
-      → HasAccount on_certificates (certified r sections limit) input out err status
-      → Account on_certificates words (call input (change a c) out err status)
+      → HasAccount on_certificates_after (certified_after r sections reading) input out err status
+      → Account on_certificates_after words (call input (change a c) out err status)
   sections_account sections gives input out err status does =
       does words both_found (change a c) both_fetched (
         Ok request_of,
         asks.asks,
-        (asked_of, refl, (Ok (type_over r), asks.gives.0, (Ok sections, gives, refl))),
+        (refl, (asked_of, refl, (Ok (type_over r), asks.gives.0, (Ok sections, gives, refl)))),
       )
 
--- for equal types, sections and limits
+-- for equal acts
 pub account_same :
-    (r s : Requested) (all others : List Section) (limit most : ℕ)
-    (input out err : Change ByteState) (status : Status) → r ≡ s → all ≡ others → limit ≡ most
-    → HasAccount on_certificates (certified r all limit) input out err status
-    → HasAccount on_certificates (certified s others most) input out err status
-account_same r s all others limit most input out err status e f g h =
-    subst (λ s. HasAccount on_certificates (certified s others most) input out err status) e
-    (subst (λ o. HasAccount on_certificates (certified r o most) input out err status) f
-    (subst (λ m. HasAccount on_certificates (certified r all m) input out err status) g h))
+    (over other : Passed) (a b : Verification TypeOver Section) (input out err : Change ByteState)
+    (status : Status) → over ≡ other → a ≡ b
+    → HasAccount on_certificates_after (over, a) input out err status
+    → HasAccount on_certificates_after (other, b) input out err status
+account_same over other a b input out err status e f h =
+    subst (λ o. HasAccount on_certificates_after (o, b) input out err status) e
+    (subst (λ a. HasAccount on_certificates_after (over, a) input out err status) f h)

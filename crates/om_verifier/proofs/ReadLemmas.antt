@@ -50,7 +50,7 @@ use Rattle.om_verifier.specs.Reading.{on_certificates, certified, IsStopOf, HasR
 pub values_stay :
     (r : Requested) (all : List Section) (limit : ℕ)
     → ItemsStay on_certificates (certified r all limit)
-values_stay r all limit =
+values_stay r all limit items =
     item_stays declared_sections (certified r all limit) declared_types reads_sections
 
 -- what is said of a value in memory is said of its tree
@@ -107,14 +107,15 @@ module _ (r : Requested) (all : List Section) (limit : ℕ) where
 
   -- there are no more values than bytes
   cut_count :
-      (bytes : List ℕ) (items : List Item) (rest : List ℕ) → Cut on_certificates a bytes items rest
+      (before : List Item) (bytes : List ℕ) (items : List Item) (rest : List ℕ)
+      → Cut on_certificates a before bytes items rest
       → length items + length rest ≤ length bytes
-  cut_count bytes [] rest same =
+  cut_count before bytes [] rest same =
       let e : length bytes ≡ length rest = ap length same in omega (arith, e)
-  cut_count bytes (item ∷ items) rest (more, is, next) =
+  cut_count before bytes (item ∷ items) rest (more, is, next) =
       let s = is.spelled in
       let some = spelled_some limit s.0 is.tree s.3 in
-      let fewer = cut_count more items rest next in
+      let fewer = cut_count (before ++ item ∷ []) more items rest next in
       let size : length bytes ≡ length s.0 + length s.1 =
       ap length s.2 ∙ length-append s.0 s.1 in
       let same : length s.1 ≡ length more = ap length s.4 in
@@ -140,7 +141,7 @@ module _ (r : Requested) (all : List Section) (limit : ℕ) where
 
     pub room_for_one : Whole → length taken < 2 ^ 64 → count + 1 < 2 ^ 64
     room_for_one v short =
-        let fewer = cut_count taken v.items v.whole v.first.cut in
+        let fewer = cut_count [] taken v.items v.whole v.first.cut in
         let counted = v.counted in
         let some = v.some in omega (arith, fewer, short, counted, some)
 

@@ -1,5 +1,5 @@
 -- What has been read of the values, and said of them by their sections, as their bytes come.
-use Rattle.std.specs.Prelude.{ℕ, ◌<◌, ◌≡◌, ◌≢◌, ◌⊎◌, Bool, List, [], ◌∷◌, ◌++◌, length, Result, Ok, Err}
+use Rattle.std.specs.Prelude.{ℕ, ◌<◌, ◌≡◌, ◌≢◌, ◌⊎◌, Bool, false, List, [], ◌∷◌, ◌++◌, length, Result, Ok, Err}
 use Rattle.om_model.specs.declared.refusal.ReadRefusal.{ReadRefusal}
 use Rattle.om_model.specs.declared.refusal.ReadRefusal.TheVariants as refusals
 use Rattle.om_format.specs.Front.{IsFront}
@@ -22,15 +22,27 @@ use Rattle.om_declared.specs.Language.{TypeOver, declared_types}
 use Rattle.om_declared.specs.Types.{type_over, IsReady}
 use Rattle.om_verification.specs.Verification.{Verification, ComesUncertified, verifying}
 use Rattle.om_verifier.specs.Shown.{reads_sections, declared_sections}
+use Rattle.om_outcome.specs.declared.reading.Reading.{Reading}
+use Rattle.om_passing.specs.Asked.{passed_by}
+use Rattle.om_passing.specs.Skipping.{Passed, skipping}
 
--- the command at declared types
+-- the command at declared types, and after the bytes that the words ask to pass over
 abbrev pub on_certificates : Commands (Verification TypeOver Section)
 on_certificates = verifying declared_types reads_sections declared_sections
+
+abbrev pub on_certificates_after : Commands (Passed × Verification TypeOver Section)
+on_certificates_after = skipping passed_by on_certificates
 
 -- what is done
 abbrev pub certified : Requested → List Section → ℕ → Verification TypeOver Section
 certified r sections limit =
     record { type = type_over r; sections = sections; limit = limit }
+
+-- and what is passed over before
+abbrev pub certified_after :
+    Requested → List Section → Reading → Passed × Verification TypeOver Section
+certified_after r sections reading =
+    (record { bytes = reading.skip; copied = false }, certified r sections reading.limit)
 
 -- the stop of value k that is refused, where it is not for out of memory
 abbrev pub IsStopOf : ℕ → ReadRefusal → Stop → Type 0

@@ -8,13 +8,16 @@ ghost use Rattle.om_promises.specs.Call.{call};
 ghost use Rattle.om_work.specs.Reported.{HasAccount};
 ghost use Rattle.om_declared.specs.Types.{IsReady};
 ghost use Rattle.om_verifier.specs.Asked.{AsksToVerify};
-ghost use Rattle.om_verifier.specs.Reading.{on_certificates, certified};
+ghost use Rattle.om_verifier.specs.Reading.{on_certificates_after, certified_after};
 
 use crate::files::find_certificate;
 use crate::values::Certified;
 use om_declared::{Requested, find_type};
 use om_edge::{Opener, Sink, Source};
+use om_outcome::reading::Reading;
 use om_outcome::status::Status;
+use om_passer::{Over, Passing};
+use om_passing::laws::ByWords;
 use om_section::Section;
 use om_stops::stop::report_stop;
 use om_work::run_reported;
@@ -25,19 +28,24 @@ fn verify_values<S: Source, K: Sink, E: Sink>(
     alloc: Global,
     requested: &Requested,
     sections: &[Section],
-    limit: u64,
+    reading: Reading,
     input: &mut S,
     out: &mut K,
     err: &mut E,
 ) -> Status
     requires { IsReady requested.now }
-    ensures { HasAccount on_certificates (certified requested.now sections.now limit)
+    ensures { HasAccount on_certificates_after (certified_after requested.now sections.now reading)
         (change (S.state input.old) (S.state input.new))
         (change (K.state out.old) (K.state out.new)) (change (E.state err.old) (E.state err.new))
         result }
 {
-    let mut work = Certified::new(alloc, requested, sections, limit);
-    run_reported(alloc, &mut work, input, out, err)
+    let work = Certified::new(alloc, requested, sections, reading.limit);
+    let over = Over {
+        bytes: reading.skip,
+        copied: false,
+    };
+    let mut passing = Passing::<ByWords, _>::new(work, over);
+    run_reported(alloc, &mut passing, input, out, err)
 }
 
 // Reads CERT, and verifies the values.
@@ -45,7 +53,7 @@ fn verify_by<S: Source, O: Opener, K: Sink, E: Sink>(
     alloc: Global,
     requested: &Requested,
     certificate: &str,
-    limit: u64,
+    reading: Reading,
     input: &mut S,
     files: &mut O,
     out: &mut K,
@@ -53,9 +61,9 @@ fn verify_by<S: Source, O: Opener, K: Sink, E: Sink>(
 ) -> Status
     requires { IsReady requested.now }
     ensures { (words : List (List ℕ)) (before : FilesState)
-        → AsksToVerify words requested.now certificate.now limit
+        → AsksToVerify words requested.now certificate.now reading
         (change before (O.state files.old))
-        → Account on_certificates words
+        → Account on_certificates_after words
         (call (change (S.state input.old) (S.state input.new))
         (change before (O.state files.new)) (change (K.state out.old) (K.state out.new))
         (change (E.state err.old) (E.state err.new)) result) }
@@ -65,7 +73,7 @@ fn verify_by<S: Source, O: Opener, K: Sink, E: Sink>(
             alloc,
             requested,
             sections.as_slice(),
-            limit,
+            reading,
             input,
             out,
             err,
@@ -79,7 +87,7 @@ fn verify_over<S: Source, O: Opener, K: Sink, E: Sink>(
     alloc: Global,
     requested: Requested,
     certificate: &str,
-    limit: u64,
+    reading: Reading,
     input: &mut S,
     files: &mut O,
     out: &mut K,
@@ -87,8 +95,8 @@ fn verify_over<S: Source, O: Opener, K: Sink, E: Sink>(
 ) -> Status
     requires { IsReady requested }
     ensures { (words : List (List ℕ)) (before : FilesState)
-        → AsksToVerify words requested certificate.now limit (change before (O.state files.old))
-        → Account on_certificates words
+        → AsksToVerify words requested certificate.now reading (change before (O.state files.old))
+        → Account on_certificates_after words
         (call (change (S.state input.old) (S.state input.new))
         (change before (O.state files.new)) (change (K.state out.old) (K.state out.new))
         (change (E.state err.old) (E.state err.new)) result) }
@@ -97,7 +105,7 @@ fn verify_over<S: Source, O: Opener, K: Sink, E: Sink>(
         alloc,
         &requested,
         certificate,
-        limit,
+        reading,
         input,
         files,
         out,
@@ -111,22 +119,32 @@ pub fn verify<S: Source, O: Opener, K: Sink, E: Sink>(
     file: &str,
     type_text: &str,
     certificate: &str,
-    limit: u64,
+    lines: bool,
+    reading: Reading,
     input: &mut S,
     files: &mut O,
     out: &mut K,
     err: &mut E,
 ) -> Status
     ensures { (words : List (List ℕ))
-        → Asks words (own (verify_of file.now type_text.now certificate.now limit))
-        → Account on_certificates words
+        → Asks words (own (verify_of file.now type_text.now certificate.now lines reading))
+        → Account on_certificates_after words
         (call (change (S.state input.old) (S.state input.new))
         (change (O.state files.old) (O.state files.new))
         (change (K.state out.old) (K.state out.new))
         (change (E.state err.old) (E.state err.new)) result) }
 {
-    match find_type(alloc, files, file, type_text) {
-        Ok(requested) => verify_over(alloc, requested, certificate, limit, input, files, out, err),
+    match find_type(alloc, files, file, type_text, lines) {
+        Ok(requested) => verify_over(
+            alloc,
+            requested,
+            certificate,
+            reading,
+            input,
+            files,
+            out,
+            err,
+        ),
         Err(stop) => report_stop(alloc, err, &stop),
     }
 }

@@ -6,11 +6,14 @@ use Rattle.om_work.specs.Works.{ItemsStay}
 
 module _ {A : Type 0} (c : Commands A) (a : A) where
   cut_stays :
-      ItemsStay c a → (bytes : List ℕ) (items : List Item) (rest later : List ℕ)
-      → Cut c a bytes items rest → Cut c a (bytes ++ later) items (rest ++ later)
-  cut_stays stay bytes [] rest later same = ap (λ b. b ++ later) same
-  cut_stays stay bytes (item ∷ items) rest later (more, is, cut) =
-      (more ++ later, stay bytes item more later is, cut_stays stay more items rest later cut)
+      ItemsStay c a → (before : List Item) (bytes : List ℕ) (items : List Item) (rest later : List ℕ)
+      → Cut c a before bytes items rest → Cut c a before (bytes ++ later) items (rest ++ later)
+  cut_stays stay before bytes [] rest later same = ap (λ b. b ++ later) same
+  cut_stays stay before bytes (item ∷ items) rest later (more, is, cut) = (
+    more ++ later,
+    stay before bytes item more later is,
+    cut_stays stay (before ++ item ∷ []) more items rest later cut,
+  )
 
   -- what is said of the first items stays
   pub first_stays :
@@ -18,16 +21,24 @@ module _ {A : Type 0} (c : Commands A) (a : A) where
       → SaysFirst c a bytes items said rest
       → SaysFirst c a (bytes ++ later) items said (rest ++ later)
   first_stays stay bytes items said rest later first =
-      record { cut = cut_stays stay bytes items rest later first.cut; all_say = first.all_say }
+      record { cut = cut_stays stay [] bytes items rest later first.cut; all_say = first.all_say }
 
   cut_next :
-      (bytes : List ℕ) (items : List Item) (rest : List ℕ) (item : Item) (more : List ℕ)
-      → Cut c a bytes items rest → c.IsFirst a rest item more
-      → Cut c a bytes (items ++ item ∷ []) more
-  cut_next bytes [] rest item more same is =
-      (more, subst (λ b. c.IsFirst a b item more) (sym same) is, refl)
-  cut_next bytes (first ∷ items) rest item more (after, is_first, cut) is =
-      (after, is_first, cut_next after items rest item more cut is)
+      (before : List Item) (bytes : List ℕ) (items : List Item) (rest : List ℕ) (item : Item) (more : List ℕ)
+      → Cut c a before bytes items rest → c.IsFirst a (before ++ items) rest item more
+      → Cut c a before bytes (items ++ item ∷ []) more
+  cut_next before bytes [] rest item more same is = (
+    more,
+    subst (λ i. c.IsFirst a i bytes item more) (append-nil before)
+        (subst (λ b. c.IsFirst a (before ++ []) b item more) (sym same) is),
+    refl,
+  )
+  cut_next before bytes (first ∷ items) rest item more (after, is_first, cut) is = (
+    after,
+    is_first,
+    cut_next (before ++ first ∷ []) after items rest item more cut
+        (subst (λ i. c.IsFirst a i rest item more) (sym (append_assoc before (first ∷ []) items)) is),
+  )
 
   say_next :
       (before items : List Item) (said : List Said) (item : Item) (next : Said)
@@ -47,11 +58,11 @@ module _ {A : Type 0} (c : Commands A) (a : A) where
   pub first_next :
       (bytes : List ℕ) (items : List Item) (said : List Said) (rest : List ℕ)
       (item : Item) (more : List ℕ) (next : Said)
-      → SaysFirst c a bytes items said rest → c.IsFirst a rest item more
+      → SaysFirst c a bytes items said rest → c.IsFirst a items rest item more
       → c.Says a items item next
       → SaysFirst c a bytes (items ++ item ∷ []) (said ++ next ∷ []) more
   first_next bytes items said rest item more next first is says = record {
-    cut = cut_next bytes items rest item more first.cut is;
+    cut = cut_next [] bytes items rest item more first.cut is;
     all_say = say_next [] items said item next first.all_say says;
   }
 

@@ -16,8 +16,8 @@ Has = List ℕ → List Said → Type 0
 module _ {A : Type 0} (c : Commands A) (a : A) where
   -- an item stays one when bytes follow
   abbrev pub ItemsStay : Type 0
-  ItemsStay = (bytes : List ℕ) (item : Item) (more later : List ℕ)
-      → c.IsFirst a bytes item more → c.IsFirst a (bytes ++ later) item (more ++ later)
+  ItemsStay = (items : List Item) (bytes : List ℕ) (item : Item) (more later : List ℕ)
+      → c.IsFirst a items bytes item more → c.IsFirst a items (bytes ++ later) item (more ++ later)
 
   -- this is said of the first items of the bytes
   abbrev pub AreSaid : List ℕ → List Said → Type 0

@@ -19,15 +19,15 @@ use Rattle.om_work_examples.specs.Small.{fine, bytes_but}
 use Rattle.om_work_examples.specs.Taken.{HasBytes}
 
 pub bytes_stay : (refused : ℕ) → ItemsStay bytes_but refused
-bytes_stay refused bytes item more later is = (is.0, ap (λ b. b ++ later) is.1, is.2)
+bytes_stay refused items bytes item more later is = (is.0, ap (λ b. b ++ later) is.1, is.2)
 
 -- each item has a byte
 few_items :
-    (refused : ℕ) (bytes : List ℕ) (items : List Item) (rest : List ℕ)
-    → Cut bytes_but refused bytes items rest → length items ≤ length bytes
-few_items refused bytes [] rest cut = omega arith
-few_items refused bytes (item ∷ items) rest (more, is, cut) =
-    let few = few_items refused more items rest cut in
+    (refused : ℕ) (before : List Item) (bytes : List ℕ) (items : List Item) (rest : List ℕ)
+    → Cut bytes_but refused before bytes items rest → length items ≤ length bytes
+few_items refused before bytes [] rest cut = omega arith
+few_items refused before bytes (item ∷ items) rest (more, is, cut) =
+    let few = few_items refused (before ++ item ∷ []) more items rest cut in
     let size : length bytes ≡ length (is.0 ∷ more) = ap length is.1 in omega (arith, few, size)
 
 module _ (refused count : ℕ) (bytes : List ℕ) (said : List Said)
@@ -35,7 +35,7 @@ module _ (refused count : ℕ) (bytes : List ℕ) (said : List Said)
   pub count_few : count ≤ length bytes
   count_few =
       let counted = h.counted in
-      let few = few_items refused bytes h.items [] h.first.cut in omega (arith, counted, few)
+      let few = few_items refused [] bytes h.items [] h.first.cut in omega (arith, counted, few)
 
   abbrev pub bytes_hold : HoldNoStop bytes_but refused bytes said
   bytes_hold = record {

@@ -8,12 +8,12 @@ use Rattle.om_work_examples.proofs.LinesLemmas.{lines_stay}
 
 pub telling_lawful : (a : List ℕ) → AreLawfulAt telling a
 telling_lawful a = record {
-  first_once = λ bytes are_bytes item other more rest h k. absurd h;
+  first_once = λ items bytes are_bytes item other more rest h k. absurd h;
   says_once = λ items item said other h k. absurd h;
   stops_once = λ items bytes are_bytes stop other h k. absurd h;
   ends_once = λ items bytes are_bytes last other h k. h ∙ sym k;
-  front = λ bytes item more h. absurd h;
-  item_stays = λ bytes item more later h. h;
+  front = λ items bytes item more h. absurd h;
+  item_stays = λ items bytes item more later h. h;
   stop_stays = λ items bytes later stop h. h;
   stops_inside = λ items bytes stop h. absurd h;
   ends_inside = λ items bytes stop h. absurd (cc h);
@@ -22,7 +22,7 @@ telling_lawful a = record {
 
 pub bytes_lawful : (a : ℕ) → AreLawfulAt bytes_but a
 bytes_lawful a = record {
-  first_once = λ bytes are_bytes item other more rest h k.
+  first_once = λ items bytes are_bytes item other more rest h k.
       let is : h.0 ∷ more ≡ k.0 ∷ rest = sym h.1 ∙ k.1 in
       let byte : h.0 ≡ k.0 = cc is in
       let tail : more ≡ rest = cc is in
@@ -33,7 +33,7 @@ bytes_lawful a = record {
       h.3 ∙ (ap (λ b. fine (b ∷ [])) byte ∙ sym k.3);
   stops_once = λ items bytes are_bytes stop other h k. h.2 ∙ sym k.2;
   ends_once = λ items bytes are_bytes last other h k. h ∙ sym k;
-  front = λ bytes item more h. (h.0 ∷ [], h.1, omega arith);
+  front = λ items bytes item more h. (h.0 ∷ [], h.1, omega arith);
   item_stays = bytes_stay a;
   stop_stays = λ items bytes later stop h. (h.0 ++ later, ap (λ x. x ++ later) h.1, h.2);
   stops_inside = λ items bytes stop h. subst IsInner (sym h.2) tt;
@@ -61,7 +61,7 @@ line_once (b ∷ line) (d ∷ other) more rest (is, one) (is', two) same =
 
 pub lines_lawful : (a : Unit {0}) → AreLawfulAt lines a
 lines_lawful a = record {
-  first_once = λ bytes are_bytes item other more rest h k.
+  first_once = λ items bytes are_bytes item other more rest h k.
       let one = line_once h.line k.line more rest h.unbroken k.unbroken
       (sym h.bytes_are ∙ k.bytes_are) in
       (h.is ∙ (ap (λ l. text l) one.0 ∙ sym k.is), one.1);
@@ -71,7 +71,7 @@ lines_lawful a = record {
       h.2 ∙ (ap (λ l. fine (l ++ 10 ∷ [])) same ∙ sym k.2);
   stops_once = λ items bytes are_bytes stop other h k. absurd h;
   ends_once = λ items bytes are_bytes last other h k. h ∙ sym k;
-  front = λ bytes item more h. (
+  front = λ items bytes item more h. (
     h.line ++ 10 ∷ [],
     h.bytes_are ∙ sym (append_assoc h.line (10 ∷ []) more),
     (let size = length-append h.line (10 ∷ []) in omega (arith, size)),

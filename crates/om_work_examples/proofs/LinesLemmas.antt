@@ -26,7 +26,7 @@ unbroken_next [] b all other = (other, tt)
 unbroken_next (first ∷ line) b (is, rest) other = (is, unbroken_next line b rest other)
 
 pub lines_stay : ItemsStay lines tt
-lines_stay bytes item more later is = record {
+lines_stay items bytes item more later is = record {
   line = is.line;
   unbroken = is.unbroken;
   bytes_are = ap (λ b. b ++ later) is.bytes_are ∙ append_assoc is.line (10 ∷ more) later;

@@ -1,5 +1,5 @@
 use Rattle.om_edge.specs.State.{change}
-use Rattle.om_certifier.specs.Reading.{certified}
+use Rattle.om_certifier.specs.Reading.{certified_after}
 use Rattle.om_certifier.proofs.AccountLemmas.{memory_account}
 use Rattle.om_certifier.proofs.command.certify_by.Goals as goal
 
@@ -8,7 +8,7 @@ returns-in-Ok g c = c.certify_values.ensures
 
 pub returns-in-Err : goal.returns-in-Err
 returns-in-Err g c =
-    memory_account (certified c.args.requested.now c.args.limit) (g.S.Source.state c.args.input.now)
+    memory_account (certified_after c.args.requested.now c.args.reading) (g.S.Source.state c.args.input.now)
     (g.K.Sink.state c.args.out.now)
     (change (g.E.Sink.state c.args.err.now) (g.E.Sink.state c.report_stop.new.err))
     c.report_stop.result c.report_stop.ensures

@@ -1,11 +1,5 @@
-use Rattle.std.proofs.Common.{◌∙◌}
-use Rattle.std.specs.Str.Parse.{ParsesUnsigned, ExplainsUnsignedError, HasUnsignedDigitsIfOk}
-use Rattle.clap.specs.Words.{found_of}
-use Rattle.om_command_line.proofs.ReadLemmas.{number_got}
+use Rattle.std.proofs.Common.{◌∙◌, ℕ, Option, ap, unwrap_or}
 use Rattle.om_command_line.proofs.read.number.Goals as goal
 
 pub returns : goal.returns
-returns c =
-    c.unwrap_or.ensures
-    ∙ number_got (λ text r. ParsesUnsigned 64 10 text r × ExplainsUnsignedError 10 text r × HasUnsignedDigitsIfOk text r) (λ text r gives. gives.0) (found_of c.args.arguments.now) c.args.name.now c.get_one.result
-    c.get_one.ensures.none c.get_one.ensures.value
+returns c = c.unwrap_or.ensures ∙ ap (λ (o : Option ℕ). unwrap_or o 0) c.given.ensures

@@ -1,14 +1,14 @@
 use Rattle.std.proofs.Common.{ap}
-use Rattle.std.specs.Prelude.{option_map}
+use Rattle.std.specs.Prelude.{option_and_then, option_map}
 use Rattle.om_outcome.specs.CommandLine.{forms}
-use Rattle.om_command_line.specs.Requests.{arguments_of, asked}
+use Rattle.om_command_line.specs.Requests.{arguments_of, asked, if_whole}
 use Rattle.om_command_line.proofs.ReadLemmas.{name_unknown}
 use Rattle.om_command_line.proofs.read.request_by.Goals as goal
 
 -- src/read.rt:106:1
 pub returns-in_default : goal.returns-in_default
 returns-in_default c =
-    ap (option_map (λ form. asked form.arguments form.asks (arguments_of c.args.arguments.now)))
+    ap (λ o. option_and_then if_whole (option_map (λ form. asked form.arguments form.asks (arguments_of c.args.arguments.now)) o))
     (name_unknown c.args.command.now forms (
       c.in_default.not-check,
       (

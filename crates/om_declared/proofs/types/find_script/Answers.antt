@@ -11,8 +11,8 @@ returns-in-Ok-Opened g c =
 
 pub returns-in-Ok-Missing : goal.returns-in-Ok-Missing
 returns-in-Ok-Missing g c =
-    (missing, rw c.in-Ok-Missing.field-0-is at c.in-Ok-Missing.ensures, script_missing c.args.name.now (CannotOpen c.args.name) refl)
+    (missing, rw c.in-Ok-Missing.field-0-is at c.in-Ok-Missing.ensures, script_missing c.args.lines c.args.name.now (CannotOpen c.args.name) refl)
 
 pub returns-in-Ok-Failed : goal.returns-in-Ok-Failed
 returns-in-Ok-Failed g c =
-    (failed, rw c.in-Ok-Failed.field-0-is at c.in-Ok-Failed.ensures, script_failed c.args.name.now (CannotOpen c.args.name) refl)
+    (failed, rw c.in-Ok-Failed.field-0-is at c.in-Ok-Failed.ensures, script_failed c.args.lines c.args.name.now (CannotOpen c.args.name) refl)

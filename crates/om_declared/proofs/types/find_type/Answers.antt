@@ -1,5 +1,5 @@
 use Rattle.std.proofs.Common.{refl}
-use Rattle.om_outcome.specs.Outcome.{opened, missing, failed}
+use Rattle.om_outcome.specs.Outcome.{opened, missing, failed, asked_type}
 use Rattle.om_stops.specs.declared.stop.Stop.TheVariants.{CannotOpen}
 use Rattle.om_declared.specs.Gathered.{taken_of}
 use Rattle.om_declared.proofs.TypeLemmas.{reads_missing, reads_failed}
@@ -11,8 +11,8 @@ returns-in-Ok-Opened g c =
 
 pub returns-in-Ok-Missing : goal.returns-in-Ok-Missing
 returns-in-Ok-Missing g c =
-    (missing, rw c.in-Ok-Missing.field-0-is at c.in-Ok-Missing.ensures, reads_missing c.args.file.now c.args.type_text.now (CannotOpen c.args.file) refl)
+    (missing, rw c.in-Ok-Missing.field-0-is at c.in-Ok-Missing.ensures, reads_missing c.args.file.now (asked_type c.args.type_text.now c.args.lines) (CannotOpen c.args.file) refl)
 
 pub returns-in-Ok-Failed : goal.returns-in-Ok-Failed
 returns-in-Ok-Failed g c =
-    (failed, rw c.in-Ok-Failed.field-0-is at c.in-Ok-Failed.ensures, reads_failed c.args.file.now c.args.type_text.now (CannotOpen c.args.file) refl)
+    (failed, rw c.in-Ok-Failed.field-0-is at c.in-Ok-Failed.ensures, reads_failed c.args.file.now (asked_type c.args.type_text.now c.args.lines) (CannotOpen c.args.file) refl)

@@ -7,17 +7,17 @@ use Rattle.om_declared.proofs.TypeLemmas.{script_fault, script_read, script_refu
 use Rattle.om_declared.proofs.types.read_lines.Goals as goal
 
 pub returns-in-Fault : goal.returns-in-Fault
-returns-in-Fault c = λ name. script_fault name (taken_of c.args.gathered.now) stops.ReadFault (ap (λ u. fault_of (until_of u)) c.in-Fault.is)
+returns-in-Fault c = λ name. script_fault c.args.lines name (taken_of c.args.gathered.now) stops.ReadFault (ap (λ u. fault_of (until_of u)) c.in-Fault.is)
 
 pub returns-in-Length : goal.returns-in-Length
-returns-in-Length c = λ name. script_fault name (taken_of c.args.gathered.now) stops.TooLong (ap (λ u. fault_of (until_of u)) c.in-Length.is)
+returns-in-Length c = λ name. script_fault c.args.lines name (taken_of c.args.gathered.now) stops.TooLong (ap (λ u. fault_of (until_of u)) c.in-Length.is)
 
 pub returns-in-Ok : goal.returns-in-Ok
 returns-in-Ok c = λ name.
-    script_read name (taken_of c.args.gathered.now) (ap until_of c.in-End.is) c.in-Ok.script
+    script_read c.args.lines name (taken_of c.args.gathered.now) (ap until_of c.in-End.is) c.in-Ok.script
     (subst (λ text. IsScriptAnswer text (Ok c.in-Ok.script)) c.as_slice.ensures.value c.in-Ok.ensures.script)
 
 pub returns-in-Err : goal.returns-in-Err
 returns-in-Err c = λ name.
-    script_refused name (taken_of c.args.gathered.now) (ap until_of c.in-End.is) c.in-Err.fault
+    script_refused c.args.lines name (taken_of c.args.gathered.now) (ap until_of c.in-End.is) c.in-Err.fault
     (subst (λ text. UnlessMemory (λ f. IsScriptAnswer text (Err f)) c.in-Err.fault) c.as_slice.ensures.value c.in-Err.ensures.fault) c.script_stop.result c.script_stop.ensures

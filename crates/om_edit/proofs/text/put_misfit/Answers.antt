@@ -1,6 +1,7 @@
 use Rattle.std.proofs.Common.{◌++◌}
-use Rattle.std.specs.Prelude.{codes, decimal}
+use Rattle.std.specs.Prelude.{codes}
 use Rattle.std.proofs.lemmas.Result.{on_ok_weaker}
+use Rattle.om_lines.specs.Places.{told_by}
 use Rattle.om_fault.specs.Text.{text_at}
 use Rattle.om_fault.proofs.ClashTexts.{more}
 use Rattle.om_edit.proofs.text.put_misfit.Goals as goal
@@ -8,7 +9,7 @@ use Rattle.om_edit.proofs.text.put_misfit.Goals as goal
 pub returns : goal.returns
 returns c =
     let old = c.args.text.now.items in
-    let a = codes "Misfit at " ++ decimal c.args.place in
+    let a = codes "Misfit at " ++ told_by c.args.places.now c.args.place in
     let b = a ++ codes ": expected " in
     let one = c.put_at.new.text.items in
     let two = c.put.new.text.items in

@@ -8,6 +8,7 @@ returns-in-Ok g c = λ words asks.
     c.edit_over.ensures words (g.O.Opener.state c.args.files.now) (record {
       file = c.args.file.now;
       type = c.args.type_text.now;
+      lines = c.args.lines;
       asks = asks;
       found = found.0;
       fetched = found.1;
@@ -17,7 +18,7 @@ returns-in-Ok g c = λ words asks.
 pub returns-in-Err : goal.returns-in-Err
 returns-in-Err g c = λ words asks.
     let found = c.in-Err.ensures in
-    file_account words c.args.file.now c.args.type_text.now c.args.script.now c.args.compat c.args.limit asks
+    file_account words c.args.file.now c.args.type_text.now c.args.script.now c.args.compat c.args.lines c.args.reading asks
     (change (g.O.Opener.state c.args.files.now) (g.O.Opener.state c.find_type.new.files))
     found.0 found.1 c.in-Err.stop found.2
     (g.S.Source.state c.args.input.now) (g.K.Sink.state c.args.out.now)

@@ -10,7 +10,7 @@ take_values-requires g c = (c.requires.ready, c.requires.in_time)
 pub returns : goal.returns
 returns g c = λ words before after asks.
     let lent : Bor Script = record { ref_ptr = (0, 0); now = c.args.script } in
-    edits_account words c.args.requested asks.name c.args.compat c.args.limit before asks.between after asks.asks asks.found asks.fetched lent asks.gives
+    edits_account words c.args.requested asks.name c.args.compat c.args.reading before asks.between after asks.asks asks.found asks.fetched lent asks.gives
     (change (g.S.Source.state c.args.input.now) (g.S.Source.state c.take_values.new.input))
     (change (g.K.Sink.state c.args.out.now) (g.K.Sink.state c.take_values.new.out))
     (change (g.E.Sink.state c.args.err.now) (g.E.Sink.state c.take_values.new.err)) c.take_values.result c.take_values.ensures

@@ -2,79 +2,79 @@ use Rattle.std.proofs.Common.{refl}
 use Rattle.om_outcome.specs.CommandLine.{certify, scan}
 use Rattle.om_outcome.specs.Outcome.{Request, tell, the_verdict, the_text, the_trees, get, edit, dump, compare, own, build, generate, verify, Asks}
 use Rattle.om_edge.specs.State.{change}
-use Rattle.om_session.specs.All.{on_values, on_texts, on_made, on_certificates, on_certified, on_places, IsOfValues, IsOfTexts, IsOfMade, IsOfCertificates, IsOfSections, IsOfPlaces}
+use Rattle.om_session.specs.All.{on_values_after, on_texts, on_made, on_certificates_after, on_certified_after, on_places, IsOfValues, IsOfTexts, IsOfMade, IsOfCertificates, IsOfSections, IsOfPlaces}
 use Rattle.om_session.proofs.AccountLemmas.{dump_account, compare_account}
 use Rattle.om_session.proofs.PartLemmas.{all_account}
 use Rattle.om_session.proofs.top.run_request.Goals as goal
 
 pub returns-in-Check : goal.returns-in-Check
 returns-in-Check g c = λ words asks.
-    let request : Request = tell the_verdict c.in-Check.file.now c.in-Check.type_text.now c.in-Check.limit in
+    let request : Request = tell the_verdict c.in-Check.file.now c.in-Check.type_text.now c.in-Check.lines c.in-Check.reading in
     let asked : Asks words request = rw c.in-Check.is at asks in
-    all_account on_values IsOfValues c.all_commands_have_parts.ensures.values words _ request asked tt
-    (c.tell.ensures words (record { request = request; asks = asked; typed = refl; limited = refl; has_path = tt; finds = λ file result h. h }))
+    all_account on_values_after IsOfValues c.all_commands_have_parts.ensures.values words _ request asked tt
+    (c.tell.ensures words (record { request = request; asks = asked; typed = refl; limited = refl; passes = refl; picks = refl; has_path = tt; finds = λ file result h. h }))
 
 pub returns-in-Show : goal.returns-in-Show
 returns-in-Show g c = λ words asks.
-    let request : Request = tell (the_text c.in-Show.style) c.in-Show.file.now c.in-Show.type_text.now c.in-Show.limit in
+    let request : Request = tell (the_text c.in-Show.style) c.in-Show.file.now c.in-Show.type_text.now c.in-Show.lines c.in-Show.reading in
     let asked : Asks words request = rw c.in-Show.is at asks in
-    all_account on_values IsOfValues c.all_commands_have_parts.ensures.values words _ request asked tt
-    (c.tell-in-Show.ensures words (record { request = request; asks = asked; typed = refl; limited = refl; has_path = tt; finds = λ file result h. h }))
+    all_account on_values_after IsOfValues c.all_commands_have_parts.ensures.values words _ request asked tt
+    (c.tell-in-Show.ensures words (record { request = request; asks = asked; typed = refl; limited = refl; passes = refl; picks = refl; has_path = tt; finds = λ file result h. h }))
 
 pub returns-in-Get : goal.returns-in-Get
 returns-in-Get g c = λ words asks.
-    let request : Request = get c.in-Get.file.now c.in-Get.type_text.now c.in-Get.path_text.now c.in-Get.style c.in-Get.limit in
+    let request : Request = get c.in-Get.file.now c.in-Get.type_text.now c.in-Get.path_text.now c.in-Get.style c.in-Get.lines c.in-Get.reading in
     let asked : Asks words request = rw c.in-Get.is at asks in
-    all_account on_values IsOfValues c.all_commands_have_parts.ensures.values words _ request asked tt (c.get.ensures words asked)
+    all_account on_values_after IsOfValues c.all_commands_have_parts.ensures.values words _ request asked tt (c.get.ensures words asked)
 
 pub returns-in-Edit : goal.returns-in-Edit
 returns-in-Edit g c = λ words asks.
-    let request : Request = edit c.in-Edit.file.now c.in-Edit.type_text.now c.in-Edit.script.now c.in-Edit.compat c.in-Edit.limit in
+    let request : Request = edit c.in-Edit.file.now c.in-Edit.type_text.now c.in-Edit.script.now c.in-Edit.compat c.in-Edit.lines c.in-Edit.reading in
     let asked : Asks words request = rw c.in-Edit.is at asks in
-    all_account on_values IsOfValues c.all_commands_have_parts.ensures.values words _ request asked tt (c.edit.ensures words asked)
+    all_account on_values_after IsOfValues c.all_commands_have_parts.ensures.values words _ request asked tt (c.edit.ensures words asked)
 
 pub returns-in-Trees : goal.returns-in-Trees
 returns-in-Trees g c = λ words asks.
-    let request : Request = tell the_trees c.in-Trees.file.now c.in-Trees.type_text.now c.in-Trees.limit in
+    let request : Request = tell the_trees c.in-Trees.file.now c.in-Trees.type_text.now c.in-Trees.lines c.in-Trees.reading in
     let asked : Asks words request = rw c.in-Trees.is at asks in
-    all_account on_values IsOfValues c.all_commands_have_parts.ensures.values words _ request asked tt
-    (c.tell-in-Trees.ensures words (record { request = request; asks = asked; typed = refl; limited = refl; has_path = tt; finds = λ file result h. h }))
+    all_account on_values_after IsOfValues c.all_commands_have_parts.ensures.values words _ request asked tt
+    (c.tell-in-Trees.ensures words (record { request = request; asks = asked; typed = refl; limited = refl; passes = refl; picks = refl; has_path = tt; finds = λ file result h. h }))
 
 pub returns-in-Dump : goal.returns-in-Dump
 returns-in-Dump g c = λ words asks.
-    let asked : Asks words (dump c.in-Dump.limit) = rw c.in-Dump.is at asks in
-    all_account on_values IsOfValues c.all_commands_have_parts.ensures.values words _ (dump c.in-Dump.limit) asked tt
-    (dump_account words c.in-Dump.limit (g.O.Opener.state c.args.files.now)
+    let asked : Asks words (dump c.in-Dump.reading) = rw c.in-Dump.is at asks in
+    all_account on_values_after IsOfValues c.all_commands_have_parts.ensures.values words _ (dump c.in-Dump.reading) asked tt
+    (dump_account words c.in-Dump.reading (g.O.Opener.state c.args.files.now)
     (change (g.S.Source.state c.args.input.now) (g.S.Source.state c.take_values.new.input))
     (change (g.K.Sink.state c.args.out.now) (g.K.Sink.state c.take_values.new.out))
     (change (g.E.Sink.state c.args.err.now) (g.E.Sink.state c.take_values.new.err)) c.take_values.result asked c.take_values.ensures)
 
 pub returns-in-Same : goal.returns-in-Same
 returns-in-Same g c = λ words asks.
-    let asked : Asks words (compare c.in-Same.limit) = rw c.in-Same.is at asks in
-    all_account on_values IsOfValues c.all_commands_have_parts.ensures.values words _ (compare c.in-Same.limit) asked tt
-    (compare_account words c.in-Same.limit (g.O.Opener.state c.args.files.now)
+    let asked : Asks words (compare c.in-Same.reading) = rw c.in-Same.is at asks in
+    all_account on_values_after IsOfValues c.all_commands_have_parts.ensures.values words _ (compare c.in-Same.reading) asked tt
+    (compare_account words c.in-Same.reading (g.O.Opener.state c.args.files.now)
     (change (g.S.Source.state c.args.input.now) (g.S.Source.state c.take_values-in-Same.new.input))
     (change (g.K.Sink.state c.args.out.now) (g.K.Sink.state c.take_values-in-Same.new.out))
     (change (g.E.Sink.state c.args.err.now) (g.E.Sink.state c.take_values-in-Same.new.err)) c.take_values-in-Same.result asked c.take_values-in-Same.ensures)
 
 pub returns-in-Build : goal.returns-in-Build
 returns-in-Build g c = λ words asks.
-    let request : Request = own (build c.in-Build.file.now c.in-Build.type_text.now) in
+    let request : Request = own (build c.in-Build.file.now c.in-Build.type_text.now c.in-Build.lines) in
     let asked : Asks words request = rw c.in-Build.is at asks in
     all_account on_texts IsOfTexts c.all_commands_have_parts.ensures.texts words _ request asked tt (c.build.ensures words asked)
 
 pub returns-in-Verify : goal.returns-in-Verify
 returns-in-Verify g c = λ words asks.
-    let request : Request = own (verify c.in-Verify.file.now c.in-Verify.type_text.now c.in-Verify.certificate.now c.in-Verify.limit) in
+    let request : Request = own (verify c.in-Verify.file.now c.in-Verify.type_text.now c.in-Verify.certificate.now c.in-Verify.lines c.in-Verify.reading) in
     let asked : Asks words request = rw c.in-Verify.is at asks in
-    all_account on_certificates IsOfCertificates c.all_commands_have_parts.ensures.certificates words _ request asked tt (c.verify.ensures words asked)
+    all_account on_certificates_after IsOfCertificates c.all_commands_have_parts.ensures.certificates words _ request asked tt (c.verify.ensures words asked)
 
 pub returns-in-Certify : goal.returns-in-Certify
 returns-in-Certify g c = λ words asks.
-    let request : Request = own (certify c.in-Certify.file.now c.in-Certify.type_text.now c.in-Certify.limit) in
+    let request : Request = own (certify c.in-Certify.file.now c.in-Certify.type_text.now c.in-Certify.lines c.in-Certify.reading) in
     let asked : Asks words request = rw c.in-Certify.is at asks in
-    all_account on_certified IsOfSections c.all_commands_have_parts.ensures.sections words _ request asked tt (c.certify.ensures words asked)
+    all_account on_certified_after IsOfSections c.all_commands_have_parts.ensures.sections words _ request asked tt (c.certify.ensures words asked)
 
 pub returns-in-Generate : goal.returns-in-Generate
 returns-in-Generate g c = λ words asks.

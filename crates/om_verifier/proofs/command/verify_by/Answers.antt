@@ -5,7 +5,7 @@ use Rattle.om_verifier.proofs.command.verify_by.Goals as goal
 pub returns-in-Ok : goal.returns-in-Ok
 returns-in-Ok g c = λ words before asks.
     let found = c.in-Ok.ensures in
-    sections_account words c.args.requested.now c.args.certificate.now c.args.limit before
+    sections_account words c.args.requested.now c.args.certificate.now c.args.reading before
     (g.O.Opener.state c.args.files.now) (g.O.Opener.state c.find_certificate.new.files) asks found.0
     found.1 c.as_slice.result.now (rw (← c.as_slice.ensures) at found.2)
     (change (g.S.Source.state c.args.input.now) (g.S.Source.state c.verify_values.new.input))
@@ -16,7 +16,7 @@ returns-in-Ok g c = λ words before asks.
 pub returns-in-Err : goal.returns-in-Err
 returns-in-Err g c = λ words before asks.
     let found = c.in-Err.ensures in
-    no_sections_account words c.args.requested.now c.args.certificate.now c.args.limit before
+    no_sections_account words c.args.requested.now c.args.certificate.now c.args.reading before
     (g.O.Opener.state c.args.files.now) (g.O.Opener.state c.find_certificate.new.files) asks found.0
     found.1 c.in-Err.stop found.2 (g.S.Source.state c.args.input.now)
     (g.K.Sink.state c.args.out.now)

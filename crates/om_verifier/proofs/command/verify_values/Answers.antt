@@ -1,17 +1,28 @@
-use Rattle.std.proofs.Common.{List, ap, Bor}
+use Rattle.std.proofs.Common.{List, ◌∙◌, ap, Bor}
 use Rattle.om_edge.specs.State.{change}
 use Rattle.om_section.specs.declared.section.Section.{Section}
 use Rattle.om_declared.specs.declared.types.Requested.{Requested}
+use Rattle.om_passer.specs.declared.passing.Over.{Over}
+use Rattle.om_passer.specs.Passing.{passed_of}
+use Rattle.om_verifier.specs.Reading.{certified, certified_after}
 use Rattle.om_verifier.proofs.AccountLemmas.{account_same}
 use Rattle.om_verifier.proofs.command.verify_values.Goals as goal
 
 pub returns : goal.returns
 returns g c =
     let w = c.new-work.result in
-    account_same w.requested.now c.args.requested.now w.sections.now c.args.sections.now w.limit
-    c.args.limit (change (g.S.Source.state c.args.input.now) (g.S.Source.state c.run_reported.new.input))
+    let p = c.new-passing.result in
+    let r = c.args.requested.now in
+    let all = c.args.sections.now in
+    let asked = certified_after r all c.args.reading in
+    account_same (passed_of p.over) asked.0
+    (certified p.work.requested.now p.work.sections.now p.work.limit) asked.1
+    (change (g.S.Source.state c.args.input.now) (g.S.Source.state c.run_reported.new.input))
     (change (g.K.Sink.state c.args.out.now) (g.K.Sink.state c.run_reported.new.out))
     (change (g.E.Sink.state c.args.err.now) (g.E.Sink.state c.run_reported.new.err))
-    c.run_reported.result (ap (λ (q : Bor Requested). q.now) c.new-work.ensures.requested)
-    (ap (λ (q : Bor (List Section)). q.now) c.new-work.ensures.sections) c.new-work.ensures.limit
+    c.run_reported.result (ap (λ (o : Over). passed_of o) c.new-passing.ensures.over)
+    (c.new-passing.ensures.act
+    ∙ (ap (λ (q : Bor Requested). certified q.now w.sections.now w.limit) c.new-work.ensures.requested
+    ∙ (ap (λ (q : Bor (List Section)). certified r q.now w.limit) c.new-work.ensures.sections
+    ∙ ap (λ n. certified r all n) c.new-work.ensures.limit)))
     c.run_reported.ensures.account

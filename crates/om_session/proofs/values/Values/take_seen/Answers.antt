@@ -1,4 +1,4 @@
-use Rattle.std.proofs.Common.{◌+◌, ◌∷◌, [], ◌++◌, take, subst, sym, arith}
+use Rattle.std.proofs.Common.{◌+◌, true, ◌∷◌, [], ◌++◌, take, subst, sym, arith}
 use Rattle.om_edge.specs.State.{change}
 use Rattle.om_commands.specs.Tasks.{commands}
 use Rattle.om_stops.specs.declared.stop.Halt.TheVariants.{WriteFault}
@@ -35,7 +35,7 @@ returns g c = λ kept are_bytes front is.
       λ taken said (before, whole, h). (
         yes ∷ [],
         omega arith,
-        subst (λ bytes. HasRead w (record old { count = old.count + 1 }) (bytes ++ take c.args.n c.args.in_hand.now) (said ++ yes ∷ [])) (sym whole)
+        subst (λ bytes. HasRead w (record old { last = true; count = old.count + 1 }) (bytes ++ take c.args.n c.args.in_hand.now) (said ++ yes ∷ [])) (sym whole)
             (seen_read c.args.requested c.args.limit before said c.args.self.now h c.requires.between kept c.args.in_hand.now c.args.n is),
         rw (texts_of-one yes) c.in_ok-put_all.ensures.puts,
       ),

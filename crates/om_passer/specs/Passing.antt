@@ -1,0 +1,22 @@
+-- What has been passed over of the input so far, and what has been taken after that.
+use Rattle.std.specs.Prelude.{ℕ, ◌+◌, ◌<◌, ◌≡◌, List, [], ◌++◌, length}
+use Rattle.om_outcome.specs.Outcome.{Said}
+use Rattle.om_passing.specs.Skipping.{Passed, bytes_said}
+use Rattle.om_passer.specs.declared.passing.Over.{Over}
+use Rattle.om_work.specs.Works.{Has}
+
+-- how many bytes are passed over, and whether they are put
+abbrev pub passed_of : Over → Passed
+passed_of over = record { bytes = over.bytes; copied = over.copied }
+
+-- So many bytes are still to be passed over. Until then no byte was taken after them.
+pub record HasPassed (p : Passed) (has : Has) (left : ℕ) (bytes : List ℕ) (said : List Said)
+    : Type 0 where
+  pub passed : List ℕ
+  pub rest : List ℕ
+  pub told : List Said
+  pub bytes_are : bytes ≡ passed ++ rest
+  pub said_are : said ≡ bytes_said p.copied passed ++ told
+  pub counted : length passed + left ≡ p.bytes
+  pub untaken : 0 < left → (rest ≡ []) × (told ≡ [])
+  pub there : has rest told

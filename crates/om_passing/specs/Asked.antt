@@ -1,0 +1,12 @@
+-- What the words ask to pass over: so many bytes, which `edit` puts as they are.
+use Rattle.std.specs.Prelude.{Bool, true, false}
+use Rattle.om_outcome.specs.CommandLine.{reading_of}
+use Rattle.om_outcome.specs.Outcome.{Request, edit}
+use Rattle.om_passing.specs.Skipping.{Passed}
+
+abbrev pub copied_by : Request → Bool
+copied_by (edit file type script compat lines reading) = true
+copied_by request = false
+
+abbrev pub passed_by : Request → Passed
+passed_by request = record { bytes = (reading_of request).skip; copied = copied_by request }

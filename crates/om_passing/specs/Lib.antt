@@ -1,0 +1,3 @@
+pub mod Skipping
+pub mod Tables
+pub mod Asked

@@ -1,0 +1,161 @@
+//! One item of the input, told of alone.
+
+ghost use Rattle.std.specs.Prelude.{◌≡◌, ◌<◌, ◌+◌, ◌^◌, List, [], ℕ, Option, Some, length};
+ghost use Rattle.om_outcome.specs.Outcome.{Said};
+ghost use Rattle.om_edge.specs.State.{ByteState, change};
+ghost use Rattle.om_picker.specs.Picked.{nowhere, HasPicked, FeedsUnsaid, EndsBefore};
+ghost use Rattle.om_picking.specs.Picking.{picking};
+ghost use Rattle.om_work.specs.Works.{Feeds, EndsAt};
+
+use crate::Counts;
+use om_edge::{Failed, Sink};
+use om_picking::laws::PicksOne;
+use om_stops::stop::{Halt, Stop};
+use om_work::Work;
+use std::alloc::Global;
+use std::marker::PhantomData;
+
+/// A sink for what is not to be said.
+#[derive(Drop)]
+struct Nowhere {}
+
+impl Sink for Nowhere {
+    ghost state = { λ _. nowhere };
+
+    fn put(&mut self, piece: &[u8]) -> Result<usize, Failed> {
+        Ok(piece.len())
+    }
+}
+
+/// A command that tells of the item of this number alone, if there is one; else of each.
+#[derive(Drop)]
+pub struct Picking<P, W> {
+    pub work: W,
+    pub picked: Option<u64>,
+    asked: PhantomData<P>,
+}
+
+impl<P: PicksOne, W: Counts> Picking<P, W> {
+    /// No byte was taken.
+    pub fn new(work: W, picked: Option<u64>) -> Picking<P, W>
+        requires { W.has work [] [] }
+        ensures act { W.act result.work ≡ W.act work }
+        ensures picked { result.picked ≡ picked }
+        ensures has { HasPicked result.picked (W.has result.work) [] [] }
+    {
+        Picking {
+            work,
+            picked,
+            asked: PhantomData,
+        }
+    }
+}
+
+/// Takes some bytes in hand, up to the end of an item at most, of which nothing is to be said.
+fn feed_unsaid<W: Work>(alloc: Global, work: &mut W, in_hand: &[u8]) -> Result<usize, Halt>
+    requires some { 0 < length in_hand.now }
+    requires has { (bytes : List ℕ) × (said : List Said) × W.has work.old bytes said
+        × (length bytes + length in_hand.now < 2 ^ 63) }
+    ensures kept { W.act work.new ≡ W.act work.old }
+    ensures feeds { W.commands.Reads (W.act work.old)
+        → FeedsUnsaid W.commands (W.act work.old) (W.has work.old) (W.has work.new) in_hand.now
+        result }
+{
+    let mut sink = Nowhere {};
+    match work.feed(alloc, in_hand, &mut sink) {
+        Ok(taken) => Ok(taken),
+        Err(Halt::Stop(stop)) => Err(Halt::Stop(stop)),
+        Err(Halt::WriteFault) => Err(Halt::Stop(Stop::Memory)),
+    }
+}
+
+/// The run ends after so many items, before the one that is told of.
+fn end_before<W: Counts>(alloc: Global, work: &mut W) -> Result<bool, Halt>
+    requires { (bytes : List ℕ) × (said : List Said) × W.has work.old bytes said
+        × (length bytes < 2 ^ 48) }
+    ensures { EndsBefore W.commands (W.act work.old) (W.has work.old) result }
+{
+    let count = work.count();
+    let mut sink = Nowhere {};
+    match work.end(alloc, &mut sink) {
+        Ok(_) => Err(Halt::Stop(Stop::Cut(count, 0))),
+        Err(Halt::Stop(stop)) => Err(Halt::Stop(stop)),
+        Err(Halt::WriteFault) => Err(Halt::Stop(Stop::Memory)),
+    }
+}
+
+/// Takes some bytes in hand, where the item of this number alone is told of.
+fn feed_one<P: PicksOne, W: Counts, K: Sink>(
+    alloc: Global,
+    work: &mut W,
+    number: u64,
+    in_hand: &[u8],
+    out: &mut K,
+) -> Result<usize, Halt>
+    requires some { 0 < length in_hand.now }
+    requires has { (bytes : List ℕ) × (said : List Said)
+        × HasPicked (Some number) (W.has work.old) bytes said
+        × (length bytes + length in_hand.now < 2 ^ 63) }
+    ensures kept { W.act work.new ≡ W.act work.old }
+    ensures feeds { W.commands.Reads (W.act work.old)
+        → Feeds (picking P.picked_by W.commands) (Some number, W.act work.old)
+        (HasPicked (Some number) (W.has work.old)) (HasPicked (Some number) (W.has work.new))
+        in_hand.now (change (K.state out.old) (K.state out.new)) result }
+{
+    let count = work.count();
+    if number < count {
+        return Ok(in_hand.len());
+    }
+    if count < number {
+        return feed_unsaid(alloc, work, in_hand);
+    }
+    work.feed(alloc, in_hand, out)
+}
+
+/// No more bytes come, where the item of this number alone is told of: nothing more is put.
+fn end_one<P: PicksOne, W: Counts>(alloc: Global, work: &mut W, number: u64) -> Result<bool, Halt>
+    requires { (bytes : List ℕ) × (said : List Said)
+        × HasPicked (Some number) (W.has work.old) bytes said × (length bytes < 2 ^ 48) }
+    ensures { (o : ByteState) → EndsAt (picking P.picked_by W.commands)
+        (Some number, W.act work.old) (HasPicked (Some number) (W.has work.old)) (change o o)
+        result }
+{
+    work.laws();
+    let count = work.count();
+    if number < count {
+        return Ok(work.last_well());
+    }
+    end_before(alloc, work)
+}
+
+impl<P: PicksOne, W: Counts> Work for Picking<P, W> {
+    ghost Act = { Option ℕ × W.Act };
+
+    ghost commands = { picking P.picked_by W.commands };
+
+    ghost act = { λ w. (w.picked, W.act w.work) };
+
+    ghost has = { λ w bytes said. HasPicked w.picked (W.has w.work) bytes said };
+
+    fn reads(&self) -> bool {
+        self.work.reads()
+    }
+
+    fn feed<K: Sink>(&mut self, alloc: Global, in_hand: &[u8], out: &mut K) -> Result<usize, Halt> {
+        match self.picked {
+            None => self.work.feed(alloc, in_hand, out),
+            Some(number) => feed_one::<P, W, K>(alloc, &mut self.work, number, in_hand, out),
+        }
+    }
+
+    fn end<K: Sink>(&mut self, alloc: Global, out: &mut K) -> Result<bool, Halt> {
+        match self.picked {
+            None => self.work.end(alloc, out),
+            Some(number) => end_one::<P, W>(alloc, &mut self.work, number),
+        }
+    }
+
+    fn laws(&self) {
+        self.work.laws();
+    }
+}

@@ -1,0 +1,5 @@
+pub mod ToldLemmas
+pub mod PickingLemmas
+pub mod EachLemmas
+pub mod FetchLemmas
+pub mod TableLemmas

@@ -1,0 +1,199 @@
+-- Lawful commands are lawful where one item alone is told of.
+use Rattle.std.proofs.Common.{◌≡◌, ◌⊎◌, ℕ, List, Option, Some, None, Result, Ok, Err, inl, inr, sym, ap, ◌∙◌, subst, length, arith}
+use Rattle.om_model.specs.Bytes.{AreBytes}
+use Rattle.om_outcome.specs.Outcome.{opened, whole, Request, ReadsFile, Stop, value, Said, says, stops}
+use Rattle.om_outcome.specs.RefusalText.{truncated_text}
+use Rattle.om_promises.specs.Commands.{Item, Fetches, Commands}
+use Rattle.om_promises.specs.Lawful.{IsOnce, IsInner, IsWhole, FailsAtFile, IsFound, AreLawfulAt, AreLawful, AreInTurns}
+use Rattle.om_choice.specs.Choice.{IsIdleAt, AreApart}
+use Rattle.om_picking.specs.Picking.{missing, FirstBy, SaysBy, StopsBy, EndsBy, Finds, picking}
+
+module _ {A : Type 0} (picked_by : Request → Option ℕ) (c : Commands A) where
+  abbrev one : Commands (Option ℕ × A)
+  one = picking picked_by c
+
+  module _ (k : ℕ) (a : A) (law : AreLawfulAt c a) where
+    says_once : (items : List Item) (item : Item) → IsOnce (SaysBy c (Some k) a items item)
+    says_once items item x y (inl (less, told, p, is)) (inl (less', told', q, is')) = is ∙ sym is'
+    says_once items item x y (inl (less, told, p, is)) (inr (at, q)) = absurd (omega (arith, less, at))
+    says_once items item x y (inr (at, p)) (inl (less, told, q, is)) = absurd (omega (arith, less, at))
+    says_once items item x y (inr (at, p)) (inr (at', q)) = law.says_once items item x y p q
+
+    stops_once : (items : List Item) (bytes : List ℕ) → AreBytes bytes
+        → IsOnce (StopsBy c (Some k) a items bytes)
+    stops_once items bytes are_bytes x y (few, p) (few', q) =
+        law.stops_once items bytes are_bytes x y p q
+
+    ends_once : (items : List Item) (bytes : List ℕ) → AreBytes bytes
+        → IsOnce (EndsBy c (Some k) a items bytes)
+    ends_once items bytes are_bytes x y (inl (few, reply, p, is)) (inl (few', other, q, is')) =
+        is
+        ∙ (ap (missing (length items)) (law.ends_once items bytes are_bytes reply other p q)
+        ∙ sym is')
+    ends_once items bytes are_bytes x y (inl (few, reply, p, is)) (inr (count, is')) =
+        absurd (omega (arith, few, count))
+    ends_once items bytes are_bytes x y (inr (count, is)) (inl (few, reply, q, is')) =
+        absurd (omega (arith, few, count))
+    ends_once items bytes are_bytes x y (inr (count, is)) (inr (count', is')) = is ∙ sym is'
+
+    ends_inside : (items : List Item) (bytes : List ℕ) (stop : Stop)
+        → EndsBy c (Some k) a items bytes (stops stop) → IsInner stop
+    ends_inside items bytes stop (inl (few, says said, p, is)) =
+        let same : stop ≡ value (length items) (truncated_text 0) = cc is in
+        subst IsInner (sym same) tt
+    ends_inside items bytes stop (inl (few, stops other, p, is)) =
+        let same : stop ≡ other = cc is in
+        subst IsInner (sym same) (law.ends_inside items bytes other p)
+    ends_inside items bytes stop (inr (count, is)) = absurd (cc is)
+
+    stands_apart : (items : List Item) (bytes : List ℕ) → AreBytes bytes
+        → (item : Item) (more : List ℕ) (said : Said) (stop : Stop)
+        → FirstBy c (Some k) a items bytes item more → SaysBy c (Some k) a items item said
+        → StopsBy c (Some k) a items bytes stop → ⊥
+    stands_apart items bytes are_bytes item more said stop (few, p) (inl (less, told, s, is)) (few', at) =
+        law.apart items bytes are_bytes item more told stop p s at
+    stands_apart items bytes are_bytes item more said stop (few, p) (inr (here, s)) (few', at) =
+        law.apart items bytes are_bytes item more said stop p s at
+
+    lawful_of_one : AreLawfulAt one (Some k, a)
+    lawful_of_one = record {
+      first_once = λ items bytes are_bytes item other more rest p q.
+          law.first_once items bytes are_bytes item other more rest p.1 q.1;
+      says_once = says_once;
+      stops_once = stops_once;
+      ends_once = ends_once;
+      front = λ items bytes item more p. law.front items bytes item more p.1;
+      item_stays = λ items bytes item more later p.
+          (p.0, law.item_stays items bytes item more later p.1);
+      stop_stays = λ items bytes later stop p.
+          (p.0, law.stop_stays items bytes later stop p.1);
+      stops_inside = λ items bytes stop p. law.stops_inside items bytes stop p.1;
+      ends_inside = ends_inside;
+      apart = stands_apart;
+    }
+
+  lawful_of_each : (a : A) → AreLawfulAt c a → AreLawfulAt one (None, a)
+  lawful_of_each a law = record {
+    first_once = law.first_once;
+    says_once = law.says_once;
+    stops_once = law.stops_once;
+    ends_once = law.ends_once;
+    front = law.front;
+    item_stays = law.item_stays;
+    stop_stays = law.stop_stays;
+    stops_inside = law.stops_inside;
+    ends_inside = law.ends_inside;
+    apart = law.apart;
+  }
+
+  lawful_at : (picked : Option ℕ) (a : A) → AreLawfulAt c a → AreLawfulAt one (picked, a)
+  lawful_at None a law = lawful_of_each a law
+  lawful_at (Some k) a law = lawful_of_one k a law
+
+  -- ---- the words and the files
+
+  abbrev found : Option ℕ → A → Result (Option ℕ × A) Stop
+  found picked a = Ok (picked, a)
+
+  abbrev stopped : Stop → Result (Option ℕ × A) Stop
+  stopped stop = Err stop
+
+  finds_once : AreLawful c → (request : Request) (files : Fetches) → IsOnce (Finds picked_by c request files)
+  finds_once law request files (Ok (picked, a)) (Ok (other, b)) (is, h) (same, k) =
+      let e : ◌≡◌ {A = Result A Stop} (Ok a) (Ok b) = law.finds_once request files (Ok a) (Ok b) h k in
+      let same_act : a ≡ b = cc e in
+      let all : picked ≡ other = is ∙ sym same in
+      ap (λ o. found o a) all ∙ ap (λ b. found other b) same_act
+  finds_once law request files (Ok (picked, a)) (Err t) (is, h) k =
+      let e : ◌≡◌ {A = Result A Stop} (Ok a) (Err t) = law.finds_once request files (Ok a) (Err t) h k in absurd (cc e)
+  finds_once law request files (Err s) (Ok (other, b)) h (is, k) =
+      let e : ◌≡◌ {A = Result A Stop} (Err s) (Ok b) = law.finds_once request files (Err s) (Ok b) h k in absurd (cc e)
+  finds_once law request files (Err s) (Err t) h k =
+      let e : ◌≡◌ {A = Result A Stop} (Err s) (Err t) = law.finds_once request files (Err s) (Err t) h k in
+      let as_stop : s ≡ t = cc e in ap stopped as_stop
+
+  by_wanted : AreLawful c → (request : Request) (files others : Fetches) (result : Result (Option ℕ × A) Stop)
+      → ((turn : ℕ) (name : List ℕ) → c.Wants request files turn name → files turn name ≡ others turn name)
+      → Finds picked_by c request files result → Finds picked_by c request others result
+  by_wanted law request files others (Ok (picked, a)) same (is, h) = (is, law.by_wanted request files others (Ok a) same h)
+  by_wanted law request files others (Err s) same h = law.by_wanted request files others (Err s) same h
+
+  -- a file is read, or its stop is the result
+  stop_there : {P : Type 0} (Fails : Stop → Type 0) (result : Result A Stop) (other : Result (Option ℕ × A) Stop)
+      → ((stop : Stop) → result ≡ Err stop → other ≡ Err stop)
+      → P ⊎ ((stop : Stop) × Fails stop × (result ≡ Err stop)) → P ⊎ ((stop : Stop) × Fails stop × (other ≡ Err stop))
+  stop_there Fails result other same (inl read) = inl read
+  stop_there Fails result other same (inr (stop, fails, is)) = inr (stop, fails, same stop is)
+
+  same_stop : (s stop : Stop) → ◌≡◌ {A = Result A Stop} (Err s) (Err stop) → stopped s ≡ stopped stop
+  same_stop s stop e = let as_stop : s ≡ stop = cc e in ap stopped as_stop
+
+  reads_wanted : AreLawful c → (request : Request) (files : Fetches) (result : Result (Option ℕ × A) Stop)
+      → Finds picked_by c request files result → (turn : ℕ) (name : List ℕ) → c.Wants request files turn name
+      → IsWhole (files turn name)
+      ⊎ ((stop : Stop) × ReadsFile name (files turn name) (Err stop) × (result ≡ Err stop))
+  reads_wanted law request files (Ok (picked, a)) (is, h) turn name w =
+      stop_there (λ stop. ReadsFile name (files turn name) (Err stop)) (Ok a) (Ok (picked, a)) (λ stop e. absurd (cc e))
+      (law.reads_wanted request files (Ok a) h turn name w)
+  reads_wanted law request files (Err s) h turn name w =
+      stop_there (λ stop. ReadsFile name (files turn name) (Err stop)) (Err s) (Err s) (same_stop s)
+      (law.reads_wanted request files (Err s) h turn name w)
+
+  fails : (request : Request) (files : Fetches) (s : Stop) → FailsAtFile c request files (Err s)
+      → FailsAtFile one request files (Err s)
+  fails request files s f = record {
+    turn = f.turn;
+    name = f.name;
+    wants = f.wants;
+    stop = f.stop;
+    fault = f.fault;
+    is = same_stop s f.stop f.is;
+  }
+
+  finds_inside : AreLawful c → (request : Request) (files : Fetches) (stop : Stop) → c.Finds request files (Err stop)
+      → IsInner stop ⊎ FailsAtFile one request files (Err stop)
+  finds_inside law request files stop h = from (law.finds_inside request files stop h) where
+    from : IsInner stop ⊎ FailsAtFile c request files (Err stop) → IsInner stop ⊎ FailsAtFile one request files (Err stop)
+    from (inl inner) = inl inner
+    from (inr f) = inr (fails request files stop f)
+
+  at_act : AreLawful c → (act : Option ℕ × A) → IsFound one act → AreLawfulAt one act
+  at_act law (picked, a) (request, files, (is, h)) = lawful_at picked a (law.at a (request, files, h))
+
+  pub lawful : AreLawful c → AreLawful one
+  lawful law = record {
+    wants_once = law.wants_once;
+    finds_once = finds_once law;
+    by_wanted = by_wanted law;
+    reads_wanted = reads_wanted law;
+    finds_inside = finds_inside law;
+    at = at_act law;
+  }
+
+  reads : AreInTurns c → (request : Request) (files : Fetches) (result : Result (Option ℕ × A) Stop)
+      → Finds picked_by c request files result → (turn : ℕ) (name : List ℕ) → c.Wants request files turn name
+      → ((bytes : List ℕ) × (files turn name ≡ opened (whole bytes)))
+      ⊎ ((stop : Stop) × ReadsFile name (files turn name) (Err stop) × (result ≡ Err stop))
+  reads turns request files (Ok (picked, a)) (is, h) turn name w =
+      stop_there (λ stop. ReadsFile name (files turn name) (Err stop)) (Ok a) (Ok (picked, a)) (λ stop e. absurd (cc e))
+      (turns.reads request files (Ok a) h turn name w)
+  reads turns request files (Err s) h turn name w =
+      stop_there (λ stop. ReadsFile name (files turn name) (Err stop)) (Err s) (Err s) (same_stop s)
+      (turns.reads request files (Err s) h turn name w)
+
+  pub in_turns : AreInTurns c → AreInTurns one
+  in_turns turns = record { by_earlier = turns.by_earlier; reads = reads turns; after_read = turns.after_read }
+
+  -- ---- other commands
+
+  pub idle : (request : Request) → IsIdleAt c request → IsIdleAt one request
+  idle request none = record { unwanted = none.unwanted; unfound = unfound } where
+    unfound : (files : Fetches) (result : Result (Option ℕ × A) Stop) → Finds picked_by c request files result → ⊥
+    unfound files (Ok (picked, a)) (is, h) = none.unfound files (Ok a) h
+    unfound files (Err s) h = none.unfound files (Err s) h
+
+  pub apart : {B : Type 0} (d : Commands B) → AreApart c d → AreApart one d
+  apart d of_c request = from (of_c request) where
+    from : IsIdleAt c request ⊎ IsIdleAt d request → IsIdleAt one request ⊎ IsIdleAt d request
+    from (inl none) = inl (idle request none)
+    from (inr none) = inr none

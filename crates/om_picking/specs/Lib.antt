@@ -1,0 +1,4 @@
+pub mod Picking
+pub mod Told
+pub mod Asked
+pub mod Tables

@@ -1,0 +1,81 @@
+-- Commands that tell of one item of their input alone. The items before it are taken as ever, and
+-- nothing is said of them; what comes after it is taken, whatever it is, and nothing is looked at.
+-- Which one it is is asked for by the words: so a set of commands is written without a thought of
+-- it.
+use Rattle.std.specs.Prelude.{ℕ, suc, ◌<◌, ◌≤◌, ◌≡◌, ◌⊎◌, List, length, Option, Some, None, Result, Ok, Err}
+use Rattle.om_outcome.specs.Outcome.{Request, Asks, Stop, value, Said, nothing_said, Reply, says, stops}
+use Rattle.om_outcome.specs.RefusalText.{truncated_text}
+use Rattle.om_promises.specs.Account.{Account}
+use Rattle.om_promises.specs.Call.{Call}
+use Rattle.om_promises.specs.Commands.{Item, Fetches, Commands}
+use Rattle.om_promises.specs.Promises.{Promises}
+
+-- the last reply where the input ends after so many items, and the one that is asked for is not
+-- among them: where the command would say something, a value with no byte is cut
+abbrev pub missing : ℕ → Reply → Reply
+missing n (says said) = stops (value n (truncated_text 0))
+missing n (stops stop) = stops stop
+
+module _ {A : Type 0} (c : Commands A) where
+  -- up to that item the bytes are what they are for the command, and after it there is none
+  abbrev pub FirstBy : Option ℕ → A → List Item → List ℕ → Item → List ℕ → Type 0
+  FirstBy None a items bytes item more = c.IsFirst a items bytes item more
+  FirstBy (Some k) a items bytes item more =
+      (length items ≤ k) × c.IsFirst a items bytes item more
+
+  -- of the items before it something would be said, and nothing is
+  abbrev pub SaysBy : Option ℕ → A → List Item → Item → Said → Type 0
+  SaysBy None a items item said = c.Says a items item said
+  SaysBy (Some k) a items item said =
+      ((length items < k) × (told : Said) × c.Says a items item told × (said ≡ nothing_said))
+      ⊎ ((length items ≡ k) × c.Says a items item said)
+
+  -- up to it the run stops where that of the command does, and after it nowhere
+  abbrev pub StopsBy : Option ℕ → A → List Item → List ℕ → Stop → Type 0
+  StopsBy None a items bytes stop = c.Stops a items bytes stop
+  StopsBy (Some k) a items bytes stop = (length items ≤ k) × c.Stops a items bytes stop
+
+  -- where the input ends before it, or within it, that is told; after it nothing more is said,
+  -- whatever bytes came
+  abbrev pub EndsBy : Option ℕ → A → List Item → List ℕ → Reply → Type 0
+  EndsBy None a items bytes last = c.Ends a items bytes last
+  EndsBy (Some k) a items bytes last =
+      ((length items ≤ k) × (reply : Reply) × c.Ends a items bytes reply
+      × (last ≡ missing (length items) reply))
+      ⊎ ((length items ≡ suc k) × (last ≡ says nothing_said))
+
+-- for each request that the words ask for, each item is told of
+abbrev pub PickNothing : (Request → Option ℕ) → List (List ℕ) → Type 0
+PickNothing picked_by words =
+    (request : Request) → Asks words request → picked_by request ≡ None
+
+module _ {A : Type 0} (picked_by : Request → Option ℕ) (c : Commands A) where
+  -- what is done, with what is told of
+  abbrev pub Finds : Request → Fetches → Result (Option ℕ × A) Stop → Type 0
+  Finds request files (Ok act) =
+      (act.0 ≡ picked_by request) × c.Finds request files (Ok act.1)
+  Finds request files (Err stop) = c.Finds request files (Err stop)
+
+  -- the commands, of one item alone where that is asked for
+  abbrev pub picking : Commands (Option ℕ × A)
+  picking = record {
+    Wants = c.Wants;
+    Finds = Finds;
+    Reads = λ act. c.Reads act.1;
+    IsFirst = λ act. FirstBy c act.0 act.1;
+    Says = λ act. SaysBy c act.0 act.1;
+    Stops = λ act. StopsBy c act.0 act.1;
+    Ends = λ act. EndsBy c act.0 act.1;
+  }
+
+  -- ---- words that ask for each
+
+  -- for such words an account by the commands is one by these
+  abbrev pub HaveAccountsOfEach : Type 0
+  HaveAccountsOfEach = (words : List (List ℕ)) (call : Call) → PickNothing picked_by words
+      → Account c words call → Account picking words call
+
+  -- and what these promise is promised by the commands
+  abbrev pub PromiseOfEach : Type 0
+  PromiseOfEach = (words : List (List ℕ)) (call : Call) → PickNothing picked_by words
+      → Promises picking words call → Promises c words call
