@@ -39,20 +39,27 @@ mkdir "$work/files" && cd "$work/files" && : >shop.types && : >shop.script
 completes 'same scan show' s
 completes 'build check dump edit gen get same scan show trees verify' ''
 completes 'shop.script shop.types' build ''
-completes '' build -
+completes '--lines' build -
+completes '' gen -
 completes 'shop.script shop.types' check ''
 completes 'shop.types' show shop.t
 completes '' check shop.types ''
 completes 'shop.script' edit --limit 5 shop.types int shop.s
 completes 'shop.script' verify shop.types int shop.s
-completes '--compat32 --limit' edit --
+completes '--compat32 --limit --lines --skip' edit --
 completes '--limit' scan --
-completes '--cert --limit' check shop.types --
+completes '--cert --limit --lines --only --skip' check shop.types --
 completes 'shop.types' check --cert shop.t
-completes '--limit --pretty' show shop.types --
-completes '--limit' trees shop.types --
+completes '--limit --lines --only --pretty --skip' show shop.types --
+completes '--limit --lines --skip' trees shop.types --
+completes '--limit --only --skip' dump --
+completes '--limit --skip' same --
 completes 'shop.types' get --pretty shop.t
+completes 'shop.types' build --lines shop.t
 completes '' same ''
 completes '' get shop.types --limit ''
+completes '' dump --skip ''
+completes 'shop.types' check --skip 12 shop.t
+completes 'shop.types' show --only 3 shop.t
 echo "$passed passed, $failed failed"
 [ "$failed" -eq 0 ]

@@ -1,25 +1,29 @@
 # Completion of omarshal for bash: its commands, its options, and files where FILE, SCRIPT and CERT stand.
 _omarshal() {
-    local word=${COMP_WORDS[COMP_CWORD]} command=${COMP_WORDS[1]-} i place=0 skip=0 options=--limit
+    local word=${COMP_WORDS[COMP_CWORD]} command=${COMP_WORDS[1]-} i place=0 value=0 options='--limit --skip'
     COMPREPLY=()
     if [ "$COMP_CWORD" -eq 1 ]; then
         mapfile -t COMPREPLY < <(compgen -W 'build check dump edit gen get same scan show trees verify' -- "$word")
         return
     fi
     case $command in
-    build | gen) options= ;;
-    check) options='--limit --cert' ;;
-    get | show) options='--limit --pretty' ;;
-    dump | same | scan | trees | verify) ;;
-    edit) options='--limit --compat32' ;;
+    gen) options= ;;
+    build) options=--lines ;;
+    check) options+=' --only --lines --cert' ;;
+    get | show) options+=' --only --lines --pretty' ;;
+    dump) options+=' --only' ;;
+    same) ;;
+    trees | verify) options+=' --lines' ;;
+    scan) options=--limit ;;
+    edit) options+=' --lines --compat32' ;;
     *) return ;;
     esac
     # The number of the word among FILE, TYPE and what follows.
     for ((i = 2; i < COMP_CWORD; i++)); do
-        if [ "$skip" -eq 1 ]; then skip=0; continue; fi
-        case ${COMP_WORDS[i]} in --limit) skip=1 ;; -*) ;; *) place=$((place + 1)) ;; esac
+        if [ "$value" -eq 1 ]; then value=0; continue; fi
+        case ${COMP_WORDS[i]} in --limit | --skip | --only) value=1 ;; -*) ;; *) place=$((place + 1)) ;; esac
     done
-    [ "$skip" -eq 0 ] || return
+    [ "$value" -eq 0 ] || return
     case $word in
     -*) mapfile -t COMPREPLY < <(compgen -W "$options" -- "$word") ;;
     *)
