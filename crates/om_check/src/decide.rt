@@ -2,11 +2,11 @@
 
 ghost use Rattle.std.specs.Prelude.{◌≡◌, ◌≤◌, ◌<◌, ◌+◌, length, IfOk, IsTrue};
 ghost use Rattle.om_model.specs.declared.value.Val.TheVariants as vals;
-ghost use Rattle.om_model.specs.Graph.{IsValue, IsGraph};
+ghost use Rattle.om_model.specs.Graph.{IsValue};
 ghost use Rattle.om_types.specs.Table.{table_shapes, is_asked_in};
 ghost use Rattle.om_types.specs.Steps.{most_steps};
 ghost use Rattle.om_type_table.specs.Made.{table_of, IsLawful};
-ghost use Rattle.om_scan.specs.FittingRows.{AreRows};
+ghost use Rattle.om_scan.specs.Fitting.{table_in};
 ghost use Rattle.om_scan.specs.Taken.{types_in};
 ghost use Rattle.om_scan.specs.declared.straight.Scanned.TheVariants as answers;
 ghost use Rattle.om_scan.specs.Paths.{HavePaths};
@@ -23,12 +23,12 @@ use crate::settle::settle;
 use crate::typing::Typing;
 use crate::verdict::Verdict;
 use crate::visits::Visits;
-use om_fits::{Row, is_asked, needs_of};
+use om_fits::{is_asked, needs_of};
 use om_heap::Heap;
 use om_model::Memory;
 use om_model::path::Path;
 use om_model::value::Val;
-use om_scan::{Noted, Scanned, Steps, Taken, rows_of, scan};
+use om_scan::{Fitting, Noted, Scanned, Steps, Taken, rows_of, scan};
 use om_type_table::TypeTable;
 use om_types::fault::Fault;
 use std::alloc::Global;
@@ -81,14 +81,15 @@ fn check_object(
     }
     let objects = heap.count();
     let rows = rows_of(alloc, heap, table)?;
-    match scan(alloc, heap, table, &rows, steps)? {
+    let fitting = Fitting { table, rows: &rows };
+    match scan(alloc, heap, fitting, steps)? {
         Scanned::Told(types) => {
             let typing = told_typing(alloc, table, types)?;
             Ok(Verdict::Yes(typing))
         }
-        Scanned::Noted(noted) => settle_noted(alloc, heap, objects, table, &rows, noted, steps),
+        Scanned::Noted(noted) => settle_noted(alloc, heap, objects, fitting, noted, steps),
         Scanned::Stopped(taken) => {
-            search_object(alloc, heap, objects, object, table, &rows, &taken, steps)
+            search_object(alloc, heap, objects, object, fitting, &taken, steps)
         }
     }
 }
@@ -111,7 +112,8 @@ fn search_whole(
     let objects = heap.count();
     let rows = rows_of(alloc, heap, table)?;
     let none = Taken::none(alloc)?;
-    search_object(alloc, heap, objects, object, table, &rows, &none, steps)
+    let fitting = Fitting { table, rows: &rows };
+    search_object(alloc, heap, objects, object, fitting, &none, steps)
 }
 
 /// The same of the first object, where a scan met objects at second classes: mostly they are
@@ -121,27 +123,25 @@ fn settle_noted(
     alloc: Global,
     heap: &Heap,
     objects: u64,
-    table: &TypeTable,
-    rows: &[Row],
+    fitting: Fitting<'_>,
     noted: Noted,
     steps: &mut Steps,
 ) -> Result<Verdict, Memory>
-    requires graph { IsGraph heap.now }
     requires objects { objects ≡ length heap.now }
     requires some { 0 < length heap.now }
-    requires rows { AreRows table.now.nodes rows.now }
-    requires table { IsLawful (table_of table.now) }
-    requires fits { (table_shapes (table_of table.now)).fits heap.now (vals.Ref 0) 0 }
-    requires asked { IsTrue (is_asked_in (table_of table.now) 0) }
-    requires told { Tells (table_of table.now) heap.now (answers.Noted noted) }
-    requires paths { HavePaths (table_of table.now) heap.now (answers.Noted noted) }
+    requires table { IsLawful (table_in fitting) }
+    requires fits { (table_shapes (table_in fitting)).fits heap.now (vals.Ref 0) 0 }
+    requires asked { IsTrue (is_asked_in (table_in fitting) 0) }
+    requires told { Tells (table_in fitting) heap.now (answers.Noted noted) }
+    requires paths { HavePaths (table_in fitting) heap.now (answers.Noted noted) }
     requires all { noted.all ≤ cost_of heap.now noted.taken.types }
     requires before { noted.before + left_of heap.now noted.taken
         ≤ cost_of heap.now (types_in noted.taken) }
-    ensures verdict { IfOk result (IsVerdict (table_of table.now) heap.now (vals.Ref 0)) }
-    ensures paths { IfOk result (PairsHavePaths (table_of table.now) heap.now (vals.Ref 0)) }
-    ensures steps { steps.new + 1 ≤ steps.old + most_steps (table_of table.now) heap.now }
+    ensures verdict { IfOk result (IsVerdict (table_in fitting.entry) heap.now (vals.Ref 0)) }
+    ensures paths { IfOk result (PairsHavePaths (table_in fitting.entry) heap.now (vals.Ref 0)) }
+    ensures steps { steps.new + 1 ≤ steps.old + most_steps (table_in fitting.entry) heap.now }
 {
+    let _count = heap.count();
     let Noted {
         taken,
         seconds,
@@ -149,16 +149,16 @@ fn settle_noted(
         all,
     } = noted;
     let mut more = Steps::new();
-    match settle(heap, table, rows, &taken.types, seconds, all, &mut more)? {
+    match settle(heap, fitting, &taken.types, seconds, all, &mut more)? {
         Some(seconds) => {
-            let typing = settled_typing(alloc, table, taken.types, seconds)?;
+            let typing = settled_typing(alloc, fitting.table, taken.types, seconds)?;
             steps.raise_by(all);
             steps.raise_by(more.taken());
             Ok(Verdict::Yes(typing))
         }
         None => {
             steps.raise_by(before);
-            search_object(alloc, heap, objects, 0, table, rows, &taken, steps)
+            search_object(alloc, heap, objects, 0, fitting, &taken, steps)
         }
     }
 }
@@ -169,30 +169,28 @@ fn search_object(
     heap: &Heap,
     objects: u64,
     object: u64,
-    table: &TypeTable,
-    rows: &[Row],
+    fitting: Fitting<'_>,
     taken: &Taken,
     steps: &mut Steps,
 ) -> Result<Verdict, Memory>
-    requires graph { IsGraph heap.now }
     requires objects { objects ≡ length heap.now }
     requires object { object < length heap.now }
-    requires rows { AreRows table.now.nodes rows.now }
-    requires table { IsLawful (table_of table.now) }
-    requires fits { (table_shapes (table_of table.now)).fits heap.now (vals.Ref object) 0 }
-    requires taken { AreTaken (table_of table.now) heap.now taken.now }
-    ensures verdict { IfOk result (IsVerdict (table_of table.now) heap.now (vals.Ref object)) }
-    ensures paths { IfOk result (PairsHavePaths (table_of table.now) heap.now (vals.Ref object)) }
+    requires table { IsLawful (table_in fitting) }
+    requires fits { (table_shapes (table_in fitting)).fits heap.now (vals.Ref object) 0 }
+    requires taken { AreTaken (table_in fitting) heap.now taken.now }
+    ensures verdict { IfOk result (IsVerdict (table_in fitting.entry) heap.now (vals.Ref object)) }
+    ensures paths { IfOk result
+        (PairsHavePaths (table_in fitting.entry) heap.now (vals.Ref object)) }
     ensures steps { steps.new + cost_of heap.now (types_in taken.now) + 1
-        ≤ steps.old + left_of heap.now taken.now + most_steps (table_of table.now) heap.now }
+        ≤ steps.old + left_of heap.now taken.now + most_steps (table_in fitting.entry) heap.now }
 {
-    let mut visits = Visits::new(alloc, objects, table, object)?;
-    if let Some((n, step)) = search(heap, table, rows, &mut visits, taken, steps)? {
+    let mut visits = Visits::new(alloc, objects, fitting.table, object)?;
+    if let Some((n, step)) = search(heap, fitting, &mut visits, taken, steps)? {
         let mut path = path_of(alloc, &visits, n)?;
         path.push(step)?;
         return Ok(Verdict::No(Fault::Misfit(path)));
     }
-    match first_clash(heap, table, &visits) {
+    match first_clash(heap, fitting.table, &visits) {
         Some((first, second)) => {
             let fault = clash(alloc, &visits, first, second)?;
             Ok(Verdict::No(fault))

@@ -16,7 +16,7 @@ use om_heap::Heap;
 use om_model::Memory;
 use om_model::path::Path;
 use om_model::value::Val;
-use om_scan::{Steps, Taken, rows_of};
+use om_scan::{Fitting, Steps, Taken, rows_of};
 use om_type_table::TypeTable;
 use std::alloc::Global;
 use std::marker::Model;
@@ -95,7 +95,8 @@ fn met_from(alloc: Global, heap: &Heap, object: u64, table: &TypeTable) -> Resul
     let none = Taken::none(alloc)?;
     let mut steps = Steps::new();
     let mut visits = Visits::new(alloc, objects, table, object)?;
-    match search(heap, table, &rows, &mut visits, &none, &mut steps)? {
+    let fitting = Fitting { table, rows: &rows };
+    match search(heap, fitting, &mut visits, &none, &mut steps)? {
         Some(_) => unreachable!(),
         None => Ok(AllMet { visits }),
     }

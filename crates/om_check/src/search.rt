@@ -2,7 +2,6 @@
 
 ghost use Rattle.std.specs.Prelude.{ℕ, ◌≡◌, ◌≢◌, ◌<◌, ◌≤◌, ◌+◌, ◌%◌, ◌↔◌, length, All, IfOk, OnOk, IsTrue, Some, slice_get};
 ghost use Rattle.std.specs.Bool.{OnTrue};
-ghost use Rattle.om_model.specs.Graph.{IsGraph};
 ghost use Rattle.om_model.specs.declared.value.Val.{Val};
 ghost use Rattle.om_model.specs.declared.value.Val.TheVariants as vals;
 ghost use Rattle.om_heap.specs.Heap.{object_at, fields_of, field_at, word_of, IsReferenceWord};
@@ -10,7 +9,7 @@ ghost use Rattle.om_types.specs.Table.{table_shapes};
 ghost use Rattle.om_fits.specs.Needs.{needs_in};
 ghost use Rattle.om_types.specs.Steps.{most_steps};
 ghost use Rattle.om_type_table.specs.Made.{table_of, IsLawful};
-ghost use Rattle.om_scan.specs.FittingRows.{AreRows};
+ghost use Rattle.om_scan.specs.Fitting.{table_in};
 ghost use Rattle.om_scan.specs.Taken.{types_in, seen_of, size_of, rest_of};
 ghost use Rattle.om_scan.specs.Scanned as scans;
 ghost use Rattle.om_scan.specs.Scanned.{AreTaken, IsSeen, IsSeenObject, left_of};
@@ -19,11 +18,11 @@ ghost use Rattle.om_check.specs.Explored.{IsExplored};
 ghost use Rattle.om_check.specs.Search.{FitAll, TestsNeed, TestsVisit, Searches, AreSeen, cost_at, is_taken, visit_fields};
 
 use crate::visits::{Visit, Visits, is_at};
-use om_fits::{Needs, Row, is_asked, known_needs};
+use om_fits::{Needs, is_asked, known_needs};
 use om_heap::Heap;
 use om_model::Memory;
 use om_model::value::Val;
-use om_scan::{Steps, Taken, fits_type};
+use om_scan::{Fitting, Steps, Taken, fits_type};
 use om_type_table::TypeTable;
 
 /// What an object needs: its field `step` is to have the type. It is visited at place `parent`.
@@ -40,27 +39,24 @@ pub struct Need {
 /// was counted there, and is not tested again.
 pub fn search(
     heap: &Heap,
-    table: &TypeTable,
-    rows: &[Row],
+    fitting: Fitting<'_>,
     visits: &mut Visits,
     taken: &Taken,
     steps: &mut Steps,
 ) -> Result<Option<(usize, u64)>, Memory>
-    requires graph { IsGraph heap.now }
-    requires rows { AreRows table.now.nodes rows.now }
-    requires lawful { IsLawful (table_of table.now) }
-    requires linked { AreLinked (table_of table.now) (length heap.now) visits.old }
-    requires explored { IsExplored (table_of table.now) heap.now (listed visits.old) 0 0 }
-    requires taken { AreTaken (table_of table.now) heap.now taken.now }
-    ensures linked { OnOk result (AreLinked (table_of table.now) (length heap.now) visits.new) }
+    requires lawful { IsLawful (table_in fitting) }
+    requires linked { AreLinked (table_in fitting) (length heap.now) visits.old }
+    requires explored { IsExplored (table_in fitting) heap.now (listed visits.old) 0 0 }
+    requires taken { AreTaken (table_in fitting) heap.now taken.now }
+    ensures linked { OnOk result (AreLinked (table_in fitting.entry) (length heap.now) visits.new) }
     ensures searches { IfOk result
-        (Searches (table_of table.now) heap.now (listed visits.old) (listed visits.new)) }
+        (Searches (table_in fitting.entry) heap.now (listed visits.old) (listed visits.new)) }
     ensures steps { steps.new + scans.cost_of heap.now (types_in taken.now) + 1
-        ≤ steps.old + left_of heap.now taken.now + most_steps (table_of table.now) heap.now }
+        ≤ steps.old + left_of heap.now taken.now + most_steps (table_in fitting.entry) heap.now }
 {
     let mut n = 0;
     while visits.has(n) {
-        if let Some(step) = test_visit(heap, table, rows, visits, taken, n, steps)? {
+        if let Some(step) = test_visit(heap, fitting, visits, taken, n, steps)? {
             return Ok(Some((n, step)));
         }
         n += 1;
@@ -71,32 +67,29 @@ pub fn search(
 /// Tests what visit n needs. The answer is the number of the first field that does not fit.
 fn test_visit(
     heap: &Heap,
-    table: &TypeTable,
-    rows: &[Row],
+    fitting: Fitting<'_>,
     visits: &mut Visits,
     taken: &Taken,
     n: usize,
     steps: &mut Steps,
 ) -> Result<Option<u64>, Memory>
     requires in_range { n < length (listed visits.old) }
-    requires graph { IsGraph heap.now }
-    requires rows { AreRows table.now.nodes rows.now }
-    requires lawful { IsLawful (table_of table.now) }
-    requires linked { AreLinked (table_of table.now) (length heap.now) visits.old }
-    requires explored { IsExplored (table_of table.now) heap.now (listed visits.old) n 0 }
-    requires taken { AreTaken (table_of table.now) heap.now taken.now }
-    ensures linked { OnOk result (AreLinked (table_of table.now) (length heap.now) visits.new) }
+    requires lawful { IsLawful (table_in fitting) }
+    requires linked { AreLinked (table_in fitting) (length heap.now) visits.old }
+    requires explored { IsExplored (table_in fitting) heap.now (listed visits.old) n 0 }
+    requires taken { AreTaken (table_in fitting) heap.now taken.now }
+    ensures linked { OnOk result (AreLinked (table_in fitting.entry) (length heap.now) visits.new) }
     ensures tests { IfOk result
-        (TestsVisit (table_of table.now) heap.now (listed visits.old) (listed visits.new) n) }
+        (TestsVisit (table_in fitting.entry) heap.now (listed visits.old) (listed visits.new) n) }
     ensures steps { steps.new
-        ≤ steps.old + cost_at (table_of table.now) heap.now taken.now (listed visits.old) n }
+        ≤ steps.old + cost_at (table_in fitting.entry) heap.now taken.now (listed visits.old) n }
 {
     let visit = visits.get(n);
-    if was_taken(table, taken, visit) {
-        return take_seen(heap, table, rows, visits, taken, n, visit, steps);
+    if was_taken(fitting.table, taken, visit) {
+        return take_seen(heap, fitting, visits, taken, n, visit, steps);
     }
     steps.raise();
-    take_visit(heap, table, rows, visits, taken, n, visit, 0, steps)
+    take_visit(heap, fitting, visits, taken, n, visit, 0, steps)
 }
 
 /// Whether a scan took the visit's object at an equal type.
@@ -117,8 +110,7 @@ fn was_taken(table: &TypeTable, taken: &Taken, visit: Visit) -> bool
 #[inline(never)]
 fn take_seen(
     heap: &Heap,
-    table: &TypeTable,
-    rows: &[Row],
+    fitting: Fitting<'_>,
     visits: &mut Visits,
     taken: &Taken,
     n: usize,
@@ -126,21 +118,19 @@ fn take_seen(
     steps: &mut Steps,
 ) -> Result<Option<u64>, Memory>
     requires visit { slice_get (listed visits.old) n ≡ Some visit }
-    requires graph { IsGraph heap.now }
-    requires rows { AreRows table.now.nodes rows.now }
-    requires lawful { IsLawful (table_of table.now) }
-    requires linked { AreLinked (table_of table.now) (length heap.now) visits.old }
-    requires explored { IsExplored (table_of table.now) heap.now (listed visits.old) n 0 }
-    requires taken { AreTaken (table_of table.now) heap.now taken.now }
-    requires equal { IsTrue (is_taken (table_of table.now) taken.now visit) }
-    ensures linked { OnOk result (AreLinked (table_of table.now) (length heap.now) visits.new) }
+    requires lawful { IsLawful (table_in fitting) }
+    requires linked { AreLinked (table_in fitting) (length heap.now) visits.old }
+    requires explored { IsExplored (table_in fitting) heap.now (listed visits.old) n 0 }
+    requires taken { AreTaken (table_in fitting) heap.now taken.now }
+    requires equal { IsTrue (is_taken (table_in fitting) taken.now visit) }
+    ensures linked { OnOk result (AreLinked (table_in fitting.entry) (length heap.now) visits.new) }
     ensures tests { IfOk result
-        (TestsVisit (table_of table.now) heap.now (listed visits.old) (listed visits.new) n) }
+        (TestsVisit (table_in fitting.entry) heap.now (listed visits.old) (listed visits.new) n) }
     ensures steps { steps.new
         ≤ steps.old + rest_of (size_of heap.now visit.object) (seen_of taken.now visit.object) }
 {
     let seen = taken.seen_of(visit.object);
-    take_visit(heap, table, rows, visits, taken, n, visit, seen, steps)
+    take_visit(heap, fitting, visits, taken, n, visit, seen, steps)
 }
 
 /// Tests what visit n needs, in a step for each need. A scan saw the needs at fields below a
@@ -148,8 +138,7 @@ fn take_seen(
 #[inline(always)]
 fn take_visit(
     heap: &Heap,
-    table: &TypeTable,
-    rows: &[Row],
+    fitting: Fitting<'_>,
     visits: &mut Visits,
     taken: &Taken,
     n: usize,
@@ -158,27 +147,24 @@ fn take_visit(
     steps: &mut Steps,
 ) -> Result<Option<u64>, Memory>
     requires visit { slice_get (listed visits.old) n ≡ Some visit }
-    requires graph { IsGraph heap.now }
-    requires rows { AreRows table.now.nodes rows.now }
-    requires lawful { IsLawful (table_of table.now) }
-    requires linked { AreLinked (table_of table.now) (length heap.now) visits.old }
-    requires explored { IsExplored (table_of table.now) heap.now (listed visits.old) n 0 }
-    requires taken { AreTaken (table_of table.now) heap.now taken.now }
-    requires seen { AreSeen (table_of table.now) heap.now taken.now visit seen }
-    ensures linked { OnOk result (AreLinked (table_of table.now) (length heap.now) visits.new) }
+    requires lawful { IsLawful (table_in fitting) }
+    requires linked { AreLinked (table_in fitting) (length heap.now) visits.old }
+    requires explored { IsExplored (table_in fitting) heap.now (listed visits.old) n 0 }
+    requires taken { AreTaken (table_in fitting) heap.now taken.now }
+    requires seen { AreSeen (table_in fitting) heap.now taken.now visit seen }
+    ensures linked { OnOk result (AreLinked (table_in fitting.entry) (length heap.now) visits.new) }
     ensures tests { IfOk result
-        (TestsVisit (table_of table.now) heap.now (listed visits.old) (listed visits.new) n) }
+        (TestsVisit (table_in fitting.entry) heap.now (listed visits.old) (listed visits.new) n) }
     ensures steps { steps.new ≤ steps.old + rest_of (size_of heap.now visit.object) seen }
 {
-    let Some(needs) = known_needs(heap, visit.object, table.shape(visit.ty)) else {
+    let Some(needs) = known_needs(heap, visit.object, fitting.table.shape(visit.ty)) else {
         return Ok(None);
     };
     match needs {
         Needs::Listed(types) => {
             test_needs(
                 heap,
-                table,
-                rows,
+                fitting,
                 visits,
                 taken,
                 n,
@@ -188,11 +174,7 @@ fn take_visit(
                 steps,
             )
         }
-        _ => {
-            test_needs(
-                heap, table, rows, visits, taken, n, visit, needs, seen, steps,
-            )
-        }
+        _ => { test_needs(heap, fitting, visits, taken, n, visit, needs, seen, steps) }
     }
 }
 
@@ -200,8 +182,7 @@ fn take_visit(
 #[inline(always)]
 fn test_needs(
     heap: &Heap,
-    table: &TypeTable,
-    rows: &[Row],
+    fitting: Fitting<'_>,
     visits: &mut Visits,
     taken: &Taken,
     n: usize,
@@ -211,17 +192,15 @@ fn test_needs(
     steps: &mut Steps,
 ) -> Result<Option<u64>, Memory>
     requires visit { slice_get (listed visits.old) n ≡ Some visit }
-    requires needs { visit_fields (table_of table.now) heap.now visit ≡ needs_in needs }
-    requires graph { IsGraph heap.now }
-    requires rows { AreRows table.now.nodes rows.now }
-    requires lawful { IsLawful (table_of table.now) }
-    requires linked { AreLinked (table_of table.now) (length heap.now) visits.old }
-    requires explored { IsExplored (table_of table.now) heap.now (listed visits.old) n 0 }
-    requires taken { AreTaken (table_of table.now) heap.now taken.now }
-    requires seen { AreSeen (table_of table.now) heap.now taken.now visit seen }
-    ensures linked { OnOk result (AreLinked (table_of table.now) (length heap.now) visits.new) }
+    requires needs { visit_fields (table_in fitting) heap.now visit ≡ needs_in needs }
+    requires lawful { IsLawful (table_in fitting) }
+    requires linked { AreLinked (table_in fitting) (length heap.now) visits.old }
+    requires explored { IsExplored (table_in fitting) heap.now (listed visits.old) n 0 }
+    requires taken { AreTaken (table_in fitting) heap.now taken.now }
+    requires seen { AreSeen (table_in fitting) heap.now taken.now visit seen }
+    ensures linked { OnOk result (AreLinked (table_in fitting.entry) (length heap.now) visits.new) }
     ensures tests { IfOk result
-        (TestsVisit (table_of table.now) heap.now (listed visits.old) (listed visits.new) n) }
+        (TestsVisit (table_in fitting.entry) heap.now (listed visits.old) (listed visits.new) n) }
     ensures steps { steps.new ≤ steps.old + rest_of (size_of heap.now visit.object) seen }
 {
     if needs.len() == 0 {
@@ -231,7 +210,7 @@ fn test_needs(
     let mut next = visit.object.wrapping_add(1);
     for k in 0..needs.len() {
         let (step, ty) = needs.get(k);
-        if !is_asked(table.shape(ty)) {
+        if !is_asked(fitting.table.shape(ty)) {
             continue;
         }
         let need = Need {
@@ -242,8 +221,7 @@ fn test_needs(
         };
         if !take_need(
             heap,
-            table,
-            rows,
+            fitting,
             visits,
             taken,
             need,
@@ -262,8 +240,7 @@ fn test_needs(
 #[inline(always)]
 fn take_need(
     heap: &Heap,
-    table: &TypeTable,
-    rows: &[Row],
+    fitting: Fitting<'_>,
     visits: &mut Visits,
     taken: &Taken,
     need: Need,
@@ -272,32 +249,31 @@ fn take_need(
     next: &mut u64,
     steps: &mut Steps,
 ) -> Result<bool, Memory>
-    requires graph { IsGraph heap.now }
-    requires rows { AreRows table.now.nodes rows.now }
-    requires lawful { IsLawful (table_of table.now) }
+    requires lawful { IsLawful (table_in fitting) }
     requires object { need.object < length heap.now }
     requires field { need.step < length (fields_of (object_at heap.now need.object)) }
     requires word { word ≡ word_of heap.now (field_at heap.now need.object need.step) }
-    requires node { need.ty < length table.now.nodes }
-    requires class { need.ty < length table.now.classes }
-    requires types { All (λ visit. visit.ty < length table.now.classes) (listed visits.old) }
-    requires linked { AreLinked (table_of table.now) (length heap.now) visits.old }
-    requires fit { FitAll (table_of table.now) heap.now (listed visits.old) }
-    requires taken { AreTaken (table_of table.now) heap.now taken.now }
+    requires node { need.ty < length fitting.table.now.nodes }
+    requires class { need.ty < length fitting.table.now.classes }
+    requires types { All (λ visit. visit.ty < length fitting.table.now.classes)
+        (listed visits.old) }
+    requires linked { AreLinked (table_in fitting) (length heap.now) visits.old }
+    requires fit { FitAll (table_in fitting) heap.now (listed visits.old) }
+    requires taken { AreTaken (table_in fitting) heap.now taken.now }
     requires seen { need.step < seen
-        → IsSeen (table_of table.now) heap.now taken.now need.object need.step
+        → IsSeen (table_in fitting) heap.now taken.now need.object need.step
         (field_at heap.now need.object need.step) need.ty }
-    ensures linked { OnOk result (AreLinked (table_of table.now) (length heap.now) visits.new) }
+    ensures linked { OnOk result (AreLinked (table_in fitting.entry) (length heap.now) visits.new) }
     ensures tests { IfOk result
-        (TestsNeed (table_of table.now) heap.now (listed visits.old) (listed visits.new) need) }
+        (TestsNeed (table_in fitting.entry) heap.now (listed visits.old) (listed visits.new) need) }
     ensures steps { steps.new ≤ steps.old + 1 }
     ensures counted { need.step < seen → steps.new ≡ steps.old }
 {
     if need.step < seen {
-        return test_need(heap, table, rows, visits, taken, need, word, true, next);
+        return test_need(heap, fitting, visits, taken, need, word, true, next);
     }
     steps.raise();
-    test_need(heap, table, rows, visits, taken, need, word, false, next)
+    test_need(heap, fitting, visits, taken, need, word, false, next)
 }
 
 /// Tests a need, whose field has this word, and enters the object that is met. That is often object
@@ -306,8 +282,7 @@ fn take_need(
 #[inline(always)]
 fn test_need(
     heap: &Heap,
-    table: &TypeTable,
-    rows: &[Row],
+    fitting: Fitting<'_>,
     visits: &mut Visits,
     taken: &Taken,
     need: Need,
@@ -315,27 +290,27 @@ fn test_need(
     seen: bool,
     next: &mut u64,
 ) -> Result<bool, Memory>
-    requires graph { IsGraph heap.now }
-    requires rows { AreRows table.now.nodes rows.now }
-    requires lawful { IsLawful (table_of table.now) }
+    requires lawful { IsLawful (table_in fitting) }
     requires object { need.object < length heap.now }
     requires field { need.step < length (fields_of (object_at heap.now need.object)) }
     requires word { word ≡ word_of heap.now (field_at heap.now need.object need.step) }
-    requires node { need.ty < length table.now.nodes }
-    requires class { need.ty < length table.now.classes }
-    requires types { All (λ visit. visit.ty < length table.now.classes) (listed visits.old) }
-    requires linked { AreLinked (table_of table.now) (length heap.now) visits.old }
-    requires fit { FitAll (table_of table.now) heap.now (listed visits.old) }
-    requires taken { AreTaken (table_of table.now) heap.now taken.now }
+    requires node { need.ty < length fitting.table.now.nodes }
+    requires class { need.ty < length fitting.table.now.classes }
+    requires types { All (λ visit. visit.ty < length fitting.table.now.classes)
+        (listed visits.old) }
+    requires linked { AreLinked (table_in fitting) (length heap.now) visits.old }
+    requires fit { FitAll (table_in fitting) heap.now (listed visits.old) }
+    requires taken { AreTaken (table_in fitting) heap.now taken.now }
     requires seen { OnTrue seen
-        (IsSeen (table_of table.now) heap.now taken.now need.object need.step
+        (IsSeen (table_in fitting) heap.now taken.now need.object need.step
         (field_at heap.now need.object need.step) need.ty) }
-    ensures linked { OnOk result (AreLinked (table_of table.now) (length heap.now) visits.new) }
+    ensures linked { OnOk result (AreLinked (table_in fitting.entry) (length heap.now) visits.new) }
     ensures tests { IfOk result
-        (TestsNeed (table_of table.now) heap.now (listed visits.old) (listed visits.new) need) }
+        (TestsNeed (table_in fitting.entry) heap.now (listed visits.old) (listed visits.new) need) }
 {
+    let _count = heap.count();
     if word % 8 != 0 {
-        return Ok(value_fits(heap, table, rows, taken, need, word, seen));
+        return Ok(value_fits(heap, fitting, taken, need, word, seen));
     }
     let object = number_near(heap, *next, word);
     *next = object.wrapping_add(1);
@@ -343,10 +318,17 @@ fn test_need(
     if is_at(first, need.ty) {
         return Ok(true);
     }
-    if !object_fits(heap, table, rows, taken, object, need.ty, word, seen) {
+    if !object_fits(heap, fitting, taken, object, need.ty, word, seen) {
         return Ok(false);
     }
-    visits.enter(table, object, need.ty, need.parent, need.step, first)?;
+    visits.enter(
+        fitting.table,
+        object,
+        need.ty,
+        need.parent,
+        need.step,
+        first,
+    )?;
     Ok(true)
 }
 
@@ -355,31 +337,29 @@ fn test_need(
 #[inline(always)]
 fn value_fits(
     heap: &Heap,
-    table: &TypeTable,
-    rows: &[Row],
+    fitting: Fitting<'_>,
     taken: &Taken,
     need: Need,
     word: u64,
     seen: bool,
 ) -> bool
-    requires graph { IsGraph heap.now }
-    requires rows { AreRows table.now.nodes rows.now }
     requires object { need.object < length heap.now }
     requires field { need.step < length (fields_of (object_at heap.now need.object)) }
     requires word { word ≡ word_of heap.now (field_at heap.now need.object need.step) }
     requires value { word % 8 ≢ 0 }
-    requires node { need.ty < length table.now.nodes }
+    requires node { need.ty < length fitting.table.now.nodes }
     requires seen { OnTrue seen
-        (IsSeen (table_of table.now) heap.now taken.now need.object need.step
+        (IsSeen (table_in fitting) heap.now taken.now need.object need.step
         (field_at heap.now need.object need.step) need.ty) }
     ensures { IsTrue result
-        ↔ (table_shapes (table_of table.now)).fits heap.now
+        ↔ (table_shapes (table_in fitting.entry)).fits heap.now
         (field_at heap.now need.object need.step) need.ty }
 {
+    let _count = heap.count();
     if seen {
         return !taken.is_unfit_field(need.object, need.step);
     }
-    fits_type(heap, table, rows, need.ty, word)
+    fits_type(heap, fitting, need.ty, word)
 }
 
 /// Whether an object, which has this word, fits a type at which it is met. Where a scan saw it at
@@ -387,24 +367,21 @@ fn value_fits(
 #[inline(always)]
 fn object_fits(
     heap: &Heap,
-    table: &TypeTable,
-    rows: &[Row],
+    fitting: Fitting<'_>,
     taken: &Taken,
     object: u64,
     ty: usize,
     word: u64,
     seen: bool,
 ) -> bool
-    requires graph { IsGraph heap.now }
-    requires rows { AreRows table.now.nodes rows.now }
-    requires lawful { IsLawful (table_of table.now) }
+    requires lawful { IsLawful (table_in fitting) }
     requires object { object < length heap.now }
     requires word { word ≡ word_of heap.now (vals.Ref object) }
-    requires node { ty < length table.now.nodes }
-    requires taken { AreTaken (table_of table.now) heap.now taken.now }
-    requires seen { OnTrue seen (IsSeenObject (table_of table.now) heap.now taken.now object ty) }
+    requires node { ty < length fitting.table.now.nodes }
+    requires taken { AreTaken (table_in fitting) heap.now taken.now }
+    requires seen { OnTrue seen (IsSeenObject (table_in fitting) heap.now taken.now object ty) }
     ensures { IsTrue result
-        ↔ (table_shapes (table_of table.now)).fits heap.now (vals.Ref object) ty }
+        ↔ (table_shapes (table_in fitting.entry)).fits heap.now (vals.Ref object) ty }
 {
     if seen {
         if let Some(_) = taken.type_of(object as usize) {
@@ -414,7 +391,7 @@ fn object_fits(
             return false;
         }
     }
-    fits_type(heap, table, rows, ty, word)
+    fits_type(heap, fitting, ty, word)
 }
 
 /// The number of the object that a reference's word names, which is often `guess`.

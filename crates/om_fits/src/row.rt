@@ -1,7 +1,7 @@
 //! What surely fits a shape, told by words alone.
 
 ghost use Rattle.std.specs.Prelude.{◌≡◌, ◌⊎◌, ◌<◌, ◌≤◌, ◌%◌, ℕ, ℤ, length, IsTrue, IsSome};
-ghost use Rattle.om_model.specs.Graph.{IsInteger, IsValue, IsGraph};
+ghost use Rattle.om_model.specs.Graph.{IsInteger, IsValue};
 ghost use Rattle.om_model.specs.declared.value.Val.{Val};
 ghost use Rattle.om_types.specs.declared.shape.ShapeOf.{ShapeOf};
 ghost use Rattle.om_types.specs.Fitting as fitting;
@@ -157,12 +157,12 @@ fn is_of(row: Row, header: u64) -> bool
 /// Whether a word surely fits a shape of this row.
 #[inline(always)]
 pub fn surely_fits(heap: &Heap, row: Row, word: u64) -> bool
-    requires graph { IsGraph heap.now }
     requires word { IsFieldWord heap.now word }
     ensures { (shape : ShapeOf ℕ) (v : Val) → IsTrue result → IsRowOf shape row
         → IsValue (length heap.now) v → word ≡ word_of heap.now v
         → IsSome (fitting.fields_of heap.now v shape) }
 {
+    let _count = heap.count();
     if word % 2 == 1 {
         return word <= row.most;
     }

@@ -1,7 +1,7 @@
 //! The text of the values that are left, as long as no object is met again.
 
 ghost use Rattle.std.specs.Prelude.{◌≡◌, ◌<◌, ◌≤◌, ◌+◌, ◌++◌, length, Some, None, [], true, false, slice_index, slice_index_or, IfOk, IsTrue, OnOk, vec_len};
-ghost use Rattle.om_model.specs.Graph.{IsValue, IsGraph};
+ghost use Rattle.om_model.specs.Graph.{IsValue};
 ghost use Rattle.om_model.specs.declared.value.Val.TheVariants as vals;
 ghost use Rattle.om_model.specs.declared.value.Obj.TheVariants as objects;
 ghost use Rattle.om_types.specs.Fitting.{is_asked};
@@ -307,7 +307,6 @@ fn put_block<'a>(
     at: usize,
     outside: usize,
 ) -> Result<(), Memory>
-    requires graph { IsGraph heap.now }
     requires block { object_at heap.now o ≡ objects.Block tag (fields_of (object_at heap.now o)) }
     requires inside { o < length heap.now }
     requires word { word ≡ word_of heap.now (vals.Ref o) }

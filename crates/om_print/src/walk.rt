@@ -1,7 +1,7 @@
 //! The pieces of a value at a type, depth first and parts from left to right.
 
 ghost use Rattle.std.specs.Prelude.{◌≡◌, ◌<◌, ◌≤◌, ◌+◌, option_map, length, Some, None, All, IfOk, OnOk, IsTrue, [], true, false, slice_index, slice_index_or, vec_len};
-ghost use Rattle.om_model.specs.Graph.{IsValue, IsGraph};
+ghost use Rattle.om_model.specs.Graph.{IsValue};
 ghost use Rattle.om_model.specs.declared.value.Val.TheVariants as vals;
 ghost use Rattle.om_model.specs.declared.value.Obj.TheVariants as objects;
 ghost use Rattle.om_types.specs.Fitting.{or_none, is_asked, fields_of as needed_of};
@@ -305,7 +305,6 @@ pub fn open_block<'a>(
     at: usize,
     outside: usize,
 ) -> OpenBlock<'a>
-    requires graph { IsGraph heap.now }
     requires block { object_at heap.now o ≡ objects.Block tag (fields_of (object_at heap.now o)) }
     requires inside { o < length heap.now }
     requires word { word ≡ word_of heap.now (vals.Ref o) }
@@ -322,6 +321,7 @@ pub fn open_block<'a>(
     ensures outside { result.outside ≡ outside }
     ensures open { IsOpen table.now heap.now result }
 {
+    let _count = heap.count();
     let shape = table.shape(at);
     OpenBlock {
         object: o,

@@ -1,4 +1,5 @@
 pub mod Row
+pub mod Fitting
 pub mod FittingRows
 pub mod Taken
 pub mod Seconds

@@ -1,42 +1,41 @@
 //! Whether the value of a word fits a type.
 
 ghost use Rattle.std.specs.Prelude.{◌≡◌, ◌<◌, ◌↔◌, length, IsTrue};
-ghost use Rattle.om_model.specs.Graph.{IsValue, IsGraph};
+ghost use Rattle.om_model.specs.Graph.{IsValue};
 ghost use Rattle.om_model.specs.declared.value.Val.{Val};
 ghost use Rattle.om_heap.specs.Heap.{word_of, IsFieldWord};
 ghost use Rattle.om_types.specs.Table.{table_shapes};
 ghost use Rattle.om_type_table.specs.Made.{table_of};
-ghost use Rattle.om_scan.specs.FittingRows.{AreRows};
+ghost use Rattle.om_scan.specs.Fitting.{table_in};
 
-use om_fits::{Row, needs_of, surely_fits};
+use crate::rows::Fitting;
+use om_fits::{needs_of, surely_fits};
 use om_heap::Heap;
 use om_model::value::Val;
 use om_type_table::TypeTable;
 
 /// Whether the value of a word fits a type: mostly the row tells it.
 #[inline(always)]
-pub fn fits_type(heap: &Heap, table: &TypeTable, rows: &[Row], ty: usize, word: u64) -> bool
-    requires graph { IsGraph heap.now }
-    requires rows { AreRows table.now.nodes rows.now }
+pub fn fits_type(heap: &Heap, fitting: Fitting<'_>, ty: usize, word: u64) -> bool
     requires word { IsFieldWord heap.now word }
-    requires node { ty < length table.now.nodes }
+    requires node { ty < length fitting.table.now.nodes }
     ensures { (v : Val) → IsValue (length heap.now) v → word ≡ word_of heap.now v → IsTrue result
-        ↔ (table_shapes (table_of table.now)).fits heap.now v ty }
+        ↔ (table_shapes (table_in fitting.entry)).fits heap.now v ty }
 {
-    if ty < rows.len() && surely_fits(heap, rows[ty], word) {
+    if ty < fitting.rows.len() && surely_fits(heap, fitting.rows[ty], word) {
         return true;
     }
-    fits_by_kind(heap, table, ty, word)
+    fits_by_kind(heap, fitting.table, ty, word)
 }
 
 /// The same by the kind of the value.
 #[inline(never)]
 fn fits_by_kind(heap: &Heap, table: &TypeTable, ty: usize, word: u64) -> bool
-    requires graph { IsGraph heap.now }
     requires word { IsFieldWord heap.now word }
     requires node { ty < length table.now.nodes }
     ensures { (v : Val) → IsValue (length heap.now) v → word ≡ word_of heap.now v → IsTrue result
         ↔ (table_shapes (table_of table.now)).fits heap.now v ty }
 {
+    let _count = heap.count();
     needs_of(heap, heap.value_of(word), table.shape(ty)).is_some()
 }

@@ -13,7 +13,7 @@ mod taken;
 
 pub use cells::Cells;
 pub use fitting::fits_type;
-pub use rows::rows_of;
+pub use rows::{Fitting, rows_of};
 pub use seconds::Seconds;
 pub use steps::Steps;
 pub use straight::{Noted, Scanned, scan};

@@ -9,6 +9,14 @@ use om_model::Memory;
 use om_type_table::TypeTable;
 use std::alloc::Global;
 
+/// A table of types, and the rows of its first so many types: what surely fits each of them.
+#[derive(Clone, Copy)]
+pub struct Fitting<'a> {
+    pub table: &'a TypeTable,
+    pub rows: &'a [Row],
+    pub ghost are: { AreRows table.now.nodes rows.now },
+}
+
 /// The rows of all types; none where the types are more than the objects, since to make them would
 /// cost more than it saves.
 pub fn rows_of(alloc: Global, heap: &Heap, table: &TypeTable) -> Result<Vec<Row>, Memory>

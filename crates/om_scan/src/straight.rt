@@ -2,14 +2,14 @@
 
 ghost use Rattle.std.specs.Prelude.{ℕ, ◌≡◌, ◌≢◌, ◌<◌, ◌≤◌, ◌+◌, ◌%◌, ◌^◌, ◌↔◌, [], length, take, slice_get, IsTrue, Some, Ok, IfOk, IfSome, OnOk, MatchOption};
 ghost use Rattle.std.specs.Bool.{OnTrue, OnFalse};
-ghost use Rattle.om_model.specs.Graph.{IsValue, IsGraph};
+ghost use Rattle.om_model.specs.Graph.{IsValue};
 ghost use Rattle.om_model.specs.declared.value.Val.{Val};
 ghost use Rattle.om_model.specs.declared.value.Val.TheVariants as vals;
 ghost use Rattle.om_heap.specs.Heap.{word_of, field_at, IsFieldWord, IsReferenceWord};
 ghost use Rattle.om_types.specs.Table.{table_shapes, is_asked_in};
 ghost use Rattle.om_fits.specs.Needs.{needs_in};
 ghost use Rattle.om_type_table.specs.Made.{table_of, IsLawful};
-ghost use Rattle.om_scan.specs.FittingRows.{AreRows};
+ghost use Rattle.om_scan.specs.Fitting.{table_in};
 ghost use Rattle.om_scan.specs.Taken.{types_in};
 ghost use Rattle.om_scan.specs.Paths.{HasPath, IsHidden, IsLed, HavePaths};
 ghost use Rattle.om_scan.specs.Scanned.{object_typed, Tells, AreTaken, AreCounted, cost_of, left_of};
@@ -20,10 +20,11 @@ use crate::cells::Cells;
 use crate::fitting::fits_type;
 use crate::notes::{First, Notes, Unmet};
 use crate::passed::hidden_type;
+use crate::rows::Fitting;
 use crate::seconds::Seconds;
 use crate::steps::Steps;
 use crate::taken::{Taken, Unfit};
-use om_fits::{Needs, Row, is_asked, known_needs};
+use om_fits::{Needs, is_asked, known_needs};
 use om_heap::Heap;
 use om_model::Memory;
 use om_model::value::Val;
@@ -75,36 +76,42 @@ enum Stop {
 pub fn scan(
     alloc: Global,
     heap: &Heap,
-    table: &TypeTable,
-    rows: &[Row],
+    fitting: Fitting<'_>,
     steps: &mut Steps,
 ) -> Result<Scanned, Memory>
-    requires graph { IsGraph heap.now }
-    requires rows { AreRows table.now.nodes rows.now }
-    requires lawful { IsLawful (table_of table.now) }
+    requires lawful { IsLawful (table_in fitting) }
     requires some { 0 < length heap.now }
-    requires root { (table_shapes (table_of table.now)).fits heap.now (vals.Ref 0) 0 }
-    ensures types { IfOk result (Tells (table_of table.now) heap.now) }
-    ensures paths { IfOk result (HavePaths (table_of table.now) heap.now) }
-    ensures steps { AreCounted (table_of table.now) heap.now steps.old steps.new result }
+    requires root { (table_shapes (table_in fitting)).fits heap.now (vals.Ref 0) 0 }
+    ensures types { IfOk result (Tells (table_in fitting.entry) heap.now) }
+    ensures paths { IfOk result (HavePaths (table_in fitting.entry) heap.now) }
+    ensures steps { AreCounted (table_in fitting.entry) heap.now steps.old steps.new result }
 {
-    let most = table.classes.len();
+    let most = fitting.table.classes.len();
     let mut marks = Cells::new(alloc, heap.keys(), most)?;
     marks.set(heap.key(heap.word(Val::Ref(0))), 1)?;
     let mut types = Cells::new(alloc, heap.count() as usize, most)?;
     let mut notes = Notes::none(alloc);
     let mut taken = Steps::new();
-    let hidden = hidden_type(heap, table);
+    let hidden = hidden_type(heap, fitting.table);
     for o in 0..heap.count() {
         if let Some(stop) = take_object(
-            heap, table, rows, &mut marks, &mut notes, &mut types, o, hidden, &mut taken,
+            heap, fitting, &mut marks, &mut notes, &mut types, o, hidden, &mut taken,
         )? {
-            let (first, before) = stopped(heap, table, &marks, &notes, types, o, stop, taken);
+            let (first, before) = stopped(
+                heap,
+                fitting.table,
+                &marks,
+                &notes,
+                types,
+                o,
+                stop,
+                taken,
+            );
             steps.raise_by(before);
             return Ok(Scanned::Stopped(first));
         }
     }
-    Ok(told(heap, table, &marks, notes, types, taken, steps))
+    Ok(told(heap, fitting.table, &marks, notes, types, taken, steps))
 }
 
 /// What is told where all objects were taken.
@@ -118,7 +125,6 @@ fn told(
     taken: Steps,
     steps: &mut Steps,
 ) -> Scanned
-    requires graph { IsGraph heap.now }
     requires lawful { IsLawful (table_of table.now) }
     requires some { 0 < length heap.now }
     requires many { length types ≡ length heap.now }
@@ -128,6 +134,7 @@ fn told(
     ensures paths { HavePaths (table_of table.now) heap.now result }
     ensures steps { AreCounted (table_of table.now) heap.now steps.old steps.new (Ok result) }
 {
+    let _count = heap.count();
     let Some(first) = notes.first else {
         steps.raise_by(taken.taken());
         return Scanned::Told(types);
@@ -264,8 +271,7 @@ fn stop_at(
 #[inline(always)]
 fn take_object(
     heap: &Heap,
-    table: &TypeTable,
-    rows: &[Row],
+    fitting: Fitting<'_>,
     marks: &mut Cells,
     notes: &mut Notes,
     types: &mut Cells,
@@ -273,34 +279,32 @@ fn take_object(
     hidden: Option<usize>,
     taken: &mut Steps,
 ) -> Result<Option<Stop>, Memory>
-    requires graph { IsGraph heap.now }
-    requires rows { AreRows table.now.nodes rows.now }
-    requires lawful { IsLawful (table_of table.now) }
+    requires lawful { IsLawful (table_in fitting) }
     requires object { o < length heap.now }
     requires many { length types.old ≡ length heap.now }
-    requires going { IsGoing (table_of table.now) heap.now marks.old types.old notes.old o
+    requires going { IsGoing (table_in fitting) heap.now marks.old types.old notes.old o
         taken.old }
-    requires root { (table_shapes (table_of table.now)).fits heap.now (vals.Ref 0) 0 }
-    requires hidden { IfSome hidden (IsHidden (table_of table.now)) }
+    requires root { (table_shapes (table_in fitting)).fits heap.now (vals.Ref 0) 0 }
+    requires hidden { IfSome hidden (IsHidden (table_in fitting)) }
     ensures many { OnOk result (length types.new ≡ length heap.now) }
     ensures turned { IfOk result
-        (IsTurned (table_of table.now) heap.now marks.new types.new notes.new o taken.new) }
+        (IsTurned (table_in fitting.entry) heap.now marks.new types.new notes.new o taken.new) }
 {
     let word = heap.word(Val::Ref(o));
     let mark = marks.get(heap.key(word));
     if mark == 0 {
-        return pass_object(heap, table, marks, notes, types, o, hidden, taken);
+        return pass_object(heap, fitting.table, marks, notes, types, o, hidden, taken);
     }
     let ty = mark as usize - 1;
-    if !fits_mark(heap, table, rows, o, word, ty) {
+    if !fits_mark(heap, fitting, o, word, ty) {
         return Ok(Some(Stop::Misfits));
     }
-    let Some(needs) = known_needs(heap, o, table.shape(ty)) else {
+    let Some(needs) = known_needs(heap, o, fitting.table.shape(ty)) else {
         return Ok(Some(Stop::Misfits));
     };
     let many = needs.len();
     types.set(o as usize, ty as u64)?;
-    if let Some(unmet) = meet_all(heap, table, rows, marks, notes, o, word, ty, needs, taken)? {
+    if let Some(unmet) = meet_all(heap, fitting, marks, notes, o, word, ty, needs, taken)? {
         return Ok(Some(Stop::Needs(ty, unmet)));
     }
     taken.raise();
@@ -321,7 +325,6 @@ fn pass_object(
     hidden: Option<usize>,
     _taken: &Steps,
 ) -> Result<Option<Stop>, Memory>
-    requires graph { IsGraph heap.now }
     requires object { o < length heap.now }
     requires many { length types.old ≡ length heap.now }
     requires going { IsGoing (table_of _table.now) heap.now marks.old types.old _notes.now o
@@ -345,19 +348,18 @@ fn pass_object(
 
 /// Whether object o, which has this word, fits the type that it is marked with. The first one does.
 #[inline(always)]
-fn fits_mark(heap: &Heap, table: &TypeTable, rows: &[Row], o: u64, word: u64, ty: usize) -> bool
-    requires graph { IsGraph heap.now }
-    requires rows { AreRows table.now.nodes rows.now }
+fn fits_mark(heap: &Heap, fitting: Fitting<'_>, o: u64, word: u64, ty: usize) -> bool
     requires object { o < length heap.now }
     requires word { word ≡ word_of heap.now (vals.Ref o) }
-    requires node { ty < length table.now.nodes }
-    requires root { o ≡ 0 → (table_shapes (table_of table.now)).fits heap.now (vals.Ref 0) ty }
-    ensures { IsTrue result ↔ (table_shapes (table_of table.now)).fits heap.now (vals.Ref o) ty }
+    requires node { ty < length fitting.table.now.nodes }
+    requires root { o ≡ 0 → (table_shapes (table_in fitting)).fits heap.now (vals.Ref 0) ty }
+    ensures { IsTrue result
+        ↔ (table_shapes (table_in fitting.entry)).fits heap.now (vals.Ref o) ty }
 {
     if o == 0 {
         return true;
     }
-    fits_type(heap, table, rows, ty, word)
+    fits_type(heap, fitting, ty, word)
 }
 
 /// Tests the needs of an object, which has this word, at a type. The answer is the first that is
@@ -365,8 +367,7 @@ fn fits_mark(heap: &Heap, table: &TypeTable, rows: &[Row], o: u64, word: u64, ty
 #[inline(always)]
 fn meet_all(
     heap: &Heap,
-    table: &TypeTable,
-    rows: &[Row],
+    fitting: Fitting<'_>,
     marks: &mut Cells,
     notes: &mut Notes,
     o: u64,
@@ -375,36 +376,33 @@ fn meet_all(
     needs: Needs<'_>,
     taken: &Steps,
 ) -> Result<Option<Unmet>, Memory>
-    requires graph { IsGraph heap.now }
-    requires rows { AreRows table.now.nodes rows.now }
-    requires lawful { IsLawful (table_of table.now) }
+    requires lawful { IsLawful (table_in fitting) }
     requires object { o < length heap.now }
     requires word { word ≡ word_of heap.now (vals.Ref o) }
-    requires node { ty < length table.now.nodes }
-    requires needs { object_typed (table_of table.now) heap.now o ty ≡ needs_in needs }
-    requires marks { AreMarks (table_of table.now) heap.now marks.old }
-    requires noted { AreNoted (table_of table.now) heap.now marks.old notes.old.seconds }
+    requires node { ty < length fitting.table.now.nodes }
+    requires needs { object_typed (table_in fitting) heap.now o ty ≡ needs_in needs }
+    requires marks { AreMarks (table_in fitting) heap.now marks.old }
+    requires noted { AreNoted (table_in fitting) heap.now marks.old notes.old.seconds }
     requires whole { IsWhole notes.old }
-    requires path { IsLed (table_of table.now) heap.now o ty }
-    ensures marks { OnOk result (AreMarks (table_of table.now) heap.now marks.new) }
+    requires path { IsLed (table_in fitting) heap.now o ty }
+    ensures marks { OnOk result (AreMarks (table_in fitting.entry) heap.now marks.new) }
     ensures kept { OnOk result (AreKept marks.old marks.new) }
     ensures noted { OnOk result
-        (AreNoted (table_of table.now) heap.now marks.new notes.new.seconds) }
+        (AreNoted (table_in fitting.entry) heap.now marks.new notes.new.seconds) }
     ensures still { OnOk result
         (AreStillNoted (noted_in notes.old.seconds) (noted_in notes.new.seconds)) }
     ensures told { OnOk result
-        (IsToldIn (table_of table.now) heap.now marks.new o ty taken.now notes.old notes.new) }
+        (IsToldIn (table_in fitting.entry) heap.now marks.new o ty taken.now notes.old notes.new) }
     ensures met { IfOk result
         (λ unmet. MatchOption unmet
-        (AreMet (table_of table.now) heap.now marks.new (noted_in notes.new.seconds) o ty
-        (length (object_typed (table_of table.now) heap.now o ty)))
-        (IsUnmet (table_of table.now) heap.now marks.new (noted_in notes.new.seconds) o ty)) }
+        (AreMet (table_in fitting.entry) heap.now marks.new (noted_in notes.new.seconds) o ty
+        (length (object_typed (table_in fitting.entry) heap.now o ty)))
+        (IsUnmet (table_in fitting.entry) heap.now marks.new (noted_in notes.new.seconds) o ty)) }
 {
     match needs {
         Needs::Listed(types) => meet_each(
             heap,
-            table,
-            rows,
+            fitting,
             marks,
             notes,
             o,
@@ -413,7 +411,7 @@ fn meet_all(
             Needs::Listed(types),
             taken,
         ),
-        _ => meet_each(heap, table, rows, marks, notes, o, word, ty, needs, taken),
+        _ => meet_each(heap, fitting, marks, notes, o, word, ty, needs, taken),
     }
 }
 
@@ -421,8 +419,7 @@ fn meet_all(
 #[inline(always)]
 fn meet_each(
     heap: &Heap,
-    table: &TypeTable,
-    rows: &[Row],
+    fitting: Fitting<'_>,
     marks: &mut Cells,
     notes: &mut Notes,
     o: u64,
@@ -431,30 +428,28 @@ fn meet_each(
     needs: Needs<'_>,
     taken: &Steps,
 ) -> Result<Option<Unmet>, Memory>
-    requires graph { IsGraph heap.now }
-    requires rows { AreRows table.now.nodes rows.now }
-    requires lawful { IsLawful (table_of table.now) }
+    requires lawful { IsLawful (table_in fitting) }
     requires object { o < length heap.now }
     requires word { word ≡ word_of heap.now (vals.Ref o) }
-    requires node { ty < length table.now.nodes }
-    requires needs { object_typed (table_of table.now) heap.now o ty ≡ needs_in needs }
-    requires marks { AreMarks (table_of table.now) heap.now marks.old }
-    requires noted { AreNoted (table_of table.now) heap.now marks.old notes.old.seconds }
+    requires node { ty < length fitting.table.now.nodes }
+    requires needs { object_typed (table_in fitting) heap.now o ty ≡ needs_in needs }
+    requires marks { AreMarks (table_in fitting) heap.now marks.old }
+    requires noted { AreNoted (table_in fitting) heap.now marks.old notes.old.seconds }
     requires whole { IsWhole notes.old }
-    requires path { IsLed (table_of table.now) heap.now o ty }
-    ensures marks { OnOk result (AreMarks (table_of table.now) heap.now marks.new) }
+    requires path { IsLed (table_in fitting) heap.now o ty }
+    ensures marks { OnOk result (AreMarks (table_in fitting.entry) heap.now marks.new) }
     ensures kept { OnOk result (AreKept marks.old marks.new) }
     ensures noted { OnOk result
-        (AreNoted (table_of table.now) heap.now marks.new notes.new.seconds) }
+        (AreNoted (table_in fitting.entry) heap.now marks.new notes.new.seconds) }
     ensures still { OnOk result
         (AreStillNoted (noted_in notes.old.seconds) (noted_in notes.new.seconds)) }
     ensures told { OnOk result
-        (IsToldIn (table_of table.now) heap.now marks.new o ty taken.now notes.old notes.new) }
+        (IsToldIn (table_in fitting.entry) heap.now marks.new o ty taken.now notes.old notes.new) }
     ensures met { IfOk result
         (λ unmet. MatchOption unmet
-        (AreMet (table_of table.now) heap.now marks.new (noted_in notes.new.seconds) o ty
-        (length (object_typed (table_of table.now) heap.now o ty)))
-        (IsUnmet (table_of table.now) heap.now marks.new (noted_in notes.new.seconds) o ty)) }
+        (AreMet (table_in fitting.entry) heap.now marks.new (noted_in notes.new.seconds) o ty
+        (length (object_typed (table_in fitting.entry) heap.now o ty)))
+        (IsUnmet (table_in fitting.entry) heap.now marks.new (noted_in notes.new.seconds) o ty)) }
 {
     if needs.len() == 0 {
         return Ok(None);
@@ -464,7 +459,7 @@ fn meet_each(
         let (step, needed) = needs.get(k);
         let value = words[step as usize];
         if !meet_need(
-            heap, table, rows, marks, notes, o, ty, k, step, taken, value, needed,
+            heap, fitting, marks, notes, o, ty, k, step, taken, value, needed,
         )? {
             return Ok(Some(Unmet {
                 place: k,
@@ -481,8 +476,7 @@ fn meet_each(
 #[inline(always)]
 fn meet_need(
     heap: &Heap,
-    table: &TypeTable,
-    rows: &[Row],
+    fitting: Fitting<'_>,
     marks: &mut Cells,
     notes: &mut Notes,
     o: u64,
@@ -493,38 +487,48 @@ fn meet_need(
     word: u64,
     needed: usize,
 ) -> Result<bool, Memory>
-    requires graph { IsGraph heap.now }
-    requires rows { AreRows table.now.nodes rows.now }
-    requires lawful { IsLawful (table_of table.now) }
+    requires lawful { IsLawful (table_in fitting) }
     requires object { o < length heap.now }
-    requires node { ty < length table.now.nodes }
-    requires need { slice_get (object_typed (table_of table.now) heap.now o ty) place
+    requires node { ty < length fitting.table.now.nodes }
+    requires need { slice_get (object_typed (table_in fitting) heap.now o ty) place
         ≡ Some (field, needed) }
     requires word { word ≡ word_of heap.now (field_at heap.now o field) }
     requires small { field + 1 < 2 ^ 64 }
-    requires marks { AreMarks (table_of table.now) heap.now marks.old }
-    requires noted { AreNoted (table_of table.now) heap.now marks.old notes.old.seconds }
-    requires path { IsLed (table_of table.now) heap.now o ty }
+    requires marks { AreMarks (table_in fitting) heap.now marks.old }
+    requires noted { AreNoted (table_in fitting) heap.now marks.old notes.old.seconds }
+    requires path { IsLed (table_in fitting) heap.now o ty }
     ensures next { IfOk result
         (λ met. OnTrue met
-        (Continues (table_of table.now) heap.now marks.old marks.new notes.old notes.new o ty
+        (Continues (table_in fitting.entry) heap.now marks.old marks.new notes.old notes.new o ty
         taken.now place (place + 1))) }
     ensures unfit { IfOk result
         (λ met. OnFalse met
-        (Continues (table_of table.now) heap.now marks.old marks.new notes.old notes.new o ty
+        (Continues (table_in fitting.entry) heap.now marks.old marks.new notes.old notes.new o ty
         taken.now place place
-        × IsUnfit (table_of table.now) heap.now (field_at heap.now o field) needed)) }
+        × IsUnfit (table_in fitting.entry) heap.now (field_at heap.now o field) needed)) }
 {
-    if meet(heap, table, rows, marks, word, needed)? {
+    let _count = heap.count();
+    if meet(heap, fitting, marks, word, needed)? {
         return Ok(true);
     }
     if word % 8 != 0 {
         return Ok(false);
     }
-    if !is_asked(table.shape(needed)) {
+    if !is_asked(fitting.table.shape(needed)) {
         return Ok(true);
     }
-    note(heap, table, notes, o, ty, place, field, taken, word, needed)?;
+    note(
+        heap,
+        fitting.table,
+        notes,
+        o,
+        ty,
+        place,
+        field,
+        taken,
+        word,
+        needed,
+    )?;
     Ok(true)
 }
 
@@ -584,44 +588,42 @@ fn first_or(told: Option<First>, own: First) -> Option<First>
 #[inline(always)]
 fn meet(
     heap: &Heap,
-    table: &TypeTable,
-    rows: &[Row],
+    fitting: Fitting<'_>,
     marks: &mut Cells,
     word: u64,
     ty: usize,
 ) -> Result<bool, Memory>
-    requires graph { IsGraph heap.now }
-    requires rows { AreRows table.now.nodes rows.now }
-    requires lawful { IsLawful (table_of table.now) }
+    requires lawful { IsLawful (table_in fitting) }
     requires word { IsFieldWord heap.now word }
-    requires node { ty < length table.now.nodes }
-    requires marks { AreMarks (table_of table.now) heap.now marks.old }
-    requires paths { IsTrue (is_asked_in (table_of table.now) ty) → (o : ℕ) → o < length heap.now
+    requires node { ty < length fitting.table.now.nodes }
+    requires marks { AreMarks (table_in fitting) heap.now marks.old }
+    requires paths { IsTrue (is_asked_in (table_in fitting) ty) → (o : ℕ) → o < length heap.now
         → word ≡ word_of heap.now (vals.Ref o)
-        → HasPath (table_of table.now) heap.now (vals.Ref 0) o ty }
-    ensures marks { OnOk result (AreMarks (table_of table.now) heap.now marks.new) }
+        → HasPath (table_in fitting) heap.now (vals.Ref 0) o ty }
+    ensures marks { OnOk result (AreMarks (table_in fitting.entry) heap.now marks.new) }
     ensures kept { OnOk result (AreKept marks.old marks.new) }
     ensures met { IfOk result
         (λ met. OnTrue met
-        (IsTrue (is_asked_in (table_of table.now) ty) → (v : Val) → IsValue (length heap.now) v
+        (IsTrue (is_asked_in (table_in fitting.entry) ty) → (v : Val) → IsValue (length heap.now) v
         → word ≡ word_of heap.now v
-        → IsMet (table_of table.now) heap.now marks.new v ty)) }
+        → IsMet (table_in fitting.entry) heap.now marks.new v ty)) }
     ensures unmet { IfOk result
         (λ met. OnFalse met
         (word % 8 ≢ 0 → (v : Val) → IsValue (length heap.now) v → word ≡ word_of heap.now v
-        → ¬ (table_shapes (table_of table.now)).fits heap.now v ty)) }
+        → ¬ (table_shapes (table_in fitting.entry)).fits heap.now v ty)) }
     ensures other { IfOk result
         (λ met. OnFalse met
         (word % 8 ≡ 0 → (v : Val) → IsValue (length heap.now) v → word ≡ word_of heap.now v
-        → IsOther (table_of table.now) heap.now marks.new v ty)) }
+        → IsOther (table_in fitting.entry) heap.now marks.new v ty)) }
 {
+    let _count = heap.count();
     if word % 8 != 0 {
-        return Ok(fits_type(heap, table, rows, ty, word));
+        return Ok(fits_type(heap, fitting, ty, word));
     }
     let key = heap.key(word);
     let mark = marks.get(key);
     if mark == 0 {
-        if !is_asked(table.shape(ty)) {
+        if !is_asked(fitting.table.shape(ty)) {
             return Ok(true);
         }
         let Some(new) = (ty as u64).checked_add(1) else {
@@ -631,7 +633,7 @@ fn meet(
         return Ok(true);
     }
     let marked = mark as usize - 1;
-    Ok(marked == ty || is_same(table, marked, ty))
+    Ok(marked == ty || is_same(fitting.table, marked, ty))
 }
 
 /// Whether two types are equal.

@@ -13,29 +13,29 @@ settle-requires-clause-over c = record { scanned = c.requires.told.0; paths = c.
 
 pub returns-in_ok-typing-in-Some-clause-verdict : goal.returns-in_ok-typing-in-Some-clause-verdict
 returns-in_ok-typing-in-Some-clause-verdict c =
-    let t = table_of c.args.table.now in
+    let t = table_of c.args.fitting.table.now in
     let graph = c.args.heap.now in
     let types = c.args.noted.taken.types in
     let settled = subst (λ found. IfSome found (IsSettled t graph types)) c.in-Some.is c.in_ok-seconds.ensures.settled in
-    let yes = settled_yes t graph types c.in-Some.seconds c.requires.table c.requires.graph settled in
+    let yes = settled_yes t graph types c.in-Some.seconds c.requires.table c.count-count.ensures.heap.is_graph settled in
     (yes.0, reached_yes t graph c.requires.table types (pairs_with types c.in-Some.seconds) c.in_ok-typing-in-Some.typing c.in_ok-typing-in-Some.ensures c.requires.asked yes.1)
 
 pub returns-in_ok-typing-in-Some-clause-paths : goal.returns-in_ok-typing-in-Some-clause-paths
 returns-in_ok-typing-in-Some-clause-paths c =
-    let t = table_of c.args.table.now in
+    let t = table_of c.args.fitting.table.now in
     let graph = c.args.heap.now in
     let types = c.args.noted.taken.types in
     let settled = subst (λ found. IfSome found (IsSettled t graph types)) c.in-Some.is c.in_ok-seconds.ensures.settled in
     reached_paths t graph c.requires.table types (pairs_with types c.in-Some.seconds) c.in_ok-typing-in-Some.typing c.in_ok-typing-in-Some.ensures c.requires.paths.0
-    (settled_cases t graph types c.in-Some.seconds c.requires.table c.requires.graph settled)
+    (settled_cases t graph types c.in-Some.seconds c.requires.table c.count-count.ensures.heap.is_graph settled)
 
 pub returns-in_ok-typing-in-Some-clause-steps : goal.returns-in_ok-typing-in-Some-clause-steps
 returns-in_ok-typing-in-Some-clause-steps c =
-    let t = table_of c.args.table.now in
+    let t = table_of c.args.fitting.table.now in
     let graph = c.args.heap.now in
     let types = c.args.noted.taken.types in
     let settled = subst (λ found. IfSome found (IsSettled t graph types)) c.in-Some.is c.in_ok-seconds.ensures.settled in
-    let few = settled_few t graph types c.in-Some.seconds c.requires.table c.requires.graph settled in
+    let few = settled_few t graph types c.in-Some.seconds c.requires.table c.count-count.ensures.heap.is_graph settled in
     let more = subst (λ found. IfSome found (λ all. c.settle.new.steps ≤ c.new-more.result + cost_of_pairs graph (noted_in all))) c.in-Some.is c.in_ok-seconds.ensures.steps in
     omega (arith, few, more, c.requires.all, c.new-more.ensures, c.raise_by.ensures.more, c.raise_by-in-Some.ensures.more, c.taken-in-Some.ensures)
 
@@ -44,6 +44,6 @@ settled_typing-requires-clause-within c = c.requires.told.0.within
 
 pub settled_typing-requires-clause-noted : goal.settled_typing-requires-clause-noted
 settled_typing-requires-clause-noted c = λ o t among.
-    let settled : IsSettled (table_of c.args.table.now) c.args.heap.now c.args.noted.taken.types c.in-Some.seconds =
-    subst (λ found. IfSome found (IsSettled (table_of c.args.table.now) c.args.heap.now c.args.noted.taken.types)) c.in-Some.is c.in_ok-seconds.ensures.settled in
+    let settled : IsSettled (table_of c.args.fitting.table.now) c.args.heap.now c.args.noted.taken.types c.in-Some.seconds =
+    subst (λ found. IfSome found (IsSettled (table_of c.args.fitting.table.now) c.args.heap.now c.args.noted.taken.types)) c.in-Some.is c.in_ok-seconds.ensures.settled in
     (settled.over.scanned.noted o t among).within

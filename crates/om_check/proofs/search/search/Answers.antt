@@ -7,20 +7,20 @@ use Rattle.om_check.proofs.search.search.Goals as goal
 
 pub returns-in_err-step-clause-steps : goal.returns-in_err-step-clause-steps
 returns-in_err-step-clause-steps c =
-    let inside : c.loop-visits.n < length (listed c.loop-visits.visits) = c.has.ensures.has.0 c.loop-visits-test.true in
-    search_few (table_of c.args.table.now) c.args.heap.now c.args.taken.now (listed c.loop-visits.visits) c.loop-visits.n c.args.steps.now c.loop-visits.steps c.test_visit.new.steps c.requires.lawful c.requires.taken c.loop-visits.invariant.explored inside c.loop-visits.invariant.few c.test_visit.ensures.steps
+    let inside : c.loop-fitting.n < length (listed c.loop-fitting.visits) = c.has.ensures.has.0 c.loop-fitting-test.true in
+    search_few (table_of c.args.fitting.table.now) c.args.heap.now c.args.taken.now (listed c.loop-fitting.visits) c.loop-fitting.n c.args.steps.now c.loop-fitting.steps c.test_visit.new.steps c.requires.lawful c.requires.taken c.loop-fitting.invariant.explored inside c.loop-fitting.invariant.few c.test_visit.ensures.steps
 
 pub returns-in-Some-clause-steps : goal.returns-in-Some-clause-steps
 returns-in-Some-clause-steps c =
-    let inside : c.loop-visits.n < length (listed c.loop-visits.visits) = c.has.ensures.has.0 c.loop-visits-test.true in
-    search_few (table_of c.args.table.now) c.args.heap.now c.args.taken.now (listed c.loop-visits.visits) c.loop-visits.n c.args.steps.now c.loop-visits.steps c.test_visit.new.steps c.requires.lawful c.requires.taken c.loop-visits.invariant.explored inside c.loop-visits.invariant.few c.test_visit.ensures.steps
+    let inside : c.loop-fitting.n < length (listed c.loop-fitting.visits) = c.has.ensures.has.0 c.loop-fitting-test.true in
+    search_few (table_of c.args.fitting.table.now) c.args.heap.now c.args.taken.now (listed c.loop-fitting.visits) c.loop-fitting.n c.args.steps.now c.loop-fitting.steps c.test_visit.new.steps c.requires.lawful c.requires.taken c.loop-fitting.invariant.explored inside c.loop-fitting.invariant.few c.test_visit.ensures.steps
 
-pub loop-visits-preserved : goal.loop-visits-preserved
-loop-visits-preserved c =
-    let inside : c.loop-visits.n < length (listed c.loop-visits.visits) = c.has.ensures.has.0 c.loop-visits-test.true in
-    searching_more (table_of c.args.table.now) c.args.heap.now c.args.taken.now c.args.visits.now c.loop-visits.visits c.test_visit.new.visits c.loop-visits.n c.args.steps.now c.loop-visits.steps c.test_visit.new.steps c.loop-visits.invariant inside
-    c.in_ok-step.ensures.linked (subst (TestsVisit (table_of c.args.table.now) c.args.heap.now (listed c.loop-visits.visits) (listed c.test_visit.new.visits) c.loop-visits.n) c.in_default.is c.in_ok-step.ensures.tests) c.test_visit.ensures.steps
+pub loop-fitting-preserved : goal.loop-fitting-preserved
+loop-fitting-preserved c =
+    let inside : c.loop-fitting.n < length (listed c.loop-fitting.visits) = c.has.ensures.has.0 c.loop-fitting-test.true in
+    searching_more (table_of c.args.fitting.table.now) c.args.heap.now c.args.taken.now c.args.visits.now c.loop-fitting.visits c.test_visit.new.visits c.loop-fitting.n c.args.steps.now c.loop-fitting.steps c.test_visit.new.steps c.loop-fitting.invariant inside
+    c.in_ok-step.ensures.linked (subst (TestsVisit (table_of c.args.fitting.table.now) c.args.heap.now (listed c.loop-fitting.visits) (listed c.test_visit.new.visits) c.loop-fitting.n) c.in_default.is c.in_ok-step.ensures.tests) c.test_visit.ensures.steps
 
 pub returns-clause-steps : goal.returns-clause-steps
 returns-clause-steps c =
-    searched_few (table_of c.args.table.now) c.args.heap.now c.args.taken.now (listed c.loop-visits.visits) c.loop-visits.n c.args.steps.now c.loop-visits.steps c.requires.lawful c.requires.taken c.loop-visits.invariant.explored c.loop-visits.invariant.few
+    searched_few (table_of c.args.fitting.table.now) c.args.heap.now c.args.taken.now (listed c.loop-fitting.visits) c.loop-fitting.n c.args.steps.now c.loop-fitting.steps c.requires.lawful c.requires.taken c.loop-fitting.invariant.explored c.loop-fitting.invariant.few

@@ -3,9 +3,9 @@ use Rattle.om_type_table.specs.Made.{table_of}
 use Rattle.om_check.specs.Search.{IsSearching}
 use Rattle.om_check.proofs.search.search.Given as goal
 
-abbrev pub invariant-loop-visits : goal.invariant-loop-visits
-invariant-loop-visits l = IsSearching (table_of l.table) l.heap l.taken l.fn.visits l.visits l.n l.fn.steps l.steps
+abbrev pub invariant-loop-fitting : goal.invariant-loop-fitting
+invariant-loop-fitting l = IsSearching (table_of l.fitting.table.now) l.heap l.taken l.fn.visits l.visits l.n l.fn.steps l.steps
 
 -- no list is longer
-abbrev pub decreases-loop-visits : goal.decreases-loop-visits
-decreases-loop-visits l = 2 ^ 64 - l.n
+abbrev pub decreases-loop-fitting : goal.decreases-loop-fitting
+decreases-loop-fitting l = 2 ^ 64 - l.n

@@ -16,14 +16,14 @@ use Rattle.om_check.proofs.search.test_need.Goals as goal
 
 pub returns-then-is_at-clause-tests : goal.returns-then-is_at-clause-tests
 returns-then-is_at-clause-tests c =
-    let t = table_of c.args.table.now in
+    let t = table_of c.args.fitting.table.now in
     let graph = c.args.heap.now in
     let all = listed c.args.visits.now in
     let need = c.args.need in
     let o = c.number_near-object.result in
     let v = field_at graph need.object need.step in
-    let valid = field_valid graph need.object need.step c.requires.object c.requires.field c.requires.graph in
-    let same : v ≡ vals.Ref o = word_of-inj graph v (vals.Ref o) c.requires.graph valid c.number_near-object.ensures.in_range
+    let valid = field_valid graph need.object need.step c.requires.object c.requires.field c.count-count.ensures.heap.is_graph in
+    let same : v ≡ vals.Ref o = word_of-inj graph v (vals.Ref o) c.count-count.ensures.heap.is_graph valid c.number_near-object.ensures.in_range
     (sym c.requires.word ∙ c.number_near-object.ensures.named) in
     let at_o = read_at c.args.visits.now.first o c.first_at-first.result (subst (λ n. o < n) (sym c.requires.linked.many) c.number_near-object.ensures.in_range) c.first_at-first.ensures in
     let first_is : c.first_at-first.result ≡ suc need.ty = subst (λ test. OnTrue test (c.first_at-first.result ≡ suc need.ty)) c.if-is_at.true c.is_at.ensures in
@@ -38,23 +38,23 @@ returns-then-not-object_fits-clause-tests c =
     let graph = c.args.heap.now in
     let need = c.args.need in
     let v = field_at graph need.object need.step in
-    let valid = field_valid graph need.object need.step c.requires.object c.requires.field c.requires.graph in
-    let same : v ≡ vals.Ref c.number_near-object.result = word_of-inj graph v (vals.Ref c.number_near-object.result) c.requires.graph valid c.number_near-object.ensures.in_range
+    let valid = field_valid graph need.object need.step c.requires.object c.requires.field c.count-count.ensures.heap.is_graph in
+    let same : v ≡ vals.Ref c.number_near-object.result = word_of-inj graph v (vals.Ref c.number_near-object.result) c.count-count.ensures.heap.is_graph valid c.number_near-object.ensures.in_range
     (sym c.requires.word ∙ c.number_near-object.ensures.named) in
-    tests_false (table_of c.args.table.now) graph (listed c.args.visits.now) need v valid
+    tests_false (table_of c.args.fitting.table.now) graph (listed c.args.visits.now) need v valid
     (field_there graph need.object need.step c.requires.object c.requires.field)
-    (λ fits. false≢true (sym c.if-not-object_fits.true ∙ c.object_fits.ensures.1 (subst (λ u. (table_shapes (table_of c.args.table.now)).fits graph u need.ty) same fits)))
+    (λ fits. false≢true (sym c.if-not-object_fits.true ∙ c.object_fits.ensures.1 (subst (λ u. (table_shapes (table_of c.args.fitting.table.now)).fits graph u need.ty) same fits)))
 
 pub returns-clause-tests : goal.returns-clause-tests
 returns-clause-tests c =
-    let t = table_of c.args.table.now in
+    let t = table_of c.args.fitting.table.now in
     let graph = c.args.heap.now in
     let all = listed c.args.visits.now in
     let need = c.args.need in
     let o = c.number_near-object.result in
     let v = field_at graph need.object need.step in
-    let valid = field_valid graph need.object need.step c.requires.object c.requires.field c.requires.graph in
-    let same : v ≡ vals.Ref o = word_of-inj graph v (vals.Ref o) c.requires.graph valid c.number_near-object.ensures.in_range
+    let valid = field_valid graph need.object need.step c.requires.object c.requires.field c.count-count.ensures.heap.is_graph in
+    let same : v ≡ vals.Ref o = word_of-inj graph v (vals.Ref o) c.count-count.ensures.heap.is_graph valid c.number_near-object.ensures.in_range
     (sym c.requires.word ∙ c.number_near-object.ensures.named) in
     tests_true t graph all (listed c.enter.new.self) need v valid
     (field_there graph need.object need.step c.requires.object c.requires.field)
@@ -63,12 +63,12 @@ returns-clause-tests c =
 
 pub object_fits-requires-clause-seen : goal.object_fits-requires-clause-seen
 object_fits-requires-clause-seen c =
-    let t = table_of c.args.table.now in
+    let t = table_of c.args.fitting.table.now in
     let graph = c.args.heap.now in
     let need = c.args.need in
     let o = c.number_near-object.result in
     let v = field_at graph need.object need.step in
-    let valid = field_valid graph need.object need.step c.requires.object c.requires.field c.requires.graph in
-    let same : v ≡ vals.Ref o = word_of-inj graph v (vals.Ref o) c.requires.graph valid c.number_near-object.ensures.in_range
+    let valid = field_valid graph need.object need.step c.requires.object c.requires.field c.count-count.ensures.heap.is_graph in
+    let same : v ≡ vals.Ref o = word_of-inj graph v (vals.Ref o) c.count-count.ensures.heap.is_graph valid c.number_near-object.ensures.in_range
     (sym c.requires.word ∙ c.number_near-object.ensures.named) in
     subst (λ u. OnTrue c.args.seen (IsSeen t graph c.args.taken.now need.object need.step u need.ty)) same c.requires.seen

@@ -8,14 +8,14 @@ use Rattle.om_check.proofs.SettleLemmas.{counting_none, counting_more}
 use Rattle.om_check.proofs.settle.settle.Goals as goal
 
 pub loop-n-init : goal.loop-n-init
-loop-n-init c = counting_none (table_of c.args.table.now) c.args.heap.now c.args.types.now c.args.seconds c.args.steps.now c.requires.over
+loop-n-init c = counting_none (table_of c.args.fitting.table.now) c.args.heap.now c.args.types.now c.args.seconds c.args.steps.now c.requires.over
 
 pub settle_pair-requires-clause-settling : goal.settle_pair-requires-clause-settling
 settle_pair-requires-clause-settling c = c.loop-n.invariant.settling
 
 pub loop-n-preserved : goal.loop-n-preserved
 loop-n-preserved c =
-    let t = table_of c.args.table.now in
+    let t = table_of c.args.fitting.table.now in
     let graph = c.args.heap.now in
     let inside : c.loop-n.n < length (noted_in c.loop-n.seconds) = omega (arith, c.loop-n-test.true, c.len.ensures) in
     let at_n = slice_get_there (noted_in c.loop-n.seconds) c.loop-n.n inside in
@@ -27,7 +27,7 @@ pub returns-clause-settled : goal.returns-clause-settled
 returns-clause-settled c =
     let within = c.loop-n.invariant.settling.within in
     let all : c.loop-n.n ≡ length (noted_in c.loop-n.seconds) = omega (arith, within, c.loop-n-test.false, c.len.ensures) in
-    subst (IsSettling (table_of c.args.table.now) c.args.heap.now c.args.types.now c.loop-n.seconds) all c.loop-n.invariant.settling
+    subst (IsSettling (table_of c.args.fitting.table.now) c.args.heap.now c.args.types.now c.loop-n.seconds) all c.loop-n.invariant.settling
 
 pub returns-clause-steps : goal.returns-clause-steps
 returns-clause-steps c =

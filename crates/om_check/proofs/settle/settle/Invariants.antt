@@ -4,7 +4,7 @@ use Rattle.om_check.specs.Settled.{IsCounting}
 use Rattle.om_check.proofs.settle.settle.Given as goal
 
 abbrev pub invariant-loop-n : goal.invariant-loop-n
-invariant-loop-n l = IsCounting (table_of l.table) l.heap l.types l.seconds l.n l.fn.steps l.steps
+invariant-loop-n l = IsCounting (table_of l.fitting.table.now) l.heap l.types l.seconds l.n l.fn.steps l.steps
 
 -- no list is longer
 abbrev pub decreases-loop-n : goal.decreases-loop-n

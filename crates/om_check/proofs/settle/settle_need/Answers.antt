@@ -14,27 +14,27 @@ use Rattle.om_check.proofs.settle.settle_need.Goals as goal
 
 pub fits_type-requires-clause-word : goal.fits_type-requires-clause-word
 fits_type-requires-clause-word c =
-    let short = need_field (table_of c.args.table.now) c.args.heap.now c.args._object c.args._ty c.args._place c.args._field c.args.needed c.requires.object c.requires.need in (
+    let short = need_field (table_of c.args.fitting.table.now) c.args.heap.now c.args._object c.args._ty c.args._place c.args._field c.args.needed c.requires.object c.requires.need in (
       field_at c.args.heap.now c.args._object c.args._field,
-      field_valid c.args.heap.now c.args._object c.args._field c.requires.object short c.requires.graph,
+      field_valid c.args.heap.now c.args._object c.args._field c.requires.object short c.count-count.ensures.heap.is_graph,
       c.requires.word,
     )
 
 pub fits_type-requires-clause-node : goal.fits_type-requires-clause-node
 fits_type-requires-clause-node c =
-    let t = table_of c.args.table.now in
+    let t = table_of c.args.fitting.table.now in
     let graph = c.args.heap.now in
     let node = need_node t graph c.requires.lawful c.args._object c.args._ty c.args._place c.args._field c.args.needed c.requires.node c.requires.need in
     node
 
 pub returns-then-word-ne0 : goal.returns-then-word-ne0
 returns-then-word-ne0 c =
-    let t = table_of c.args.table.now in
+    let t = table_of c.args.fitting.table.now in
     let graph = c.args.heap.now in
     let node = need_node t graph c.requires.lawful c.args._object c.args._ty c.args._place c.args._field c.args.needed c.requires.node c.requires.need in
     let v = field_at graph c.args._object c.args._field in
     let short = need_field t graph c.args._object c.args._ty c.args._place c.args._field c.args.needed c.requires.object c.requires.need in
-    let valid = field_valid graph c.args._object c.args._field c.requires.object short c.requires.graph in
+    let valid = field_valid graph c.args._object c.args._field c.requires.object short c.count-count.ensures.heap.is_graph in
     record {
       finds = when_true c.fits_type.result _ (λ fits. finds_value t graph c.args.types.now c.args.seconds.now v c.args.needed c.requires.over
           (λ o is. even_word graph c.args.word o c.if-word-ne0.true (c.requires.word ∙ ap (word_of graph) is))
@@ -43,7 +43,7 @@ returns-then-word-ne0 c =
 
 pub class-requires : goal.class-requires
 class-requires c =
-    let t = table_of c.args.table.now in
+    let t = table_of c.args.fitting.table.now in
     let graph = c.args.heap.now in
     let node = need_node t graph c.requires.lawful c.args._object c.args._ty c.args._place c.args._field c.args.needed c.requires.node c.requires.need in
     let many = c.requires.over.scanned.many in
@@ -55,7 +55,7 @@ class-requires c =
 
 pub class-requires-2 : goal.class-requires-2
 class-requires-2 c =
-    let t = table_of c.args.table.now in
+    let t = table_of c.args.fitting.table.now in
     let graph = c.args.heap.now in
     let node = need_node t graph c.requires.lawful c.args._object c.args._ty c.args._place c.args._field c.args.needed c.requires.node c.requires.need in
     let classed = c.requires.lawful.classed in
@@ -63,7 +63,7 @@ class-requires-2 c =
 
 pub note-requires-clause-ty : goal.note-requires-clause-ty
 note-requires-clause-ty c =
-    let t = table_of c.args.table.now in
+    let t = table_of c.args.fitting.table.now in
     let graph = c.args.heap.now in
     let node = need_node t graph c.requires.lawful c.args._object c.args._ty c.args._place c.args._field c.args.needed c.requires.node c.requires.need in
     let classed = c.requires.lawful.classed in
@@ -71,7 +71,7 @@ note-requires-clause-ty c =
 
 pub returns-then-class : goal.returns-then-class
 returns-then-class c =
-    let t = table_of c.args.table.now in
+    let t = table_of c.args.fitting.table.now in
     let graph = c.args.heap.now in
     let node = need_node t graph c.requires.lawful c.args._object c.args._ty c.args._place c.args._field c.args.needed c.requires.node c.requires.need in
     let many = c.requires.over.scanned.many in
@@ -80,8 +80,8 @@ returns-then-class c =
     let p = c.number-object.result in
     let v = field_at graph c.args._object c.args._field in
     let short = need_field t graph c.args._object c.args._ty c.args._place c.args._field c.args.needed c.requires.object c.requires.need in
-    let valid = field_valid graph c.args._object c.args._field c.requires.object short c.requires.graph in
-    let same : v ≡ vals.Ref p = word_of-inj graph v (vals.Ref p) c.requires.graph valid c.number-object.ensures.in_range (sym c.requires.word ∙ c.number-object.ensures.named) in
+    let valid = field_valid graph c.args._object c.args._field c.requires.object short c.count-count.ensures.heap.is_graph in
+    let same : v ≡ vals.Ref p = word_of-inj graph v (vals.Ref p) c.count-count.ensures.heap.is_graph valid c.number-object.ensures.in_range (sym c.requires.word ∙ c.number-object.ensures.named) in
     record {
       finds = subst (λ w. Finds t graph c.args.types.now c.args.seconds.now c.args.seconds.now w c.args.needed) (sym same)
           (finds_first t graph c.args.types.now c.args.seconds.now p c.get-first.result c.args.needed c.requires.over at_first
@@ -90,7 +90,7 @@ returns-then-class c =
 
 pub returns : goal.returns
 returns c =
-    let t = table_of c.args.table.now in
+    let t = table_of c.args.fitting.table.now in
     let graph = c.args.heap.now in
     let node = need_node t graph c.requires.lawful c.args._object c.args._ty c.args._place c.args._field c.args.needed c.requires.node c.requires.need in
     let many = c.requires.over.scanned.many in
@@ -99,8 +99,8 @@ returns c =
     let p = c.number-object.result in
     let v = field_at graph c.args._object c.args._field in
     let short = need_field t graph c.args._object c.args._ty c.args._place c.args._field c.args.needed c.requires.object c.requires.need in
-    let valid = field_valid graph c.args._object c.args._field c.requires.object short c.requires.graph in
-    let same : v ≡ vals.Ref p = word_of-inj graph v (vals.Ref p) c.requires.graph valid c.number-object.ensures.in_range (sym c.requires.word ∙ c.number-object.ensures.named) in
+    let valid = field_valid graph c.args._object c.args._field c.requires.object short c.count-count.ensures.heap.is_graph in
+    let same : v ≡ vals.Ref p = word_of-inj graph v (vals.Ref p) c.count-count.ensures.heap.is_graph valid c.number-object.ensures.in_range (sym c.requires.word ∙ c.number-object.ensures.named) in
     record {
       finds = subst (λ w. Finds t graph c.args.types.now c.args.seconds.now c.note.new.self w c.args.needed) (sym same)
           (finds_noted t graph c.args.types.now c.args.seconds.now c.note.new.self p c.args.needed c.requires.over c.in_ok-note.ensures.seconds c.in_ok-note.ensures.notes

@@ -1,20 +1,26 @@
 use Rattle.std.proofs.Common.{◌∙◌, refl, sym, ap, subst, arith}
 use Rattle.std.specs.Bool.{OnTrue}
-use Rattle.std.specs.Prelude.{slice_get}
+use Rattle.std.specs.Prelude.{length, slice_get}
 use Rattle.om_type_table.specs.Made.{table_of}
 use Rattle.om_heap.specs.Heap.{field_at}
 use Rattle.om_scan.proofs.FieldLemmas.{word_inside, field_word}
-use Rattle.om_scan.proofs.NeedLemmas.{need_field, need_node, shape_asked, shape_hidden}
+use Rattle.om_scan.proofs.NeedLemmas.{need_field, need_node, some_fields, shape_asked, shape_hidden}
 use Rattle.om_check.specs.Settled.{Finds}
 use Rattle.om_check.proofs.SettleLemmas.{finds_more, finds_hidden}
 use Rattle.om_check.proofs.settle.settle_needs.Goals as goal
+
+pub fields-words-requires : goal.fields-words-requires
+fields-words-requires c =
+    let many = ap length c.requires.needs in
+    some_fields (table_of c.args.fitting.table.now) c.args.heap.now c.args.object c.args.ty c.requires.object
+    (omega (arith, many, c.len.ensures, c.if-len-eq0.false))
 
 pub offset_bounds-words-field : goal.offset_bounds-words-field
 offset_bounds-words-field c =
     let graph = c.args.heap.now in
     let i = c.get-field.result.0 in
     let at_k = ap (λ needs. slice_get needs c.loop-k.k) c.requires.needs ∙ c.get-field.ensures in
-    let short = need_field (table_of c.args.table.now) graph c.args.object c.args.ty c.loop-k.k i c.get-field.result.1 c.requires.object at_k in
+    let short = need_field (table_of c.args.fitting.table.now) graph c.args.object c.args.ty c.loop-k.k i c.get-field.result.1 c.requires.object at_k in
     let inside = word_inside graph c.args.object i c.fields-words.result.now c.fields-words.ensures.words short in
     omega (arith, inside, c.type_inv.words)
 
@@ -23,7 +29,7 @@ bounds-words-field c =
     let graph = c.args.heap.now in
     let i = c.get-field.result.0 in
     let at_k = ap (λ needs. slice_get needs c.loop-k.k) c.requires.needs ∙ c.get-field.ensures in
-    let short = need_field (table_of c.args.table.now) graph c.args.object c.args.ty c.loop-k.k i c.get-field.result.1 c.requires.object at_k in
+    let short = need_field (table_of c.args.fitting.table.now) graph c.args.object c.args.ty c.loop-k.k i c.get-field.result.1 c.requires.object at_k in
     word_inside graph c.args.object i c.fields-words.result.now c.fields-words.ensures.words short
 
 pub settle_need-requires-clause-word : goal.settle_need-requires-clause-word
@@ -31,12 +37,12 @@ settle_need-requires-clause-word c =
     let graph = c.args.heap.now in
     let i = c.get-field.result.0 in
     let at_k = ap (λ needs. slice_get needs c.loop-k.k) c.requires.needs ∙ c.get-field.ensures in
-    let short = need_field (table_of c.args.table.now) graph c.args.object c.args.ty c.loop-k.k i c.get-field.result.1 c.requires.object at_k in
+    let short = need_field (table_of c.args.fitting.table.now) graph c.args.object c.args.ty c.loop-k.k i c.get-field.result.1 c.requires.object at_k in
     field_word graph c.args.object i c.requires.object short c.fields-words.result.now _ c.fields-words.ensures.words refl
 
 pub loop-k-preserved : goal.loop-k-preserved
 loop-k-preserved c =
-    let t = table_of c.args.table.now in
+    let t = table_of c.args.fitting.table.now in
     let graph = c.args.heap.now in
     let i = c.get-field.result.0 in
     let a = c.get-field.result.1 in
@@ -49,14 +55,14 @@ loop-k-preserved c =
 pub shape-requires : goal.shape-requires
 shape-requires c =
     let at_k = ap (λ needs. slice_get needs c.loop-k.k) c.requires.needs ∙ c.get-field.ensures in
-    need_node (table_of c.args.table.now) c.args.heap.now c.requires.lawful c.args.object c.args.ty c.loop-k.k c.get-field.result.0 c.get-field.result.1 c.requires.node at_k
+    need_node (table_of c.args.fitting.table.now) c.args.heap.now c.requires.lawful c.args.object c.args.ty c.loop-k.k c.get-field.result.0 c.get-field.result.1 c.requires.node at_k
 
 pub settle_need-requires-clause-asked : goal.settle_need-requires-clause-asked
 settle_need-requires-clause-asked c =
-    shape_asked c.args.table.now.nodes c.get-field.result.1 c.shape.result.now c.shape.ensures (sym c.is_asked.ensures ∙ c.if-not-is_asked.false)
+    shape_asked c.args.fitting.table.now.nodes c.get-field.result.1 c.shape.result.now c.shape.ensures (sym c.is_asked.ensures ∙ c.if-not-is_asked.false)
 
 pub loop-k-preserved-then-not-is_asked : goal.loop-k-preserved-then-not-is_asked
 loop-k-preserved-then-not-is_asked c =
     let at_k = ap (λ needs. slice_get needs c.loop-k.k) c.requires.needs ∙ c.get-field.ensures in
-    finds_hidden (table_of c.args.table.now) c.args.heap.now c.args.types.now c.args.seconds.now c.loop-k.seconds c.args.object c.args.ty c.loop-k.k c.get-field.result.0 c.get-field.result.1 c.loop-k.invariant
-    (shape_hidden c.args.table.now.nodes c.get-field.result.1 c.shape.result.now c.shape.ensures (sym c.is_asked.ensures ∙ c.if-not-is_asked.true)) at_k
+    finds_hidden (table_of c.args.fitting.table.now) c.args.heap.now c.args.types.now c.args.seconds.now c.loop-k.seconds c.args.object c.args.ty c.loop-k.k c.get-field.result.0 c.get-field.result.1 c.loop-k.invariant
+    (shape_hidden c.args.fitting.table.now.nodes c.get-field.result.1 c.shape.result.now c.shape.ensures (sym c.is_asked.ensures ∙ c.if-not-is_asked.true)) at_k

@@ -113,7 +113,7 @@ returns-clause-settles c =
     let many = c.requires.settling.over.scanned.many in
     let inside : c.get-object.result.0 < length c.args.types.now = let within = own.inside in omega (arith, within, many) in
     let at_first = read_at c.args.types.now c.get-object.result.0 c.get-first.result inside c.get-first.ensures in
-    let t = table_of c.args.table.now in
+    let t = table_of c.args.fitting.table.now in
     let graph = c.args.heap.now in
     let o = c.get-object.result.0 in
     let ty = c.get-object.result.1 in
@@ -123,7 +123,7 @@ returns-clause-settles c =
     (λ mutable. false≢true (sym c.if-is_mutable.false ∙ c.is_mutable.ensures ∙ sym (ap (λ n. is_mutable (node_or_none n) (slice_get graph o)) c.shape.ensures) ∙ mutable.1))
     (λ u at_u mutable.
     let same : c.get-first.result ≡ u = same_Some c.get-first.result u (sym at_first ∙ at_u) in
-    let own_node = ap (slice_get c.args.table.now.nodes) (sym same) ∙ c.shape-2.ensures in
+    let own_node = ap (slice_get c.args.fitting.table.now.nodes) (sym same) ∙ c.shape-2.ensures in
     false≢true (sym c.if-is_mutable-2.false ∙ c.is_mutable-2.ensures ∙ sym (ap (λ n. is_mutable (node_or_none n) (slice_get graph o)) own_node) ∙ mutable.1))
 
 pub returns-clause-steps : goal.returns-clause-steps
@@ -133,6 +133,6 @@ returns-clause-steps c =
     λ o t at_n.
     let same = ap (λ (p : ℕ × ℕ). p.0) (same_Some pair (o, t) (sym c.get-object.ensures ∙ at_n)) in
     let size = ap (size_of c.args.heap.now) same in
-    let are = ap length (needs_are (table_of c.args.table.now) c.args.heap.now c.get-object.result.0 c.get-object.result.1 c.shape-3.result.now c.known_needs.result c.in-Some.needs c.shape-3.ensures c.known_needs.ensures c.in-Some.is) in
-    let few = needs_few (table_of c.args.table.now) c.args.heap.now c.get-object.result.0 c.get-object.result.1 own.inside in
+    let are = ap length (needs_are (table_of c.args.fitting.table.now) c.args.heap.now c.get-object.result.0 c.get-object.result.1 c.shape-3.result.now c.known_needs.result c.in-Some.needs c.shape-3.ensures c.known_needs.ensures c.in-Some.is) in
+    let few = needs_few (table_of c.args.fitting.table.now) c.args.heap.now c.get-object.result.0 c.get-object.result.1 own.inside in
     omega (arith, size, are, few, c.raise.ensures.more, c.raise_by.ensures.more, c.len.ensures)

@@ -16,9 +16,9 @@ returns-clause-open c =
       inside = c.requires.inside;
       words = c.fields_at.ensures.words c.args.o c.requires.inside c.requires.word;
       valid = c.fields_at.ensures.valid;
-      parts = open_parts table graph c.args.o c.args.at (needs_in c.needs_or_none.result) c.requires.graph c.requires.inside c.requires.lawful c.requires.typed needs;
+      parts = open_parts table graph c.args.o c.args.at (needs_in c.needs_or_none.result) c.count-count.ensures.heap.is_graph c.requires.inside c.requires.lawful c.requires.typed needs;
     }
 
 pub fields_at-requires : goal.fields_at-requires
 fields_at-requires c =
-    (c.args.o, c.requires.inside, c.requires.word, some_fields c.args.table.now c.args.heap.now c.args.o c.args.tag c.requires.graph c.requires.inside c.requires.block)
+    (c.args.o, c.requires.inside, c.requires.word, some_fields c.args.table.now c.args.heap.now c.args.o c.args.tag c.count-count.ensures.heap.is_graph c.requires.inside c.requires.block)

@@ -9,7 +9,7 @@ use Rattle.om_scan.proofs.fitting.fits_by_kind.Goals as goal
 
 pub returns : goal.returns
 returns c = λ v is same.
-    let value = word_of-inj c.args.heap.now c.value_of.result v c.requires.graph c.value_of.ensures.valid is (sym c.value_of.ensures.word ∙ same) in
+    let value = word_of-inj c.args.heap.now c.value_of.result v c.count-count.ensures.heap.is_graph c.value_of.ensures.valid is (sym c.value_of.ensures.word ∙ same) in
     let fields = ap (λ n. fields_of c.args.heap.now v (node_or_none n)) c.shape.ensures
     ∙ ap (λ u. fields_of c.args.heap.now u c.shape.result.now) (sym value) ∙ sym c.needs_of.ensures in
     let both = some_mapped needs_in c.needs_of.result c.is_some.result c.is_some.ensures in

@@ -6,7 +6,7 @@ use Rattle.om_scan.proofs.straight.fits_mark.Goals as goal
 
 pub returns-then-o-eq0 : goal.returns-then-o-eq0
 returns-then-o-eq0 c = (
-  λ yes. subst (λ n. (table_shapes (table_of c.args.table.now)).fits c.args.heap.now (vals.Ref n) c.args.ty) (sym c.if-o-eq0.true) (c.requires.root c.if-o-eq0.true),
+  λ yes. subst (λ n. (table_shapes (table_of c.args.fitting.table.now)).fits c.args.heap.now (vals.Ref n) c.args.ty) (sym c.if-o-eq0.true) (c.requires.root c.if-o-eq0.true),
   λ also. refl,
 )
 

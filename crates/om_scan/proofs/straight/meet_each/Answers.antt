@@ -15,26 +15,26 @@ fields_at-words-requires c = (
   c.args.o,
   c.requires.object,
   c.requires.word,
-  some_fields (table_of c.args.table.now) c.args.heap.now c.args.o c.args.ty c.requires.object
+  some_fields (table_of c.args.fitting.table.now) c.args.heap.now c.args.o c.args.ty c.requires.object
       (omega (arith, ap length c.requires.needs, c.len.ensures, c.if-len-eq0.false)),
 )
 
 pub offset_bounds-words-step : goal.offset_bounds-words-step
 offset_bounds-words-step c =
     let at_k = ap (λ needs. slice_get needs c.loop-k.k) c.requires.needs ∙ c.get-step.ensures in
-    let short = need_field (table_of c.args.table.now) c.args.heap.now c.args.o c.args.ty c.loop-k.k c.get-step.result.0 c.get-step.result.1 c.requires.object at_k in
+    let short = need_field (table_of c.args.fitting.table.now) c.args.heap.now c.args.o c.args.ty c.loop-k.k c.get-step.result.0 c.get-step.result.1 c.requires.object at_k in
     let inside = word_inside c.args.heap.now c.args.o c.get-step.result.0 c.fields_at-words.result.now (c.fields_at-words.ensures.words c.args.o c.requires.object c.requires.word) short in
     omega (arith, inside, c.type_inv.words)
 
 pub bounds-words-step : goal.bounds-words-step
 bounds-words-step c =
     let at_k = ap (λ needs. slice_get needs c.loop-k.k) c.requires.needs ∙ c.get-step.ensures in
-    let short = need_field (table_of c.args.table.now) c.args.heap.now c.args.o c.args.ty c.loop-k.k c.get-step.result.0 c.get-step.result.1 c.requires.object at_k in
+    let short = need_field (table_of c.args.fitting.table.now) c.args.heap.now c.args.o c.args.ty c.loop-k.k c.get-step.result.0 c.get-step.result.1 c.requires.object at_k in
     word_inside c.args.heap.now c.args.o c.get-step.result.0 c.fields_at-words.result.now (c.fields_at-words.ensures.words c.args.o c.requires.object c.requires.word) short
 
 pub loop-k-init : goal.loop-k-init
 loop-k-init c =
-    meeting_first (table_of c.args.table.now) c.args.heap.now c.args.marks.now c.args.notes.now c.args.o c.args.ty c.args.taken.now c.requires.marks c.requires.noted c.requires.whole
+    meeting_first (table_of c.args.fitting.table.now) c.args.heap.now c.args.marks.now c.args.notes.now c.args.o c.args.ty c.args.taken.now c.requires.marks c.requires.noted c.requires.whole
 
 pub meet_need-requires-clause-need : goal.meet_need-requires-clause-need
 meet_need-requires-clause-need c = ap (λ needs. slice_get needs c.loop-k.k) c.requires.needs ∙ c.get-step.ensures
@@ -42,13 +42,13 @@ meet_need-requires-clause-need c = ap (λ needs. slice_get needs c.loop-k.k) c.r
 pub meet_need-requires-clause-word : goal.meet_need-requires-clause-word
 meet_need-requires-clause-word c =
     let at_k = ap (λ needs. slice_get needs c.loop-k.k) c.requires.needs ∙ c.get-step.ensures in
-    let short = need_field (table_of c.args.table.now) c.args.heap.now c.args.o c.args.ty c.loop-k.k c.get-step.result.0 c.get-step.result.1 c.requires.object at_k in
+    let short = need_field (table_of c.args.fitting.table.now) c.args.heap.now c.args.o c.args.ty c.loop-k.k c.get-step.result.0 c.get-step.result.1 c.requires.object at_k in
     field_word c.args.heap.now c.args.o c.get-step.result.0 c.requires.object short c.fields_at-words.result.now _ (c.fields_at-words.ensures.words c.args.o c.requires.object c.requires.word) refl
 
 pub meet_need-requires-clause-small : goal.meet_need-requires-clause-small
 meet_need-requires-clause-small c =
     let at_k = ap (λ needs. slice_get needs c.loop-k.k) c.requires.needs ∙ c.get-step.ensures in
-    let short = need_field (table_of c.args.table.now) c.args.heap.now c.args.o c.args.ty c.loop-k.k c.get-step.result.0 c.get-step.result.1 c.requires.object at_k in
+    let short = need_field (table_of c.args.fitting.table.now) c.args.heap.now c.args.o c.args.ty c.loop-k.k c.get-step.result.0 c.get-step.result.1 c.requires.object at_k in
     let inside = word_inside c.args.heap.now c.args.o c.get-step.result.0 c.fields_at-words.result.now (c.fields_at-words.ensures.words c.args.o c.requires.object c.requires.word) short in
     omega (arith, inside, c.fields_at-words.type_inv)
 
@@ -60,13 +60,13 @@ meet_need-requires-clause-noted c = c.loop-k.invariant.noted
 
 pub loop-k-preserved : goal.loop-k-preserved
 loop-k-preserved c =
-    let next = subst (λ test. OnTrue test (Continues (table_of c.args.table.now) c.args.heap.now c.loop-k.marks c.meet_need.new.marks c.loop-k.notes c.meet_need.new.notes c.args.o c.args.ty c.args.taken.now c.loop-k.k (c.loop-k.k + 1)))
+    let next = subst (λ test. OnTrue test (Continues (table_of c.args.fitting.table.now) c.args.heap.now c.loop-k.marks c.meet_need.new.marks c.loop-k.notes c.meet_need.new.notes c.args.o c.args.ty c.args.taken.now c.loop-k.k (c.loop-k.k + 1)))
     c.if-not-branch.false c.in_ok-meet_need.ensures.next in
     next c.args.marks.now c.args.notes.now c.loop-k.invariant
 
 pub returns-then-not-branch-clause-marks : goal.returns-then-not-branch-clause-marks
 returns-then-not-branch-clause-marks c =
-    let t = table_of c.args.table.now in
+    let t = table_of c.args.fitting.table.now in
     let graph = c.args.heap.now in
     let unfit = subst (λ test. OnFalse test (Continues t graph c.loop-k.marks c.meet_need.new.marks c.loop-k.notes c.meet_need.new.notes c.args.o c.args.ty c.args.taken.now c.loop-k.k c.loop-k.k
     × IsUnfit t graph (field_at graph c.args.o c.get-step.result.0) c.get-step.result.1)) c.if-not-branch.true c.in_ok-meet_need.ensures.unfit in
@@ -75,7 +75,7 @@ returns-then-not-branch-clause-marks c =
 
 pub returns-then-not-branch-clause-kept : goal.returns-then-not-branch-clause-kept
 returns-then-not-branch-clause-kept c =
-    let t = table_of c.args.table.now in
+    let t = table_of c.args.fitting.table.now in
     let graph = c.args.heap.now in
     let unfit = subst (λ test. OnFalse test (Continues t graph c.loop-k.marks c.meet_need.new.marks c.loop-k.notes c.meet_need.new.notes c.args.o c.args.ty c.args.taken.now c.loop-k.k c.loop-k.k
     × IsUnfit t graph (field_at graph c.args.o c.get-step.result.0) c.get-step.result.1)) c.if-not-branch.true c.in_ok-meet_need.ensures.unfit in
@@ -84,7 +84,7 @@ returns-then-not-branch-clause-kept c =
 
 pub returns-then-not-branch-clause-noted : goal.returns-then-not-branch-clause-noted
 returns-then-not-branch-clause-noted c =
-    let t = table_of c.args.table.now in
+    let t = table_of c.args.fitting.table.now in
     let graph = c.args.heap.now in
     let unfit = subst (λ test. OnFalse test (Continues t graph c.loop-k.marks c.meet_need.new.marks c.loop-k.notes c.meet_need.new.notes c.args.o c.args.ty c.args.taken.now c.loop-k.k c.loop-k.k
     × IsUnfit t graph (field_at graph c.args.o c.get-step.result.0) c.get-step.result.1)) c.if-not-branch.true c.in_ok-meet_need.ensures.unfit in
@@ -93,7 +93,7 @@ returns-then-not-branch-clause-noted c =
 
 pub returns-then-not-branch-clause-still : goal.returns-then-not-branch-clause-still
 returns-then-not-branch-clause-still c =
-    let t = table_of c.args.table.now in
+    let t = table_of c.args.fitting.table.now in
     let graph = c.args.heap.now in
     let unfit = subst (λ test. OnFalse test (Continues t graph c.loop-k.marks c.meet_need.new.marks c.loop-k.notes c.meet_need.new.notes c.args.o c.args.ty c.args.taken.now c.loop-k.k c.loop-k.k
     × IsUnfit t graph (field_at graph c.args.o c.get-step.result.0) c.get-step.result.1)) c.if-not-branch.true c.in_ok-meet_need.ensures.unfit in
@@ -102,7 +102,7 @@ returns-then-not-branch-clause-still c =
 
 pub returns-then-not-branch-clause-told : goal.returns-then-not-branch-clause-told
 returns-then-not-branch-clause-told c =
-    let t = table_of c.args.table.now in
+    let t = table_of c.args.fitting.table.now in
     let graph = c.args.heap.now in
     let unfit = subst (λ test. OnFalse test (Continues t graph c.loop-k.marks c.meet_need.new.marks c.loop-k.notes c.meet_need.new.notes c.args.o c.args.ty c.args.taken.now c.loop-k.k c.loop-k.k
     × IsUnfit t graph (field_at graph c.args.o c.get-step.result.0) c.get-step.result.1)) c.if-not-branch.true c.in_ok-meet_need.ensures.unfit in
@@ -111,7 +111,7 @@ returns-then-not-branch-clause-told c =
 
 pub returns-then-not-branch-clause-met : goal.returns-then-not-branch-clause-met
 returns-then-not-branch-clause-met c =
-    let t = table_of c.args.table.now in
+    let t = table_of c.args.fitting.table.now in
     let graph = c.args.heap.now in
     let unfit = subst (λ test. OnFalse test (Continues t graph c.loop-k.marks c.meet_need.new.marks c.loop-k.notes c.meet_need.new.notes c.args.o c.args.ty c.args.taken.now c.loop-k.k c.loop-k.k
     × IsUnfit t graph (field_at graph c.args.o c.get-step.result.0) c.get-step.result.1)) c.if-not-branch.true c.in_ok-meet_need.ensures.unfit in
@@ -153,4 +153,4 @@ returns-then-len-eq0-clause-still c = λ p among. among
 
 pub returns-then-len-eq0-clause-told : goal.returns-then-len-eq0-clause-told
 returns-then-len-eq0-clause-told c =
-    (meeting_first (table_of c.args.table.now) c.args.heap.now c.args.marks.now c.args.notes.now c.args.o c.args.ty c.args.taken.now c.requires.marks c.requires.noted c.requires.whole).told
+    (meeting_first (table_of c.args.fitting.table.now) c.args.heap.now c.args.marks.now c.args.notes.now c.args.o c.args.ty c.args.taken.now c.requires.marks c.requires.noted c.requires.whole).told

@@ -9,13 +9,13 @@ use Rattle.om_scan.proofs.straight.scan.Goals as goal
 
 pub stopped-first-requires-clause-stopped : goal.stopped-first-requires-clause-stopped
 stopped-first-requires-clause-stopped c =
-    subst (IsTurned (table_of c.args.table.now) c.args.heap.now c.take_object.new.marks c.take_object.new.types c.take_object.new.notes c.loop-o.o c.take_object.new.taken)
+    subst (IsTurned (table_of c.args.fitting.table.now) c.args.heap.now c.take_object.new.marks c.take_object.new.types c.take_object.new.notes c.loop-o.o c.take_object.new.taken)
     c.in-Some.is c.in_ok-stop.ensures.turned
 
 pub told-requires-clause-going : goal.told-requires-clause-going
 told-requires-clause-going c =
     let all : c.loop-o.o ≡ length c.args.heap.now = omega (arith, c.loop-o.auto.o-end, c.loop-o-test.false, c.count-o-end.ensures.count) in
-    subst (λ n. IsGoing (table_of c.args.table.now) c.args.heap.now c.loop-o.marks c.loop-o.types c.loop-o.notes n c.loop-o.taken) all c.loop-o.invariant.2
+    subst (λ n. IsGoing (table_of c.args.fitting.table.now) c.args.heap.now c.loop-o.marks c.loop-o.types c.loop-o.notes n c.loop-o.taken) all c.loop-o.invariant.2
 
 pub loop-o-init : goal.loop-o-init
 loop-o-init c =
@@ -24,8 +24,8 @@ loop-o-init c =
       ap length c.in_ok-types.ensures ∙ length-replicate c.count.result 0 ∙ c.count.ensures.count,
       refl,
       record {
-        scanning = scanning_none (table_of c.args.table.now) graph c.set.new.self c.keys.result c.key.result c.new-taken.result
-            c.requires.graph c.requires.some c.requires.lawful.rooted c.keys.ensures (c.key.ensures 0 c.requires.some c.word.ensures) made c.new-taken.ensures _;
-        noted = notes_none (table_of c.args.table.now) graph c.set.new.self _ 0 c.none-notes.result c.none-notes.ensures.none c.none-notes.ensures.known c.none-notes.ensures.first;
+        scanning = scanning_none (table_of c.args.fitting.table.now) graph c.set.new.self c.keys.result c.key.result c.new-taken.result
+            c.count.ensures.heap.is_graph c.requires.some c.requires.lawful.rooted c.keys.ensures (c.key.ensures 0 c.requires.some c.word.ensures) made c.new-taken.ensures _;
+        noted = notes_none (table_of c.args.fitting.table.now) graph c.set.new.self _ 0 c.none-notes.result c.none-notes.ensures.none c.none-notes.ensures.known c.none-notes.ensures.first;
       },
     )

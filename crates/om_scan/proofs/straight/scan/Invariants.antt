@@ -6,4 +6,4 @@ use Rattle.om_scan.proofs.straight.scan.Given as goal
 abbrev pub invariant-loop-o : goal.invariant-loop-o
 invariant-loop-o l =
     (length l.types ≡ length l.heap) × (l.steps ≡ l.fn.steps)
-    × IsGoing (table_of l.table) l.heap l.marks l.types l.notes l.o l.taken
+    × IsGoing (table_of l.fitting.table.now) l.heap l.marks l.types l.notes l.o l.taken

@@ -33,19 +33,19 @@ returns-then-not-fits_mark-clause-turned c =
     let test = c.fits_mark.ensures in
     record {
       scanning = c.requires.going.scanning;
-      noted = notes_within (table_of c.args.table.now) c.args.heap.now c.args.marks.now c.args.types.now c.args.o (c.args.o + 1) c.args.notes.now (omega arith) c.requires.going.noted;
+      noted = notes_within (table_of c.args.fitting.table.now) c.args.heap.now c.args.marks.now c.args.types.now c.args.o (c.args.o + 1) c.args.notes.now (omega arith) c.requires.going.noted;
       stops = (c.get-mark.result - 1, mark, λ fits. false≢true (sym c.if-not-fits_mark.true ∙ test.1 fits));
       row = tt;
     }
 
 pub returns-in_default-clause-turned : goal.returns-in_default-clause-turned
 returns-in_default-clause-turned c =
-    absurd (never_unfit (table_of c.args.table.now) c.args.heap.now c.args.o (c.get-mark.result - 1) c.shape.result.now c.known_needs.result c.shape.ensures c.known_needs.ensures c.in_default.is
+    absurd (never_unfit (table_of c.args.fitting.table.now) c.args.heap.now c.args.o (c.get-mark.result - 1) c.shape.result.now c.known_needs.result c.shape.ensures c.known_needs.ensures c.in_default.is
     (c.fits_mark.ensures.0 c.if-not-fits_mark.false))
 
 pub returns-in-Some-2-clause-turned : goal.returns-in-Some-2-clause-turned
 returns-in-Some-2-clause-turned c =
-    let t = table_of c.args.table.now in
+    let t = table_of c.args.fitting.table.now in
     let graph = c.args.heap.now in
     let ty = c.get-mark.result - 1 in
     let types = c.args.types.now in
@@ -70,7 +70,7 @@ returns-in-Some-2-clause-turned c =
 
 pub returns-clause-turned : goal.returns-clause-turned
 returns-clause-turned c =
-    let t = table_of c.args.table.now in
+    let t = table_of c.args.fitting.table.now in
     let graph = c.args.heap.now in
     let ty = c.get-mark.result - 1 in
     let types = c.args.types.now in
@@ -100,7 +100,7 @@ fits_mark-requires-clause-root c =
     λ first.
     let root = ap (mark_of c.args.heap.now c.args.marks.now) first ∙ c.requires.going.scanning.root in
     let same : 0 ≡ c.get-mark.result - 1 = omega (arith, mark, root) in
-    subst (λ t. (table_shapes (table_of c.args.table.now)).fits c.args.heap.now (vals.Ref 0) t) same c.requires.root
+    subst (λ t. (table_shapes (table_of c.args.fitting.table.now)).fits c.args.heap.now (vals.Ref 0) t) same c.requires.root
 
 pub meet_all-requires-clause-path : goal.meet_all-requires-clause-path
 meet_all-requires-clause-path c =
@@ -112,4 +112,4 @@ pub meet_all-requires-clause-noted : goal.meet_all-requires-clause-noted
 meet_all-requires-clause-noted c = c.requires.going.noted.noted
 
 pub meet_all-requires-clause-whole : goal.meet_all-requires-clause-whole
-meet_all-requires-clause-whole c = whole_notes (table_of c.args.table.now) c.args.heap.now c.args.marks.now c.args.types.now c.args.o c.args.notes.now c.requires.going.noted
+meet_all-requires-clause-whole c = whole_notes (table_of c.args.fitting.table.now) c.args.heap.now c.args.marks.now c.args.types.now c.args.o c.args.notes.now c.requires.going.noted

@@ -1,0 +1,7 @@
+-- The table of types in which it is looked up what fits.
+use Rattle.om_types.specs.Table.{Table}
+use Rattle.om_type_table.specs.Made.{table_of}
+use Rattle.om_scan.specs.declared.rows.Fitting.{Fitting}
+
+abbrev pub table_in : Fitting → Table
+table_in fitting = table_of fitting.table.now
