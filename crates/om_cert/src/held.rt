@@ -2,54 +2,59 @@
 
 ghost use Rattle.std.specs.Prelude.{ℕ, ◌≡◌, ◌<◌, ◌≤◌, ◌+◌, ◌↔◌, length, slice_get, Some, IsTrue, IfOk};
 ghost use Rattle.std.specs.Bool.{OnTrue};
-ghost use Rattle.om_model.specs.Graph.{IsValue, IsGraph};
+ghost use Rattle.om_model.specs.Graph.{IsValue};
 ghost use Rattle.om_model.specs.declared.value.Val.{Val};
 ghost use Rattle.om_types.specs.Table.{table_shapes};
 ghost use Rattle.om_types.specs.Typing.{IsHeld};
 ghost use Rattle.om_type_table.specs.Made.{table_of, IsLawful};
 ghost use Rattle.om_heap.specs.Heap.{word_of, IsFieldWord};
-ghost use Rattle.om_scan.specs.FittingRows.{AreRows};
-ghost use Rattle.om_section.specs.Increasing.{AreIncreasing};
+ghost use Rattle.om_scan.specs.Fitting.{table_in};
 ghost use Rattle.om_cert.specs.Testing.{AreAllThere, IsStart, IsPassing, IsSame, IsCrowd, IsAmongAt, IsSettled, IsElsewhere};
 
-use om_fits::Row;
 use om_heap::Heap;
 use om_model::Memory;
 use om_model::value::Val;
-use om_scan::fits_type;
+use om_scan::{Fitting, fits_type};
+use om_section::Pairs;
 use om_type_table::TypeTable;
 use std::alloc::Global;
 use std::collections::BTreeSet;
 
 /// Whether the object stands first at the place of its own number: so it is where each object
 /// before it has one pair.
-fn is_own_place(pairs: &[(u64, u64)], object: u64) -> bool
-    requires increasing { AreIncreasing pairs.now }
+fn is_own_place(pairs: &Pairs, object: u64) -> bool
     ensures { OnTrue result (IsStart pairs.now object object) }
 {
+    let many = pairs.len();
     let place = object as usize;
-    if place >= pairs.len() || pairs[place].0 != object {
+    if place >= many {
+        return false;
+    }
+    let (own, _) = pairs.at(place);
+    if own != object {
         return false;
     }
     if place == 0 {
         return true;
     }
-    pairs[place - 1].0 < object
+    let (before, _) = pairs.at(place - 1);
+    before < object
 }
 
 /// The place of the first pair whose object is not smaller than this one.
-fn start_of(pairs: &[(u64, u64)], object: u64) -> usize
-    requires increasing { AreIncreasing pairs.now }
+fn start_of(pairs: &Pairs, object: u64) -> usize
     ensures { IsStart pairs.now object result }
 {
     if is_own_place(pairs, object) {
         return object as usize;
     }
+    let many = pairs.len();
     let mut low = 0;
-    let mut high = pairs.len();
+    let mut high = many;
     while low < high {
         let middle = low + (high - low) / 2;
-        if pairs[middle].0 < object {
+        let (own, _) = pairs.at(middle);
+        if own < object {
             low = middle + 1;
         } else {
             high = middle;
@@ -62,7 +67,7 @@ fn start_of(pairs: &[(u64, u64)], object: u64) -> usize
 pub fn crowd_of(
     alloc: Global,
     table: &TypeTable,
-    pairs: &[(u64, u64)],
+    pairs: &Pairs,
 ) -> Result<BTreeSet<(u64, usize)>, Memory>
     requires there { (k o t : ℕ) → slice_get pairs.now k ≡ Some (o, t)
         → t < length table.now.classes }
@@ -70,8 +75,9 @@ pub fn crowd_of(
 {
     let mut crowd = BTreeSet::new(alloc);
     for i in 16..pairs.len() {
-        let (object, ty) = pairs[i];
-        if pairs[i - 16].0 == object {
+        let (object, ty) = pairs.at(i);
+        let (before, _) = pairs.at(i - 16);
+        if before == object {
             crowd.insert((object, table.class(ty as usize)))?;
         }
     }
@@ -90,8 +96,7 @@ fn few_end(len: usize, start: usize) -> usize
 /// Whether one of the first 16 pairs of the object is at an equal type. Of the others nothing is
 /// told.
 #[inline(never)]
-pub fn is_among_few(table: &TypeTable, pairs: &[(u64, u64)], object: u64, ty: usize) -> bool
-    requires increasing { AreIncreasing pairs.now }
+pub fn is_among_few(table: &TypeTable, pairs: &Pairs, object: u64, ty: usize) -> bool
     requires there { (k o t : ℕ) → slice_get pairs.now k ≡ Some (o, t)
         → t < length table.now.classes }
     requires ty { ty < length table.now.classes }
@@ -100,7 +105,7 @@ pub fn is_among_few(table: &TypeTable, pairs: &[(u64, u64)], object: u64, ty: us
     let class = table.class(ty);
     let start = start_of(pairs, object);
     for at in start..few_end(pairs.len(), start) {
-        let (own, number) = pairs[at];
+        let (own, number) = pairs.at(at);
         if own == object && table.class(number as usize) == class {
             return true;
         }
@@ -111,12 +116,11 @@ pub fn is_among_few(table: &TypeTable, pairs: &[(u64, u64)], object: u64, ty: us
 /// Whether some pair has the object at an equal type: one of its first 16, or one of the crowd.
 pub fn is_among(
     table: &TypeTable,
-    pairs: &[(u64, u64)],
+    pairs: &Pairs,
     crowd: &BTreeSet<(u64, usize)>,
     object: u64,
     ty: usize,
 ) -> bool
-    requires increasing { AreIncreasing pairs.now }
     requires there { (k o t : ℕ) → slice_get pairs.now k ≡ Some (o, t)
         → t < length table.now.classes }
     requires crowd { IsCrowd (table_of table.now) pairs.now crowd.now }
@@ -125,40 +129,39 @@ pub fn is_among(
 {
     let class = table.class(ty);
     let start = start_of(pairs, object);
-    let end = few_end(pairs.len(), start);
+    let many = pairs.len();
+    let end = few_end(many, start);
     let mut at = start;
-    while at < end && pairs[at].0 == object {
-        if table.class(pairs[at].1 as usize) == class {
+    while at < end {
+        let (own, number) = pairs.at(at);
+        if own != object {
+            return false;
+        }
+        if table.class(number as usize) == class {
             return true;
         }
         at += 1;
-    }
-    if at < end {
-        return false;
     }
     crowd.contains(&(object, class))
 }
 
 /// Whether some pair has the object of pair i at an unequal type. The pair before it tells this
 /// where it is of the same object.
-pub fn is_elsewhere(
-    table: &TypeTable,
-    pairs: &[(u64, u64)],
-    i: usize,
-    object: u64,
-    ty: usize,
-) -> bool
+pub fn is_elsewhere(table: &TypeTable, pairs: &Pairs, i: usize, object: u64, ty: usize) -> bool
     requires in_range { i < length pairs.now }
     requires at { slice_get pairs.now i ≡ Some (object, ty) }
-    requires increasing { AreIncreasing pairs.now }
     requires there { (k o t : ℕ) → slice_get pairs.now k ≡ Some (o, t)
         → t < length table.now.classes }
     requires settled { IsSettled (table_of table.now) pairs.now i }
     ensures { IsTrue result ↔ IsElsewhere (table_of table.now) pairs.now object ty }
 {
+    let _many = pairs.len();
     let class = table.class(ty);
-    if i > 0 && pairs[i - 1].0 == object {
-        return table.class(pairs[i - 1].1 as usize) != class;
+    if i > 0 {
+        let (before, number) = pairs.at(i - 1);
+        if before == object {
+            return table.class(number as usize) != class;
+        }
     }
     is_elsewhere_behind(table, pairs, i + 1, object, ty)
 }
@@ -166,12 +169,11 @@ pub fn is_elsewhere(
 /// The same where all pairs of the object before a place are at equal types.
 pub fn is_elsewhere_behind(
     table: &TypeTable,
-    pairs: &[(u64, u64)],
+    pairs: &Pairs,
     start: usize,
     object: u64,
     ty: usize,
 ) -> bool
-    requires increasing { AreIncreasing pairs.now }
     requires there { (k o t : ℕ) → slice_get pairs.now k ≡ Some (o, t)
         → t < length table.now.classes }
     requires ty { ty < length table.now.classes }
@@ -179,9 +181,14 @@ pub fn is_elsewhere_behind(
     ensures { IsTrue result ↔ IsElsewhere (table_of table.now) pairs.now object ty }
 {
     let class = table.class(ty);
+    let many = pairs.len();
     let mut at = start;
-    while at < pairs.len() && pairs[at].0 == object {
-        if table.class(pairs[at].1 as usize) != class {
+    while at < many {
+        let (own, number) = pairs.at(at);
+        if own != object {
+            return false;
+        }
+        if table.class(number as usize) != class {
             return true;
         }
         at += 1;
@@ -193,29 +200,26 @@ pub fn is_elsewhere_behind(
 /// its object at an equal type.
 pub fn is_held(
     heap: &Heap,
-    table: &TypeTable,
-    rows: &[Row],
-    pairs: &[(u64, u64)],
+    fitting: Fitting<'_>,
+    pairs: &Pairs,
     crowd: &BTreeSet<(u64, usize)>,
     word: u64,
     ty: usize,
 ) -> bool
-    requires graph { IsGraph heap.now }
     requires word { IsFieldWord heap.now word }
-    requires rows { AreRows table.now.nodes rows.now }
-    requires lawful { IsLawful (table_of table.now) }
-    requires increasing { AreIncreasing pairs.now }
-    requires there { AreAllThere (table_of table.now) heap.now pairs.now }
-    requires crowd { IsCrowd (table_of table.now) pairs.now crowd.now }
-    requires ty { ty < length table.now.nodes }
+    requires lawful { IsLawful (table_in fitting) }
+    requires there { AreAllThere (table_in fitting) heap.now pairs.now }
+    requires crowd { IsCrowd (table_in fitting) pairs.now crowd.now }
+    requires ty { ty < length fitting.table.now.nodes }
     ensures { (v : Val) → IsValue (length heap.now) v → word ≡ word_of heap.now v → IsTrue result
-        ↔ IsHeld (table_shapes (table_of table.now)) heap.now pairs.now v ty }
+        ↔ IsHeld (table_shapes (table_in fitting.entry)) heap.now pairs.now v ty }
 {
-    if !fits_type(heap, table, rows, ty, word) {
+    let _count = heap.count();
+    if !fits_type(heap, fitting, ty, word) {
         return false;
     }
     if word % 8 != 0 {
         return true;
     }
-    is_among(table, pairs, crowd, heap.number(word), ty)
+    is_among(fitting.table, pairs, crowd, heap.number(word), ty)
 }

@@ -1,10 +1,9 @@
 //! Whether what a section states holds of a value.
 
 ghost use Rattle.std.specs.Prelude.{◌≡◌, ◌<◌, ◌↔◌, length, IfOk, IsTrue, MatchOption};
-ghost use Rattle.om_model.specs.Graph.{IsValue, IsGraph};
+ghost use Rattle.om_model.specs.Graph.{IsValue};
 ghost use Rattle.om_type_table.specs.Made.{table_of, IsLawful};
-ghost use Rattle.om_section.specs.Increasing.{AreIncreasing};
-ghost use Rattle.om_scan.specs.FittingRows.{AreRows};
+ghost use Rattle.om_scan.specs.Fitting.{table_in};
 ghost use Rattle.om_cert.specs.Testing.{AreAllThere, IsFirstOut, IsThereNow};
 ghost use Rattle.om_cert.specs.Verified.{Shows, IsOneAnswer, IsVerified, fault_section};
 ghost use Rattle.om_section.specs.declared.section.Section.TheVariants as sections;
@@ -14,13 +13,12 @@ use crate::right::are_accepted;
 use crate::test::test_pair;
 use crate::verified::{Verified, Why};
 use om_fault::is_fault;
-use om_fits::Row;
 use om_heap::Heap;
 use om_model::Memory;
 use om_model::path::Path;
 use om_model::value::Val;
-use om_scan::rows_of;
-use om_section::Section;
+use om_scan::{Fitting, rows_of};
+use om_section::{Pairs, Section};
 use om_type_table::TypeTable;
 use om_types::fault::Fault;
 use std::alloc::Global;
@@ -56,7 +54,7 @@ fn answer_of(
     ensures { IfOk result (IsVerified (table_of table.now) heap.now root section.now) }
 {
     match section {
-        Section::Pairs(pairs) => verify_pairs(alloc, heap, root, table, pairs.as_slice()),
+        Section::Pairs(pairs) => verify_pairs(alloc, heap, root, table, pairs),
         Section::Misfit(path) => {
             let path = copied(alloc, path)?;
             Ok(verify_fault(heap, root, table, Fault::Misfit(path)))
@@ -102,13 +100,13 @@ fn is_there(heap: &Heap, table: &TypeTable, pair: (u64, u64)) -> bool
 }
 
 /// The first pair whose object or type is not there.
-fn first_out(heap: &Heap, table: &TypeTable, pairs: &[(u64, u64)]) -> Option<usize>
+fn first_out(heap: &Heap, table: &TypeTable, pairs: &Pairs) -> Option<usize>
     requires lawful { IsLawful (table_of table.now) }
     ensures { MatchOption result (AreAllThere (table_of table.now) heap.now pairs.now)
         (IsFirstOut (table_of table.now) heap.now pairs.now) }
 {
     for i in 0..pairs.len() {
-        if !is_there(heap, table, pairs[i]) {
+        if !is_there(heap, table, pairs.at(i)) {
             return Some(i);
         }
     }
@@ -121,24 +119,22 @@ fn verify_pairs(
     heap: &Heap,
     root: Val,
     table: &TypeTable,
-    pairs: &[(u64, u64)],
+    pairs: &Pairs,
 ) -> Result<Verified, Memory>
     requires value { IsValue (length heap.now) root }
     requires lawful { IsLawful (table_of table.now) }
-    requires increasing { AreIncreasing pairs.now }
     ensures { IfOk result
         (IsVerified (table_of table.now) heap.now root (sections.Pairs pairs.now)) }
 {
     if let Some(i) = first_out(heap, table, pairs) {
         return Ok(Verified::Rejected(Why::Range(i as u64)));
     }
-    let _objects = heap.count();
     let rows = rows_of(alloc, heap, table)?;
-    let rows = rows.as_slice();
-    if are_accepted(heap, root, table, rows, pairs) {
+    let fitting = Fitting { table, rows: &rows };
+    if are_accepted(heap, root, fitting, pairs) {
         return Ok(Verified::Yes);
     }
-    verify_each(alloc, heap, root, table, rows, pairs)
+    verify_each(alloc, heap, root, fitting, pairs)
 }
 
 /// The same pair by pair, where the objects and types of all are there: so what is first wrong is
@@ -147,33 +143,28 @@ fn verify_each(
     alloc: Global,
     heap: &Heap,
     root: Val,
-    table: &TypeTable,
-    rows: &[Row],
-    pairs: &[(u64, u64)],
+    fitting: Fitting<'_>,
+    pairs: &Pairs,
 ) -> Result<Verified, Memory>
-    requires graph { IsGraph heap.now }
     requires value { IsValue (length heap.now) root }
-    requires rows { AreRows table.now.nodes rows.now }
-    requires lawful { IsLawful (table_of table.now) }
-    requires increasing { AreIncreasing pairs.now }
-    requires there { AreAllThere (table_of table.now) heap.now pairs.now }
+    requires lawful { IsLawful (table_in fitting) }
+    requires there { AreAllThere (table_in fitting) heap.now pairs.now }
     ensures { IfOk result
-        (IsVerified (table_of table.now) heap.now root (sections.Pairs pairs.now)) }
+        (IsVerified (table_in fitting.entry) heap.now root (sections.Pairs pairs.now)) }
 {
-    let crowd = crowd_of(alloc, table, pairs)?;
+    let crowd = crowd_of(alloc, fitting.table, pairs)?;
     for i in 0..pairs.len() {
-        if let Some(why) = test_pair(heap, table, rows, pairs, &crowd, i) {
+        if let Some(why) = test_pair(heap, fitting, pairs, &crowd, i) {
             return Ok(Verified::Rejected(why));
         }
     }
     if is_held(
         heap,
-        table,
-        rows,
+        fitting,
         pairs,
         &crowd,
         heap.word(root),
-        table.root(),
+        fitting.table.root(),
     ) {
         Ok(Verified::Yes)
     } else {

@@ -10,3 +10,4 @@ pub mod StemLemmas
 pub mod RunLemmas
 pub mod PutLemmas
 pub mod SinkLemmas
+pub mod ComingLemmas

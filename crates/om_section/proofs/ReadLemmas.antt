@@ -1,10 +1,10 @@
 -- Reading a certificate line by line.
 use Rattle.std.proofs.Common.{ℕ, zero, suc, ◌≤◌, ◌+◌, ◌-◌, ◌≡◌, ◌∙◌, ⊎_elim, inl, inr, Bool, false, List, [], ◌∷◌, ◌++◌, length, Option, Some, None, refl, sym, ap, subst, arith, zero-add, length-append, append_assoc, take, drop}
-use Rattle.std.specs.Prelude.{Contains, All, IfSome, is_some, not, map, codes, decimal, slice_get}
+use Rattle.std.specs.Prelude.{All, IfSome, is_some, not, map, codes, decimal, slice_get}
 use Rattle.std.proofs.lemmas.Bool.{false≢true}
 use Rattle.std.proofs.lemmas.List.{append-nil, map-append, length_push, length-drop, take_rest}
 use Rattle.std.proofs.lemmas.List.Concat.{flat_map-append}
-use Rattle.std.proofs.lemmas.List.Elements.{All-nil, All-head, All-push}
+use Rattle.std.proofs.lemmas.List.Elements.{All-head, All-push}
 use Rattle.std.proofs.lemmas.Option.{slice_get_within}
 use Rattle.om_section.specs.declared.section.Section.{Section}
 use Rattle.om_section.specs.declared.section.Section.TheVariants as sections
@@ -12,7 +12,7 @@ use Rattle.om_section.specs.declared.read.Reading.{Reading}
 use Rattle.om_section.specs.Increasing.{AreIncreasing, IsAbove}
 use Rattle.om_section.specs.Numbers.{IsNumber}
 use Rattle.om_section.specs.Format.{IsStated, AreStated, pair_line, pair_lines, head_line, section_lines, lines_from, text_of, IsCertificate, AreFront, AreWhole, IsSyntaxAt}
-use Rattle.om_section.specs.Reading.{BeginsAt, IsCut, AreNumbers, IsPairLine, IsHead, IsNoHead, HasOneMore, HasNoMore, open_lines, lines_read, IsReading, GoesOn, GoesNowhere}
+use Rattle.om_section.specs.Reading.{BeginsAt, IsCut, AreNumbers, IsPairLine, IsHead, IsNoHead, HasOneMore, HasNoMore, open_lines, lines_read, IsReading, IsAt, GoesOn, GoesNowhere}
 use Rattle.om_section.specs.Runs.{HasMorePairs, HasReadMore}
 use Rattle.om_section.proofs.TextLemmas.{pair_is_one, AreAlike, verdicts_are_alike, head_tells_verdict}
 use Rattle.om_section.proofs.LineLemmas.{HasPair, pairs_go_on, pairs_have_end, Begin, begin_with, lines_from-push}
@@ -299,29 +299,63 @@ pub front_of : (whole : List Section) (begun' : Option Section) → IsReading (r
 front_of whole None is = whole_is_front whole is.stated
 front_of whole (Some section) is = open_is_front whole is.stated section is.opened.0 is.opened.1
 
--- Some lines have been read, and this is the next one, if something stands behind it.
-pub record IsAt (bytes : List ℕ) (reading : Reading) (lines : ℕ) (line rest : List ℕ) : Type 0 where
-  pub is : IsReading reading
-  pub counted : lines ≡ length (lines_read reading)
-  pub few : lines + length rest ≤ length bytes
-  pub spelled : bytes ≡ text_of (lines_read reading) ++ (line ++ rest)
-  pub none : ¬ Contains line 10
-  pub begins : BeginsAt 10 rest
-
 -- the line feed, and what stands behind it
 behind_feed : (rest : List ℕ) → BeginsAt 10 rest → (rest ≡ [] → ⊥) → rest ≡ 10 ∷ drop 1 rest
 behind_feed rest (inl none) some = absurd (some none)
 behind_feed rest (inr (more, is)) some = is ∙ ap (λ (z : List ℕ). 10 ∷ drop 1 z) (sym is)
 
-pub at_first : (bytes line rest : List ℕ) → IsCut bytes 10 line rest → IsAt bytes (record { whole = []; begun = None }) 0 line rest
-at_first bytes line rest cut = record {
-  is = record { stated = record { stated = All-nil IsStated; few = omega arith }; opened = tt };
-  counted = refl;
-  few = let long = ap length cut.whole ∙ length-append line rest in omega (arith, long);
-  spelled = cut.whole;
+pub lines_more : (xs ys : Lines) → text_of xs ++ text_of ys ≡ text_of (xs ++ ys)
+lines_more xs ys = sym (flat_map-append (λ (l : List ℕ). l ++ 10 ∷ []) xs ys)
+
+-- each line has a line feed
+pub lines_few : (lines : Lines) → length lines ≤ length (text_of lines)
+lines_few [] = omega arith
+lines_few (line ∷ lines) =
+    let next = lines_few lines in
+    let both = length-append (line ++ 10 ∷ []) (text_of lines) in
+    let one = length-append line (10 ∷ []) in
+    omega (arith, next, both, one)
+
+-- with the lines that the bytes begin with, where the next one is cut off behind them
+pub at_begin :
+    (from longer : Reading) (text : List ℕ) (many taken : ℕ) (line rest : List ℕ) → HasReadMore from text longer many taken
+    → IsCut (take (length text - taken) (drop taken text)) 10 line rest
+    → IsAt (text_of (lines_read from) ++ text) longer (length (lines_read from) + many) line rest
+at_begin from longer text many taken line rest run slice = record {
+  is = run.is;
+  counted =
+      let size = ap length run.read ∙ length-append (lines_read from) run.lines in
+      let counted = run.begins.counted in
+      omega (arith, size, counted);
+  few =
+      let front = lines_few (lines_read from) in
+      let both = length-append (text_of (lines_read from)) text in
+      let left = length-drop taken text in
+      let parts = ap length cut.whole ∙ length-append line rest in
+      let within = run.begins.within in
+      let few = run.begins.few in
+      omega (arith, front, both, left, parts, within, few);
+  spelled =
+      ap (λ (z : List ℕ). text_of (lines_read from) ++ z) (run.begins.spelled ∙ ap (λ (z : List ℕ). text_of run.lines ++ z) cut.whole)
+      ∙ (sym (append_assoc (text_of (lines_read from)) (text_of run.lines) (line ++ rest))
+      ∙ ap (λ (z : List ℕ). z ++ (line ++ rest)) (lines_more (lines_read from) run.lines ∙ ap text_of (sym run.read)));
   none = cut.none;
   begins = cut.begins;
-}
+} where
+  cut : IsCut (drop taken text) 10 line rest
+  cut = subst (λ (z : List ℕ). IsCut z 10 line rest) (take_rest text taken) slice
+
+-- how many lines and bytes are left then
+pub few_begin :
+    (from longer : Reading) (text : List ℕ) (many taken : ℕ) (line rest : List ℕ) → HasReadMore from text longer many taken
+    → IsCut (take (length text - taken) (drop taken text)) 10 line rest → many + length rest ≤ length text
+few_begin from longer text many taken line rest run slice =
+    let same = ap length (take_rest text taken) in
+    let left = length-drop taken text in
+    let parts = ap length slice.whole ∙ length-append line rest in
+    let within = run.begins.within in
+    let few = run.begins.few in
+    omega (arith, same, left, parts, within, few)
 
 module _ (bytes : List ℕ) (reading : Reading) (lines : ℕ) (line rest : List ℕ) (at : IsAt bytes reading lines line rest) where
   front : AreFront (lines_read reading)
@@ -363,9 +397,6 @@ module _ (bytes : List ℕ) (reading : Reading) (lines : ℕ) (line rest : List 
     feed : rest ≡ 10 ∷ drop 1 rest
     feed = behind_feed rest at.begins some
 
-    lines_more : (xs ys : Lines) → text_of xs ++ text_of ys ≡ text_of (xs ++ ys)
-    lines_more xs ys = sym (flat_map-append (λ (l : List ℕ). l ++ 10 ∷ []) xs ys)
-
     one : text_of (line ∷ []) ++ drop 1 rest ≡ line ++ (10 ∷ drop 1 rest)
     one = ap (λ (z : List ℕ). z ++ drop 1 rest) (append-nil (line ++ 10 ∷ [])) ∙ append_assoc line (10 ∷ []) (drop 1 rest)
 
@@ -391,11 +422,31 @@ module _ (bytes : List ℕ) (reading : Reading) (lines : ℕ) (line rest : List 
       let few' = run.begins.few in
       omega (arith, few, long, same, within, few')
 
-  pub faulty_line : (rest ≡ [] → ⊥) → GoesNowhere reading line → IsSyntaxAt bytes (lines + 1)
-  faulty_line some nowhere =
-      subst (λ (n : ℕ). IsSyntaxAt bytes (n + 1)) (sym at.counted)
-      (fault_at_line bytes (lines_read reading) line (drop 1 rest)
-      (at.spelled ∙ ap (λ (z : List ℕ). text_of (lines_read reading) ++ (line ++ z)) (behind_feed rest at.begins some)) front at.none nowhere)
+  -- how many lines and bytes are left behind the next ones
+  pub few_next :
+      (next far : Reading) (many taken most counted : ℕ) (behind line' rest' : List ℕ) → (rest ≡ [] → ⊥)
+      → behind ≡ take (length rest - 1) (drop 1 rest) → HasReadMore next behind far many taken
+      → IsCut (take (length behind - taken) (drop taken behind)) 10 line' rest' → counted + length rest ≤ most
+      → counted + 1 + many + length rest' ≤ most
+  few_next next far many taken most counted behind line' rest' some is run cut fits =
+      let long = ap length (behind_feed rest at.begins some) in
+      let same = ap length (is ∙ take_rest rest 1) in
+      let rests = ap length (take_rest behind taken) in
+      let left = length-drop taken behind in
+      let parts = ap length cut.whole ∙ length-append line' rest' in
+      let within = run.begins.within in
+      let few' = run.begins.few in
+      omega (arith, long, same, rests, left, parts, within, few', fits)
+
+  -- a line that has ended and with which nothing goes on, whatever comes behind
+  pub faulty_line : (later : List ℕ) → (rest ≡ [] → ⊥) → GoesNowhere reading line → IsSyntaxAt (bytes ++ later) (lines + 1)
+  faulty_line later some nowhere =
+      subst (λ (n : ℕ). IsSyntaxAt (bytes ++ later) (n + 1)) (sym at.counted)
+      (fault_at_line (bytes ++ later) (lines_read reading) line (drop 1 rest ++ later)
+      (ap (λ (z : List ℕ). z ++ later) (at.spelled ∙ ap (λ (z : List ℕ). text_of (lines_read reading) ++ (line ++ z)) (behind_feed rest at.begins some))
+      ∙ (append_assoc (text_of (lines_read reading)) (line ++ 10 ∷ drop 1 rest) later
+      ∙ ap (λ (z : List ℕ). text_of (lines_read reading) ++ z) (append_assoc line (10 ∷ drop 1 rest) later)))
+      front at.none nowhere)
 
   last_line : rest ≡ [] → bytes ≡ text_of (lines_read reading) ++ line
   last_line none = at.spelled ∙ ap (λ (z : List ℕ). text_of (lines_read reading) ++ z) (ap (λ (z : List ℕ). line ++ z) none ∙ append-nil line)

@@ -57,10 +57,6 @@ part_more a c p q part = record { appended = part_longer a.bytes c.bytes p q par
 
 -- ---- what a buffer has
 
-starts_at : (x : Option (List ℕ)) → IfSome x (λ b. x ≡ Some (b ++ []))
-starts_at None = tt
-starts_at (Some b) = ap Some (sym (append-nil b))
-
 module _ (a b c : ByteState) (text rest : List ℕ) (left : Leaves (change a b) text rest) where
   pub leaves_then : (last : List ℕ) → Leaves (change b c) rest last → Leaves (change a c) text last
   leaves_then last then = record {

@@ -169,13 +169,6 @@ thousand = record {
 parted : (p n s : List ℕ) (d : ℕ) → p ++ ((n ++ d ∷ []) ++ s) ≡ (p ++ n) ++ (d ∷ s)
 parted p n s d = simp append_assoc
 
--- how long the front of a line is, up to behind its object
-pub front_is_long :
-    (text behind : List ℕ) (object : ℕ) → text ≡ codes "pair " ++ (decimal object ++ behind)
-    → length text ≡ 5 + length (decimal object) + length behind
-front_is_long text behind object line =
-    let long = ap length line in let more = length-append (decimal object) behind in omega (arith, long, more)
-
 pub next_stem :
     (text behind : List ℕ) (object end : ℕ) → text ≡ codes "pair " ++ (decimal object ++ behind) → 10 ≤ object
     → object < 10 ^ 17 → end ≡ length text - length behind → 9 ≤ end → end ≤ 17 → IsStem (take (end - 1) text) (object - object % 10)

@@ -5,3 +5,4 @@ pub mod Reading
 pub mod Laws
 pub mod Runs
 pub mod Putting
+pub mod Coming

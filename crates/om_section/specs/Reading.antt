@@ -1,5 +1,5 @@
 -- What reading a certificate knows on its way.
-use Rattle.std.specs.Prelude.{ℕ, ◌≡◌, ◌≢◌, ◌⊎◌, List, [], ◌∷◌, ◌++◌, length, Option, Some, None}
+use Rattle.std.specs.Prelude.{ℕ, ◌+◌, ◌≤◌, ◌≡◌, ◌≢◌, ◌⊎◌, List, [], ◌∷◌, ◌++◌, length, Option, Some, None}
 use Rattle.std.specs.Prelude.{IfSome, All, codes, decimal, Contains}
 use Rattle.om_model.specs.PathText.{path_text, steps_text}
 use Rattle.om_section.specs.declared.section.Section.{Section}
@@ -10,7 +10,7 @@ use Rattle.om_section.specs.declared.read.Reading.{Reading}
 use Rattle.om_section.specs.Increasing.{IsAbove}
 use Rattle.om_section.specs.Numbers.{IsNumber}
 use Rattle.om_section.specs.Format.{IsStated, AreStated, pair_line, pair_lines, verdict_text}
-use Rattle.om_section.specs.Format.{head_line, lines_from, AreFront, IsSyntaxAt}
+use Rattle.om_section.specs.Format.{head_line, lines_from, text_of, AreFront, IsSyntaxAt}
 
 -- ---- pieces of a line
 
@@ -115,3 +115,20 @@ GoesNowhere reading line = ¬ AreFront (lines_read reading ++ line ∷ [])
 abbrev pub IsFaultOf : List ℕ → CertFault → Type 0
 IsFaultOf bytes (faults.Syntax n) = IsSyntaxAt bytes n
 IsFaultOf bytes faults.Memory = Unit {0}
+
+-- some lines have been read, and this is the next one, if something stands behind it
+pub record IsAt (bytes : List ℕ) (reading : Reading) (lines : ℕ) (line rest : List ℕ) : Type 0 where
+  pub is : IsReading reading
+  pub counted : lines ≡ length (lines_read reading)
+  pub few : lines + length rest ≤ length bytes
+  pub spelled : bytes ≡ text_of (lines_read reading) ++ (line ++ rest)
+  pub none : ¬ Contains line 10
+  pub begins : BeginsAt 10 rest
+
+-- behind what was read, the first faulty line of these has ended: it is that of all bytes, whatever
+-- comes behind
+abbrev pub IsFaultFrom : Reading → List ℕ → CertFault → Type 0
+IsFaultFrom reading text (faults.Syntax n) =
+    (later : List ℕ)
+    → IsSyntaxAt ((text_of (lines_read reading) ++ text) ++ later) (length (lines_read reading) + n)
+IsFaultFrom reading text faults.Memory = Unit {0}

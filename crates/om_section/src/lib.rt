@@ -16,6 +16,6 @@ mod stems;
 
 pub use laws::{put_sections_are_certificates, texts_are_one};
 pub use number::number_of;
-pub use read::{Cert, CertFault, read_cert};
+pub use read::{Cert, CertFault, CertReader, read_cert};
 pub use section::{Pairs, Section};
 pub use sink::put_cert;

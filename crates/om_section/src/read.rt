@@ -1,8 +1,9 @@
 //! Certificates read from their bytes, line by line.
 
-ghost use Rattle.std.specs.Prelude.{◌≡◌, ◌<◌, IfOk, IfErr, MatchOption};
-ghost use Rattle.om_section.specs.Format.{IsCertificate, IsStated};
-ghost use Rattle.om_section.specs.Reading.{IsReading, GoesOn, GoesNowhere, HasOneMore, HasNoMore, IsFaultOf};
+ghost use Rattle.std.specs.Prelude.{◌≡◌, ◌<◌, ◌+◌, ◌^◌, ◌++◌, [], None, length, IfOk, IfErr, OnOk, MatchOption};
+ghost use Rattle.om_section.specs.Coming.{Bytes, nothing, HasKept, HasCome};
+ghost use Rattle.om_section.specs.Format.{IsCertificate, IsStated, text_of};
+ghost use Rattle.om_section.specs.Reading.{IsReading, GoesOn, GoesNowhere, HasOneMore, HasNoMore, IsFaultOf, IsFaultFrom, IsAt, lines_read};
 ghost use Rattle.om_section.specs.Runs.{HasReadMore};
 ghost use Rattle.om_section.specs.declared.section.Section.TheVariants as sections;
 
@@ -13,6 +14,7 @@ use crate::section::{Pairs, Section};
 use om_model::Memory;
 use om_model::list::List;
 use std::alloc::Global;
+use std::mem;
 
 /// The sections of a certificate, in their order.
 pub type Cert = List<Section>;
@@ -43,34 +45,152 @@ struct Reading {
     begun: Option<Section>,
 }
 
+/// No line has been read.
+fn nothing_read(alloc: Global) -> Reading
+    ensures { result ≡ nothing }
+{
+    Reading {
+        whole: List::new(alloc),
+        begun: None,
+    }
+}
+
 /// The sections of a certificate. What is outside the format is refused at the first line with
 /// which no certificate goes on, or at the one behind the last.
 pub fn read_cert(alloc: Global, bytes: &[u8]) -> Result<Cert, CertFault>
     ensures ok { IfOk result (λ all. IsCertificate bytes.now all) }
     ensures err { IfErr result (IsFaultOf bytes.now) }
 {
-    let mut reading = Reading {
-        whole: List::new(alloc),
-        begun: None,
-    };
-    let mut lines = 0;
-    let (mut line, mut rest) = until(bytes, b'\n');
+    let (reading, lines, line) = with_lines(alloc, nothing_read(alloc), bytes)?;
+    read_all(reading, lines, line)
+}
+
+/// What has been read with the lines that end in the bytes, how many these are, and the bytes
+/// behind them; or the first of these lines with which no certificate goes on.
+fn with_lines<'a>(
+    alloc: Global,
+    reading: Reading,
+    text: &'a [u8],
+) -> Result<(Reading, usize, &'a [u8]), CertFault>
+    requires { IsReading reading }
+    ensures ok { IfOk result (λ run. IsAt (text_of (lines_read reading) ++ text.now) run.0
+        (length (lines_read reading) + run.1) run.2.now []) }
+    ensures err { IfErr result (IsFaultFrom reading text.now) }
+{
+    let (mut longer, mut lines, begun) = with_run(reading, text)?;
+    let (mut line, mut rest) = until(&text[begun..], b'\n');
     while !rest.is_empty() {
         lines += 1;
-        match with_line(alloc, reading, line)? {
-            Some(next) => reading = next,
+        match with_line(alloc, longer, line)? {
+            Some(next) => longer = next,
             None => return Err(CertFault::Syntax(lines)),
         }
         let behind = &rest[1..];
-        let (next, more, taken) = with_run(reading, behind)?;
-        reading = next;
+        let (next, more, taken) = with_run(longer, behind)?;
+        longer = next;
         lines += more;
         (line, rest) = until(&behind[taken..], b'\n');
     }
+    Ok((longer, lines, line))
+}
+
+/// No more bytes come behind these lines and these bytes: the sections, or the line behind the
+/// last, where it does not end, or a section does not.
+fn read_all(reading: Reading, lines: usize, line: &[u8]) -> Result<Cert, CertFault>
+    requires { (bytes : Bytes) × IsAt bytes reading lines line.now [] × (length bytes < 2 ^ 63) }
+    ensures ok { (bytes : Bytes) → IsAt bytes reading lines line.now []
+        → IfOk result (λ all. IsCertificate bytes all) }
+    ensures err { (bytes : Bytes) → IsAt bytes reading lines line.now []
+        → IfErr result (IsFaultOf bytes) }
+{
     if line.is_empty() && reading.begun.is_none() {
         Ok(reading.whole)
     } else {
         Err(CertFault::Syntax(lines + 1))
+    }
+}
+
+/// A certificate, read as its bytes come: what was read of the lines that have ended, how many
+/// these are, and the bytes behind them; and the first line with which no certificate goes on,
+/// once it has ended.
+#[derive(Drop)]
+pub struct CertReader {
+    alloc: Global,
+    reading: Reading,
+    lines: usize,
+    kept: Vec<u8>,
+    fault: Option<usize>,
+}
+
+impl CertReader {
+    /// No byte has come.
+    pub fn new(alloc: Global) -> CertReader
+        ensures { HasCome result [] }
+    {
+        CertReader {
+            alloc,
+            reading: nothing_read(alloc),
+            lines: 0,
+            kept: Vec::new(alloc),
+            fault: None,
+        }
+    }
+
+    /// Takes the next bytes. Where memory runs out the reader is of no more use.
+    pub fn take(&mut self, piece: &[u8]) -> Result<(), Memory>
+        requires { (bytes : Bytes) × HasCome self.old bytes
+            × (length bytes + length piece.now < 2 ^ 63) }
+        ensures { OnOk result ((bytes : Bytes) → HasCome self.old bytes
+            → HasCome self.new (bytes ++ piece.now)) }
+    {
+        if self.fault.is_some() {
+            return Ok(());
+        }
+        self.kept.extend_from_slice(piece)?;
+        let (_, ended) = until(piece, b'\n');
+        if ended.is_empty() {
+            return Ok(());
+        }
+        self.take_lines()
+    }
+
+    /// Takes the lines that have ended.
+    fn take_lines(&mut self) -> Result<(), Memory>
+        requires none { self.old.fault ≡ None }
+        requires kept { (bytes : Bytes) × HasKept self.old.reading self.old.lines
+            self.old.kept.items bytes × (length bytes < 2 ^ 63) }
+        ensures { OnOk result ((bytes : Bytes)
+            → HasKept self.old.reading self.old.lines self.old.kept.items bytes
+            → HasCome self.new bytes) }
+    {
+        let reading = mem::replace(&mut self.reading, nothing_read(self.alloc));
+        let text = mem::replace(&mut self.kept, Vec::new(self.alloc));
+        match with_lines(self.alloc, reading, text.as_slice()) {
+            Ok((reading, lines, line)) => {
+                self.kept.extend_from_slice(line)?;
+                self.reading = reading;
+                self.lines += lines;
+                Ok(())
+            }
+            Err(CertFault::Syntax(line)) => {
+                self.fault = Some(self.lines + line);
+                Ok(())
+            }
+            Err(CertFault::Memory) => Err(Memory),
+        }
+    }
+
+    /// No more bytes come: the sections, or the first line outside the format.
+    pub fn finish(self) -> Result<Cert, CertFault>
+        requires { (bytes : Bytes) × HasCome self bytes × (length bytes < 2 ^ 63) }
+        ensures ok { (bytes : Bytes) → HasCome self bytes
+            → IfOk result (λ all. IsCertificate bytes all) }
+        ensures err { (bytes : Bytes) → HasCome self bytes → IfErr result (IsFaultOf bytes) }
+    {
+        match self.fault {
+            Some(line) => Err(CertFault::Syntax(line)),
+            None => read_all(self.reading, self.lines, self.kept.as_slice()),
+        }
     }
 }
 

@@ -1,6 +1,6 @@
 //! What a certificate states of a value.
 
-ghost use Rattle.std.specs.Prelude.{◌≡◌, ◌↔◌, ◌++◌, ◌∷◌, [], IsTrue, OnOk, OnErr};
+ghost use Rattle.std.specs.Prelude.{◌≡◌, ◌<◌, ◌↔◌, ◌++◌, ◌∷◌, [], length, slice_get, Some, IsTrue, OnOk, OnErr};
 ghost use Rattle.om_section.specs.Increasing.{IsSmaller, AreIncreasing, IsAbove};
 
 use om_model::Memory;
@@ -44,8 +44,26 @@ impl Pairs {
         Pairs { pairs }
     }
 
+    /// How many there are. They increase.
+    #[inline(always)]
+    pub fn len(&self) -> usize
+        ensures count { result ≡ length self.now }
+        ensures increasing { AreIncreasing self.now }
+    {
+        self.pairs.len()
+    }
+
+    /// Pair number i.
+    #[inline(always)]
+    pub fn at(&self, i: usize) -> (u64, u64)
+        requires { i < length self.now }
+        ensures { slice_get self.now i ≡ Some (result.0, result.1) }
+    {
+        self.pairs[i]
+    }
+
     /// The pairs, lent.
-    pub fn as_slice(&self) -> &[(u64, u64)]
+    pub(crate) fn as_slice(&self) -> &[(u64, u64)]
         ensures same { result.now ≡ self.now }
         ensures increasing { AreIncreasing result.now }
     {

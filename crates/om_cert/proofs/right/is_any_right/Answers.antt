@@ -7,7 +7,7 @@ use Rattle.om_cert.proofs.right.is_any_right.Goals as goal
 use Rattle.om_cert.proofs.right.is_any_right.Goals.{else-is_mutable-via-then-is_mutable+else-not-is_at_one_type, else-is_mutable-via-else-is_mutable}
 
 pub is_mutable-requires : goal.is_mutable-requires
-is_mutable-requires c = (worded_there (table_of c.args.table.now) c.args.heap.now c.args.pairs.now c.args.i c.args.own c.requires.there c.requires.own).0
+is_mutable-requires c = (worded_there (table_of c.args.fitting.table.now) c.args.heap.now c.args.pairs.now c.args.i c.args.own c.requires.there c.requires.own).0
 
 pub is_at_one_type-requires-clause-at : goal.is_at_one_type-requires-clause-at
 is_at_one_type-requires-clause-at c = c.requires.own.at c.requires.in_range
@@ -17,7 +17,7 @@ is_at_one_type-requires-clause-there c = λ k o t at. let there = (c.requires.th
 
 pub holds_needs-requires-clause-one_type : goal.holds_needs-requires-clause-one_type
 holds_needs-requires-clause-one_type c =
-    let t = table_of c.args.table.now in
+    let t = table_of c.args.fitting.table.now in
     let own = c.args.own in
     elim c.else-is_mutable.branch [
       | else-is_mutable-via-then-is_mutable+else-not-is_at_one_type w ↦

@@ -1,19 +1,17 @@
-use Rattle.std.proofs.Common.{Some, ◌≡◌, subst, slice_index_or}
+use Rattle.std.proofs.Common.{Some, ◌≡◌, subst, arith}
 use Rattle.std.specs.Prelude.{slice_get}
-use Rattle.std.proofs.lemmas.Option.{slice_get-get_or}
 use Rattle.om_model.proofs.Options.{slice_get-Contains}
 use Rattle.om_cert.proofs.right.pair_at.Goals as goal
 
 pub word-requires : goal.word-requires
-word-requires c =
-    (c.requires.there c.place_or_last.result _ (slice_get-get_or c.args.pairs.now c.place_or_last.result (0, 0) c.place_or_last.ensures.within)).0
+word-requires c = (c.requires.there c.place_or_last-place.result _ c.at-object.ensures).0
 
 pub returns : goal.returns
 returns c =
-    let pair = slice_index_or c.args.pairs.now c.place_or_last.result (0, 0) in
-    let at_place = slice_get-get_or c.args.pairs.now c.place_or_last.result (0, 0) c.place_or_last.ensures.within in
+    let pair = c.at-object.result in
     record {
-      at = λ less. subst (λ n. slice_get c.args.pairs.now n ≡ Some (pair.0, pair.1)) (c.place_or_last.ensures.own less) at_place;
-      among = slice_get-Contains c.args.pairs.now c.place_or_last.result pair at_place;
+      at = λ less. subst (λ n. slice_get c.args.pairs.now n ≡ Some (pair.0, pair.1))
+          (c.place_or_last-place.ensures.own (omega (arith, less, c.len.ensures.count))) c.at-object.ensures;
+      among = slice_get-Contains c.args.pairs.now c.place_or_last-place.result (pair.0, pair.1) c.at-object.ensures;
       named = c.word.ensures;
     }

@@ -1,24 +1,13 @@
-use Rattle.std.proofs.lemmas.Option.{MatchOption-at_none}
-use Rattle.om_section.specs.Reading.{GoesOn, GoesNowhere}
-use Rattle.om_section.proofs.HeadLemmas.{some_bytes, no_bytes}
-use Rattle.om_section.proofs.ReadLemmas.{faulty_line, unended, unclosed_by_test}
+use Rattle.std.proofs.Common.{subst}
+use Rattle.std.proofs.lemmas.Result.{err_from_is_err_and}
+use Rattle.om_section.specs.declared.read.Reading.{Reading}
+use Rattle.om_section.specs.Reading.{IsFaultFrom}
+use Rattle.om_section.proofs.ComingLemmas.{fault_from_nothing}
 use Rattle.om_section.proofs.read.read_cert.Goals as goal
-use Rattle.om_section.proofs.read.read_cert.Goals.{else-is_empty-via-then-is_empty+else-is_none, else-is_empty-via-else-is_empty}
 
-pub returns-in-None-clause-err : goal.returns-in-None-clause-err
-returns-in-None-clause-err c =
-    faulty_line c.args.bytes.now c.loop-rest.reading c.loop-rest.lines c.loop-rest.line.now c.loop-rest.rest.now c.loop-rest.invariant
-    (some_bytes c.loop-rest.rest.now c.is_empty.result c.is_empty.ensures c.loop-rest-test.true)
-    (MatchOption-at_none (GoesNowhere c.loop-rest.reading c.loop-rest.line.now) (GoesOn c.loop-rest.reading c.loop-rest.line.now) c.in-None.is
-    c.in_ok-next.ensures)
-
-pub returns-else-is_empty-clause-err : goal.returns-else-is_empty-clause-err
-returns-else-is_empty-clause-err c = elim c.else-is_empty.branch [
-  | else-is_empty-via-then-is_empty+else-is_none w ↦
-      unclosed_by_test c.args.bytes.now c.loop-rest.reading c.loop-rest.lines c.loop-rest.line.now c.loop-rest.rest.now c.loop-rest.invariant
-      (no_bytes c.loop-rest.rest.now c.is_empty.result c.is_empty.ensures c.loop-rest-test.false) w.is_none.result w.is_none.ensures w.if-is_none.false
-  | else-is_empty-via-else-is_empty w ↦
-      unended c.args.bytes.now c.loop-rest.reading c.loop-rest.lines c.loop-rest.line.now c.loop-rest.rest.now c.loop-rest.invariant
-      (no_bytes c.loop-rest.rest.now c.is_empty.result c.is_empty.ensures c.loop-rest-test.false)
-      (some_bytes c.loop-rest.line.now c.is_empty-2.result c.is_empty-2.ensures w.if-is_empty.false)
-]
+pub returns-in_err-reading-clause-err : goal.returns-in_err-reading-clause-err
+returns-in_err-reading-clause-err c =
+    let p = err_from_is_err_and c.from_residual.result c.from_residual.ensures.1 in
+    rw (p.1, p.2)
+    (fault_from_nothing c.args.bytes.now c.in_err-reading.field-0.0
+    (subst (λ (r : Reading). IsFaultFrom r c.args.bytes.now c.in_err-reading.field-0.0) c.nothing_read.ensures c.in_err-reading.ensures.err))

@@ -1,0 +1,130 @@
+-- A certificate, as its bytes come.
+use Rattle.std.proofs.Common.{ℕ, ◌+◌, ◌≤◌, ◌≡◌, ◌∙◌, inl, true, false, List, [], ◌++◌, length, Option, Some, None, refl, sym, ap, subst, arith, zero-add, length-append, append_assoc}
+use Rattle.std.specs.Prelude.{Contains, is_some}
+use Rattle.std.proofs.lemmas.List.{append-nil}
+use Rattle.std.proofs.lemmas.List.Elements.{All-nil}
+use Rattle.om_section.specs.declared.read.CertFault.{CertFault}
+use Rattle.om_section.specs.declared.read.CertFault.TheVariants as faults
+use Rattle.om_section.specs.declared.read.Reading.{Reading}
+use Rattle.om_section.specs.Format.{IsStated, text_of, IsSyntaxAt}
+use Rattle.om_section.specs.Reading.{IsCut, lines_read, IsReading, IsAt, IsFaultOf, IsFaultFrom}
+use Rattle.om_section.specs.Coming.{nothing, HasKept, HasComeTo}
+use Rattle.om_section.proofs.CutLemmas.{lacks_append}
+use Rattle.om_section.proofs.ReadLemmas.{lines_few}
+use Rattle.om_model.proofs.Options.{Contains-none}
+
+-- nothing has come
+pub nothing_is : IsReading nothing
+nothing_is = record { stated = record { stated = All-nil IsStated; few = omega arith }; opened = tt }
+
+pub begins : HasComeTo nothing 0 [] None []
+begins = record {
+  is = nothing_is;
+  counted = refl;
+  few = omega arith;
+  spelled = refl;
+  none = Contains-none 10;
+  begins = inl refl;
+}
+
+-- from nothing on
+pub fault_from_nothing : (bytes : List ℕ) (fault : CertFault) → IsFaultFrom nothing bytes fault → IsFaultOf bytes fault
+fault_from_nothing bytes (faults.Syntax n) at =
+    subst (λ (b : List ℕ). IsSyntaxAt b n) (append-nil bytes)
+    (subst (λ (k : ℕ). IsSyntaxAt (bytes ++ []) k) (zero-add n) (at []))
+fault_from_nothing bytes faults.Memory at = tt
+
+-- a piece in which no line ends
+pub cut_lacks : (piece front rest : List ℕ) → IsCut piece 10 front rest → rest ≡ [] → ¬ Contains piece 10
+cut_lacks piece front rest cut none =
+    subst (λ (z : List ℕ). ¬ Contains z 10) (sym (cut.whole ∙ (ap (λ (z : List ℕ). front ++ z) none ∙ append-nil front))) cut.none
+
+-- no more bytes come
+pub fault_told : (reading : Reading) (lines : ℕ) (kept bytes : List ℕ) (fault : Option ℕ) (n : ℕ) → fault ≡ Some n
+    → HasComeTo reading lines kept fault bytes → IsSyntaxAt bytes n
+fault_told reading lines kept bytes fault n is at = subst (λ (b : List ℕ). IsSyntaxAt b n) (append-nil bytes) (told []) where
+  told : HasComeTo reading lines kept (Some n) bytes
+  told = subst (λ (o : Option ℕ). HasComeTo reading lines kept o bytes) is at
+
+module _ (reading : Reading) (lines : ℕ) (kept bytes piece : List ℕ) where
+  -- the line has not ended yet
+  pub kept_more : ¬ Contains piece 10 → HasComeTo reading lines kept None bytes
+      → HasComeTo reading lines (kept ++ piece) None (bytes ++ piece)
+  kept_more lacks at = record {
+    is = at.is;
+    counted = at.counted;
+    few = let few = at.few in let both = length-append bytes piece in omega (arith, few, both);
+    spelled = whole at ∙ sym (ap (λ (z : List ℕ). text_of (lines_read reading) ++ z) (append-nil (kept ++ piece)));
+    none = lacks_append kept piece 10 at.none lacks;
+    begins = inl refl;
+  } where
+    whole : IsAt bytes reading lines kept [] → bytes ++ piece ≡ text_of (lines_read reading) ++ (kept ++ piece)
+    whole at =
+        ap (λ (z : List ℕ). z ++ piece) (at.spelled ∙ ap (λ (z : List ℕ). text_of (lines_read reading) ++ z) (append-nil kept))
+        ∙ append_assoc (text_of (lines_read reading)) kept piece
+
+  pub kept_both : HasComeTo reading lines kept None bytes → HasKept reading lines (kept ++ piece) (bytes ++ piece)
+  kept_both at = record {
+    is = at.is;
+    counted = at.counted;
+    spelled =
+        ap (λ (z : List ℕ). z ++ piece) (at.spelled ∙ ap (λ (z : List ℕ). text_of (lines_read reading) ++ z) (append-nil kept))
+        ∙ append_assoc (text_of (lines_read reading)) kept piece;
+  }
+
+  pub kept_longer :
+      (fault : Option ℕ) (longer : List ℕ) → is_some fault ≡ false → longer ≡ kept ++ piece → ¬ Contains piece 10
+      → HasComeTo reading lines kept fault bytes → HasComeTo reading lines longer fault (bytes ++ piece)
+  kept_longer None longer none is lacks at =
+      subst (λ (k : List ℕ). HasComeTo reading lines k None (bytes ++ piece)) (sym is) (kept_more lacks at)
+  kept_longer (Some n) longer none is lacks at = absurd (cc none)
+
+  -- the fault stays where it is
+  pub fault_stays : (fault : Option ℕ) → is_some fault ≡ true → HasComeTo reading lines kept fault bytes
+      → HasComeTo reading lines kept fault (bytes ++ piece)
+  fault_stays None is at = absurd (cc is)
+  fault_stays (Some n) is at = λ later.
+      subst (λ (b : List ℕ). IsSyntaxAt b n) (sym (append_assoc bytes piece later)) (at (piece ++ later))
+
+module _ (reading : Reading) (lines : ℕ) (kept bytes : List ℕ) (has : HasKept reading lines kept bytes) where
+  -- lines of what was kept were read
+  pub came : (next : Reading) (many : ℕ) (line : List ℕ)
+      → IsAt (text_of (lines_read reading) ++ kept) next (length (lines_read reading) + many) line []
+      → HasComeTo next (lines + many) line None bytes
+  came next many line at =
+      subst (λ (b : List ℕ). IsAt b next (lines + many) line []) (sym has.spelled)
+      (subst (λ (k : ℕ). IsAt (text_of (lines_read reading) ++ kept) next (k + many) line []) (sym has.counted) at)
+
+  -- or one of them is faulty
+  pub came_fault : (n : ℕ) → IsFaultFrom reading kept (faults.Syntax n) → (next : Reading) (left : ℕ) (line : List ℕ)
+      → HasComeTo next left line (Some (lines + n)) bytes
+  came_fault n at next left line = λ later.
+      subst (λ (b : List ℕ). IsSyntaxAt (b ++ later) (lines + n)) (sym has.spelled)
+      (subst (λ (k : ℕ). IsSyntaxAt ((text_of (lines_read reading) ++ kept) ++ later) (k + n)) (sym has.counted) (at later))
+
+  -- there are few lines
+  pub few_came : (next : Reading) (many : ℕ) (line : List ℕ)
+      → IsAt (text_of (lines_read reading) ++ kept) next (length (lines_read reading) + many) line [] → lines + many ≤ length bytes
+  few_came next many line at =
+      let few = at.few in
+      let counted = has.counted in
+      let same = ap length has.spelled in
+      omega (arith, few, counted, same)
+
+  -- it is within the bytes, or the one behind them
+  pub fault_few : (from : Reading) (text : List ℕ) (n : ℕ) → from ≡ reading → text ≡ kept → IsFaultFrom from text (faults.Syntax n)
+      → lines + n ≤ length bytes + 1
+  fault_few from text n same-reading same-text at = few_of (came_fault n own reading lines kept []) where
+    own : IsFaultFrom reading kept (faults.Syntax n)
+    own =
+        subst (λ (r : Reading). IsFaultFrom r kept (faults.Syntax n)) same-reading
+        (subst (λ (t : List ℕ). IsFaultFrom from t (faults.Syntax n)) same-text at)
+
+    few_of : IsSyntaxAt (bytes ++ []) (lines + n) → lines + n ≤ length bytes + 1
+    few_of syntax =
+        let within = syntax.within in
+        let front = lines_few syntax.lines in
+        let same = ap length syntax.are.whole in
+        let left = length-append bytes [] in
+        let right = length-append (text_of syntax.lines) syntax.rest in
+        omega (arith, within, front, same, left, right)

@@ -1,0 +1,27 @@
+-- What has come of a certificate that is read as its bytes come.
+use Rattle.std.specs.Prelude.{ℕ, ◌≡◌, List, [], ◌++◌, length, Option, Some, None}
+use Rattle.om_section.specs.declared.read.Reading.{Reading}
+use Rattle.om_section.specs.declared.read.CertReader.{CertReader}
+use Rattle.om_section.specs.Format.{text_of, IsSyntaxAt}
+use Rattle.om_section.specs.Reading.{lines_read, IsReading, IsAt}
+
+abbrev pub Bytes : Type 0
+Bytes = List ℕ
+
+abbrev pub nothing : Reading
+nothing = record { whole = []; begun = None }
+
+-- these lines were read of the bytes, and the others are kept
+pub record HasKept (reading : Reading) (lines : ℕ) (kept bytes : List ℕ) : Type 0 where
+  pub is : IsReading reading
+  pub counted : lines ≡ length (lines_read reading)
+  pub spelled : bytes ≡ text_of (lines_read reading) ++ kept
+
+-- the lines of the bytes were read, and the one that has not ended is kept; or the first faulty
+-- line has ended, whatever comes behind
+abbrev pub HasComeTo : Reading → ℕ → List ℕ → Option ℕ → List ℕ → Type 0
+HasComeTo reading lines kept None bytes = IsAt bytes reading lines kept []
+HasComeTo reading lines kept (Some n) bytes = (later : List ℕ) → IsSyntaxAt (bytes ++ later) n
+
+abbrev pub HasCome : CertReader → List ℕ → Type 0
+HasCome r bytes = HasComeTo r.reading r.lines r.kept.items r.fault bytes
