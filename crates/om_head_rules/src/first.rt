@@ -1,12 +1,10 @@
 //! The first rule that asks for heads, of those that a text breaks.
 
-ghost use Rattle.std.specs.Prelude.{◌≡◌, length, List as Seq, IfOk, option_map};
+ghost use Rattle.std.specs.Prelude.{◌≡◌, List as Seq, IfOk, option_map};
 ghost use Rattle.om_types.specs.Accepted.{AreSound};
 ghost use Rattle.om_types.specs.Occurrence.{DeclPlaces, Occurrence};
 ghost use Rattle.om_types.specs.Scope.{BreaksInFile, BreaksInType, decls_of, declared_names};
 ghost use Rattle.om_scope.specs.Brackets.{AreBrackets, AreFileBrackets};
-ghost use Rattle.om_scope.specs.Breaks.{names_of_decls};
-ghost use Rattle.om_scope.specs.Names.{number_of, ArePlaces};
 ghost use Rattle.om_head_rules.specs.Broken.{IsFirstOfHeads, FileHashes, TypeHashes};
 ghost use Rattle.om_head_rules.specs.Rules.{AreAllWithin, brackets_at, BracketsBreak, BracketsHash};
 
@@ -20,9 +18,7 @@ use crate::tags::tagged_brackets;
 use crate::variant::least_not_variant;
 use om_model::Memory;
 use om_model::list::List;
-use om_scope::declared::table_of;
-use om_scope::table::Table;
-use om_scope::{Placed, TypeBrackets};
+use om_scope::{Placed, SoundEnvironment, TypeBrackets};
 use om_store::Types;
 use om_types::decl::Decl;
 use std::alloc::Global;
@@ -32,24 +28,20 @@ use std::alloc::Global;
 fn first_of_brackets(
     alloc: Global,
     types: &mut Types,
-    decls: &[Decl],
-    table: &Table<'_>,
+    decls: &SoundEnvironment<'_>,
     brackets: &[List<NumberedItem>],
 ) -> Result<Option<HeadBreak>, Memory>
-    requires places { ArePlaces (names_of_decls decls.now) (length decls.now)
-        (number_of table.now) }
     requires within { AreAllWithin types.old brackets.now }
-    requires sound { AreSound decls.now }
     ensures { let all = brackets_at types.old brackets.now in
         IfOk result (IsFirstOfHeads (BracketsBreak decls.now all) (BracketsHash decls.now all)) }
 {
-    if let Some(place) = least_not_variant(alloc, types, decls, table, brackets)? {
+    if let Some(place) = least_not_variant(alloc, types, decls, brackets)? {
         return Ok(Some(HeadBreak::NotVariant(place)));
     }
-    if stand_apart(alloc, types, decls, brackets)? {
+    if stand_apart(alloc, types, decls.all(), brackets)? {
         return Ok(None);
     }
-    let tagged = tagged_brackets(alloc, types, decls, table, brackets)?;
+    let tagged = tagged_brackets(alloc, types, decls, brackets)?;
     first_of_tags(alloc, tagged.as_slice())
 }
 
@@ -67,25 +59,21 @@ fn float_break(place: Option<usize>) -> Option<HeadBreak>
 fn first_of_file(
     alloc: Global,
     types: &mut Types,
-    decls: &[Decl],
-    table: &Table<'_>,
+    decls: &SoundEnvironment<'_>,
     names: &[Placed],
     brackets: &[List<TypeBrackets<'_>>],
 ) -> Result<Option<HeadBreak>, Memory>
     ghost all: { Seq DeclPlaces }
-    requires places { ArePlaces (names_of_decls decls.now) (length decls.now)
-        (number_of table.now) }
     requires decls { decls.now ≡ decls_of all }
     requires names { names.now ≡ declared_names all }
     requires brackets { AreFileBrackets brackets.now all }
-    requires sound { AreSound decls.now }
     ensures { IfOk result (IsFirstOfHeads (BreaksInFile all) (FileHashes all)) }
 {
     let numbered = number_declared(alloc, types, brackets)?;
-    if let Some(found) = first_of_brackets(alloc, types, decls, table, numbered.as_slice())? {
+    if let Some(found) = first_of_brackets(alloc, types, decls, numbered.as_slice())? {
         return Ok(Some(found));
     }
-    let place = least_flat(alloc, types, decls, table, names)?;
+    let place = least_flat(alloc, types, decls, names)?;
     Ok(float_break(place))
 }
 
@@ -93,20 +81,16 @@ fn first_of_file(
 fn first_of_type(
     alloc: Global,
     types: &mut Types,
-    decls: &[Decl],
-    table: &Table<'_>,
+    decls: &SoundEnvironment<'_>,
     brackets: &[TypeBrackets<'_>],
 ) -> Result<Option<HeadBreak>, Memory>
     ghost occurrences: { Seq Occurrence }
-    requires places { ArePlaces (names_of_decls decls.now) (length decls.now)
-        (number_of table.now) }
     requires brackets { AreBrackets brackets.now occurrences }
-    requires sound { AreSound decls.now }
     ensures { IfOk result
         (IsFirstOfHeads (BreaksInType decls.now occurrences) (TypeHashes decls.now occurrences)) }
 {
     let numbered = number_brackets(alloc, types, brackets)?;
-    first_of_brackets(alloc, types, decls, table, numbered.as_slice())
+    first_of_brackets(alloc, types, decls, numbered.as_slice())
 }
 
 /// The first rule that asks for heads that the text of a file breaks, at the least lexeme.
@@ -123,9 +107,9 @@ pub fn first_head_break(
     requires sound { AreSound decls.now }
     ensures { IfOk result (IsFirstOfHeads (BreaksInFile all) (FileHashes all)) }
 {
-    let table = table_of(alloc, decls)?;
+    let environment = SoundEnvironment::new(alloc, decls)?;
     let mut types = Types::new(alloc);
-    first_of_file(alloc, &mut types, decls, &table, names, brackets)
+    first_of_file(alloc, &mut types, &environment, names, brackets)
 }
 
 /// The first rule that asks for heads that the text of a type breaks, at the least lexeme.
@@ -140,7 +124,7 @@ pub fn first_head_break_in_type(
     ensures { IfOk result
         (IsFirstOfHeads (BreaksInType decls.now occurrences) (TypeHashes decls.now occurrences)) }
 {
-    let table = table_of(alloc, decls)?;
+    let environment = SoundEnvironment::new(alloc, decls)?;
     let mut types = Types::new(alloc);
-    first_of_type(alloc, &mut types, decls, &table, brackets)
+    first_of_type(alloc, &mut types, &environment, brackets)
 }

@@ -2,34 +2,27 @@
 
 ghost use Rattle.std.specs.Prelude.{◌≡◌, ◌<◌, ◌↔◌, true, length, Contains, IfOk, IsTrue};
 ghost use Rattle.om_types.specs.Nodes.{type_at};
-ghost use Rattle.om_types.specs.Accepted.{AreSound};
 ghost use Rattle.om_types.specs.Scope.{IsThrough, IsFlatThroughGroup};
 ghost use Rattle.om_types.specs.declared.decl.Field.{Field as Member};
 ghost use Rattle.om_types.specs.Shape.{is_float};
-ghost use Rattle.om_scope.specs.Breaks.{names_of_decls};
 ghost use Rattle.om_scope.specs.Least.{IsLeast};
-ghost use Rattle.om_scope.specs.Names.{number_of, ArePlaces};
 ghost use Rattle.om_store.specs.Held.{Grows};
 ghost use Rattle.om_head_rules.specs.Rules.{IsOwn, SomeFlat};
 
 use om_layout::{is_float, name, nearer, none_known};
 use om_model::Memory;
-use om_scope::declared::declared;
-use om_scope::table::Table;
-use om_scope::{Placed, place_if, sooner};
+use om_scope::{Placed, SoundEnvironment, place_if, sooner};
 use om_store::Types;
 use om_types::decl::{Body, Decl, Field};
 use std::alloc::Global;
 
 /// Whether an abbreviation of this group is at the head of a type.
-fn is_own(types: &Types, decls: &[Decl], table: &Table<'_>, group: usize, number: usize) -> bool
-    requires places { ArePlaces (names_of_decls decls.now) (length decls.now)
-        (number_of table.now) }
+fn is_own(types: &Types, decls: &SoundEnvironment<'_>, group: usize, number: usize) -> bool
     requires number { number < length types.now }
     ensures { IsTrue result ↔ IsOwn decls.now group (type_at types.now number) }
 {
     let decl = match name(types, number) {
-        Some(name) => declared(decls, table, name),
+        Some(name) => decls.get(name),
         None => None,
     };
     match decl {
@@ -45,23 +38,20 @@ fn is_own(types: &Types, decls: &[Decl], table: &Table<'_>, group: usize, number
 fn is_through(
     alloc: Global,
     types: &mut Types,
-    decls: &[Decl],
-    table: &Table<'_>,
+    decls: &SoundEnvironment<'_>,
     group: usize,
     number: usize,
 ) -> Result<bool, Memory>
-    requires places { ArePlaces (names_of_decls decls.now) (length decls.now)
-        (number_of table.now) }
     requires number { number < length types.old }
-    requires sound { AreSound decls.now }
     ensures ok { IfOk result
         (λ is. IsTrue is ↔ IsThrough decls.now group (type_at types.old number)) }
     ensures grown { Grows types.old types.new }
 {
+    decls.holds();
     let mut known = none_known(alloc);
     let mut at = number;
-    'next: while !is_own(types, decls, table, group, at) {
-        match nearer(alloc, types, decls, table, Some(group), &mut known, at)? {
+    'next: while !is_own(types, decls, group, at) {
+        match nearer(alloc, types, decls, Some(group), &mut known, at)? {
             Some(next) => at = next,
             None => return Ok(false),
         }
@@ -73,20 +63,16 @@ fn is_through(
 fn are_floats(
     alloc: Global,
     types: &mut Types,
-    decls: &[Decl],
-    table: &Table<'_>,
+    decls: &SoundEnvironment<'_>,
     fields: &[Field],
 ) -> Result<bool, Memory>
-    requires places { ArePlaces (names_of_decls decls.now) (length decls.now)
-        (number_of table.now) }
-    requires sound { AreSound decls.now }
     ensures ok { IfOk result
         (λ are. IsTrue are
         ↔ ((f : Member) → Contains fields.now f → is_float decls.now f.ty ≡ true)) }
 {
     for field in fields {
         let number = types.add(alloc, &field.ty)?;
-        if !is_float(alloc, types, decls, table, number)? {
+        if !is_float(alloc, types, decls, number)? {
             return Ok(false);
         }
     }
@@ -97,21 +83,17 @@ fn are_floats(
 fn some_through(
     alloc: Global,
     types: &mut Types,
-    decls: &[Decl],
-    table: &Table<'_>,
+    decls: &SoundEnvironment<'_>,
     group: usize,
     fields: &[Field],
 ) -> Result<bool, Memory>
-    requires places { ArePlaces (names_of_decls decls.now) (length decls.now)
-        (number_of table.now) }
-    requires sound { AreSound decls.now }
     ensures { IfOk result
         (λ some. IsTrue some
         ↔ ((f : Member) × Contains fields.now f × IsThrough decls.now group f.ty)) }
 {
     for field in fields {
         let number = types.add(alloc, &field.ty)?;
-        if is_through(alloc, types, decls, table, group, number)? {
+        if is_through(alloc, types, decls, group, number)? {
             return Ok(true);
         }
     }
@@ -122,13 +104,9 @@ fn some_through(
 fn is_flat(
     alloc: Global,
     types: &mut Types,
-    decls: &[Decl],
-    table: &Table<'_>,
+    decls: &SoundEnvironment<'_>,
     decl: &Decl,
 ) -> Result<bool, Memory>
-    requires places { ArePlaces (names_of_decls decls.now) (length decls.now)
-        (number_of table.now) }
-    requires sound { AreSound decls.now }
     ensures { IfOk result
         (λ is. IsTrue is ↔ IsFlatThroughGroup decls.now decl.now.group decl.now.body) }
 {
@@ -136,29 +114,25 @@ fn is_flat(
         return Ok(false);
     };
     let fields = fields.as_slice();
-    if !are_floats(alloc, types, decls, table, fields)? {
+    if !are_floats(alloc, types, decls, fields)? {
         return Ok(false);
     }
-    some_through(alloc, types, decls, table, decl.group, fields)
+    some_through(alloc, types, decls, decl.group, fields)
 }
 
 /// The least place of the name of such a record.
 pub fn least_flat(
     alloc: Global,
     types: &mut Types,
-    decls: &[Decl],
-    table: &Table<'_>,
+    decls: &SoundEnvironment<'_>,
     names: &[Placed],
 ) -> Result<Option<usize>, Memory>
-    requires places { ArePlaces (names_of_decls decls.now) (length decls.now)
-        (number_of table.now) }
-    requires sound { AreSound decls.now }
     requires named { length decls.now ≡ length names.now }
     ensures { IfOk result (IsLeast (SomeFlat decls.now names.now)) }
 {
     let mut best = None;
     for i in 0..decls.len() {
-        let flat = is_flat(alloc, types, decls, table, &decls[i])?;
+        let flat = is_flat(alloc, types, decls, decls.at(i))?;
         best = sooner(best, place_if(flat, names[i].place()));
     }
     Ok(best)

@@ -2,11 +2,8 @@
 
 ghost use Rattle.std.specs.Prelude.{◌≡◌, ◌<◌, Some, length, map, slice_get, IfOk};
 ghost use Rattle.om_types.specs.Nodes.{type_at};
-ghost use Rattle.om_types.specs.Accepted.{AreSound};
 ghost use Rattle.om_types.specs.Scope.{tags_of_item};
 ghost use Rattle.om_types.specs.Table.{tag_with_part};
-ghost use Rattle.om_scope.specs.Breaks.{names_of_decls};
-ghost use Rattle.om_scope.specs.Names.{number_of, ArePlaces};
 ghost use Rattle.om_store.specs.Held.{Grows};
 ghost use Rattle.om_brackets.specs.Trees.{typed_item, written_item};
 ghost use Rattle.om_head_rules.specs.Rules.{AreWithin, AreAllWithin, AreTagged, items_at, brackets_at};
@@ -16,9 +13,8 @@ use om_brackets::Item;
 use om_layout::head_of;
 use om_model::Memory;
 use om_model::list::List;
-use om_scope::table::Table;
+use om_scope::SoundEnvironment;
 use om_store::Types;
-use om_types::decl::Decl;
 use om_types::head::{HeadOf, TagOf};
 use std::alloc::Global;
 
@@ -26,20 +22,16 @@ use std::alloc::Global;
 fn tags_of(
     alloc: Global,
     types: &mut Types,
-    decls: &[Decl],
-    table: &Table<'_>,
+    decls: &SoundEnvironment<'_>,
     number: usize,
 ) -> Result<List<TagOf<usize>>, Memory>
-    requires places { ArePlaces (names_of_decls decls.now) (length decls.now)
-        (number_of table.now) }
     requires number { number < length types.old }
-    requires sound { AreSound decls.now }
     ensures ok { IfOk result
         (λ tags. map (tag_with_part (slice_get types.new)) tags
         ≡ map (tag_with_part Some) (tags_of_item decls.now (type_at types.old number))) }
     ensures grown { Grows types.old types.new }
 {
-    match head_of(alloc, types, decls, table, number)? {
+    match head_of(alloc, types, decls, number)? {
         HeadOf::Variants(tags) => Ok(tags),
         _ => Ok(List::new(alloc)),
     }
@@ -49,14 +41,10 @@ fn tags_of(
 fn tagged_items(
     alloc: Global,
     types: &mut Types,
-    decls: &[Decl],
-    table: &Table<'_>,
+    decls: &SoundEnvironment<'_>,
     items: &[NumberedItem],
 ) -> Result<List<Item>, Memory>
-    requires places { ArePlaces (names_of_decls decls.now) (length decls.now)
-        (number_of table.now) }
     requires within { AreWithin types.old items.now }
-    requires sound { AreSound decls.now }
     ensures ok { IfOk result
         (λ all. map (typed_item types.new) all
         ≡ map (written_item decls.now) (items_at types.old items.now)) }
@@ -64,7 +52,7 @@ fn tagged_items(
 {
     let mut all = List::new(alloc);
     for item in items {
-        let tags = tags_of(alloc, types, decls, table, item.number)?;
+        let tags = tags_of(alloc, types, decls, item.number)?;
         all.push(Item {
             place: item.place,
             tags,
@@ -77,14 +65,10 @@ fn tagged_items(
 fn all_tagged(
     alloc: Global,
     types: &mut Types,
-    decls: &[Decl],
-    table: &Table<'_>,
+    decls: &SoundEnvironment<'_>,
     brackets: &[List<NumberedItem>],
 ) -> Result<List<List<Item>>, Memory>
-    requires places { ArePlaces (names_of_decls decls.now) (length decls.now)
-        (number_of table.now) }
     requires within { AreAllWithin types.old brackets.now }
-    requires sound { AreSound decls.now }
     ensures ok { IfOk result
         (λ all. map (map (typed_item types.new)) all
         ≡ map (map (written_item decls.now)) (brackets_at types.old brackets.now)) }
@@ -92,7 +76,7 @@ fn all_tagged(
 {
     let mut all = List::new(alloc);
     for items in brackets {
-        all.push(tagged_items(alloc, types, decls, table, items.as_slice())?)?;
+        all.push(tagged_items(alloc, types, decls, items.as_slice())?)?;
     }
     Ok(all)
 }
@@ -101,19 +85,15 @@ fn all_tagged(
 pub fn tagged_brackets(
     alloc: Global,
     types: &mut Types,
-    decls: &[Decl],
-    table: &Table<'_>,
+    decls: &SoundEnvironment<'_>,
     brackets: &[List<NumberedItem>],
 ) -> Result<List<List<Item>>, Memory>
-    requires places { ArePlaces (names_of_decls decls.now) (length decls.now)
-        (number_of table.now) }
     requires within { AreAllWithin types.old brackets.now }
-    requires sound { AreSound decls.now }
     ensures ok { IfOk result
         (λ tagged. AreTagged types.new decls.now tagged (brackets_at types.old brackets.now)) }
     ensures grown { Grows types.old types.new }
 {
-    let tagged = all_tagged(alloc, types, decls, table, brackets)?;
+    let tagged = all_tagged(alloc, types, decls, brackets)?;
     // Its contract says that no type stands twice.
     let _ = types.len();
     Ok(tagged)

@@ -2,10 +2,7 @@
 
 ghost use Rattle.std.specs.Prelude.{◌<◌, ◌↔◌, length, IfOk, IsTrue};
 ghost use Rattle.om_types.specs.Nodes.{type_at};
-ghost use Rattle.om_types.specs.Accepted.{AreSound};
-ghost use Rattle.om_scope.specs.Breaks.{names_of_decls};
 ghost use Rattle.om_scope.specs.Least.{IsLeast};
-ghost use Rattle.om_scope.specs.Names.{number_of, ArePlaces};
 ghost use Rattle.om_store.specs.Held.{Grows};
 ghost use Rattle.om_head_rules.specs.Rules.{AreWithin, AreAllWithin, IncludesOther, ItemsInclude, SomeBreaks};
 
@@ -13,31 +10,25 @@ use crate::item::NumberedItem;
 use om_layout::is_polymorphic_variant;
 use om_model::Memory;
 use om_model::list::List;
-use om_scope::table::Table;
-use om_scope::{place_if, sooner};
+use om_scope::{SoundEnvironment, place_if, sooner};
 use om_store::{TypeNode, Types};
-use om_types::decl::Decl;
 use std::alloc::Global;
 
 /// Whether an item includes a type that is no polymorphic variant.
 fn includes_other(
     alloc: Global,
     types: &mut Types,
-    decls: &[Decl],
-    table: &Table<'_>,
+    decls: &SoundEnvironment<'_>,
     number: usize,
 ) -> Result<bool, Memory>
-    requires places { ArePlaces (names_of_decls decls.now) (length decls.now)
-        (number_of table.now) }
     requires number { number < length types.old }
-    requires sound { AreSound decls.now }
     ensures ok { IfOk result
         (λ is. IsTrue is ↔ IncludesOther decls.now (type_at types.old number)) }
     ensures grown { Grows types.old types.new }
 {
     match types.node(number) {
         TypeNode::Including(_, included) => {
-            let is = is_polymorphic_variant(alloc, types, decls, table, included)?;
+            let is = is_polymorphic_variant(alloc, types, decls, included)?;
             Ok(!is)
         }
         _ => Ok(false),
@@ -48,20 +39,16 @@ fn includes_other(
 fn least_other(
     alloc: Global,
     types: &mut Types,
-    decls: &[Decl],
-    table: &Table<'_>,
+    decls: &SoundEnvironment<'_>,
     items: &[NumberedItem],
 ) -> Result<Option<usize>, Memory>
-    requires places { ArePlaces (names_of_decls decls.now) (length decls.now)
-        (number_of table.now) }
     requires within { AreWithin types.old items.now }
-    requires sound { AreSound decls.now }
     ensures ok { IfOk result (IsLeast (ItemsInclude decls.now types.old items.now)) }
     ensures grown { Grows types.old types.new }
 {
     let mut best = None;
     for item in items {
-        let other = includes_other(alloc, types, decls, table, item.number)?;
+        let other = includes_other(alloc, types, decls, item.number)?;
         best = sooner(best, place_if(other, item.place));
     }
     Ok(best)
@@ -72,21 +59,17 @@ fn least_other(
 pub fn least_not_variant(
     alloc: Global,
     types: &mut Types,
-    decls: &[Decl],
-    table: &Table<'_>,
+    decls: &SoundEnvironment<'_>,
     brackets: &[List<NumberedItem>],
 ) -> Result<Option<usize>, Memory>
-    requires places { ArePlaces (names_of_decls decls.now) (length decls.now)
-        (number_of table.now) }
     requires within { AreAllWithin types.old brackets.now }
-    requires sound { AreSound decls.now }
     ensures ok { IfOk result
         (IsLeast (SomeBreaks brackets.now (ItemsInclude decls.now types.old))) }
     ensures grown { Grows types.old types.new }
 {
     let mut best = None;
     for items in brackets {
-        let found = least_other(alloc, types, decls, table, items.as_slice())?;
+        let found = least_other(alloc, types, decls, items.as_slice())?;
         best = sooner(best, found);
     }
     Ok(best)

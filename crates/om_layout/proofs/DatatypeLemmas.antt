@@ -26,9 +26,6 @@ use Rattle.om_layout.proofs.LayoutLemmas.{numbers_found, product_at}
 -- ---- arguments that stay
 
 module _ (old now : List Ty) (grown : Grows old now) (decl : Decl) (arguments : List ℕ) (among : All (λ i. i < length old) arguments) where
-  pub arguments_below : All (λ i. i < length now) arguments
-  arguments_below = below_kept old now grown.added arguments grown.kept among
-
   pub instance_kept : instance_at now decl arguments ≡ instance_at old decl arguments
   instance_kept =
       ap (λ (ts : List Ty). λ (t : Ty). instance_of decl ts t) (types_at-kept old now grown.added arguments grown.kept among)

@@ -78,11 +78,6 @@ module _ (types added : List Ty) where
 longer : (types added : List Ty) → length types ≤ length (types ++ added)
 longer types added = omega (arith, length-append types added)
 
-pub within_more : (types added : List Ty) (numbers : List ℕ) → All (λ i. i < length types) numbers
-    → All (λ i. i < length (types ++ added)) numbers
-within_more types added numbers within k d below =
-    let here = within k d below in omega (arith, here, length-append types added)
-
 tag_within_more : (types added : List Ty) (argument : Option ℕ) → IfSome argument (λ i. i < length types)
     → IfSome argument (λ i. i < length (types ++ added))
 tag_within_more types added None within = tt

@@ -1,9 +1,9 @@
 -- What is known of abbreviations, with one more.
 use Rattle.std.proofs.Common.{ℕ, suc, ◌<◌, ◌≤◌, ◌≡◌, ◌∙◌, Bool, true, false, cond, List, [], ◌∷◌, length, Option, Some, None, refl, sym, ap, subst, All, nat_eq}
-use Rattle.std.specs.Prelude.{slice_get, get_or, option_map, IfSome, is_some}
+use Rattle.std.specs.Prelude.{slice_get, option_map, IfSome, is_some}
 use Rattle.std.specs.Map.{keys_of}
 use Rattle.std.proofs.lemmas.Bool.{eqb-true}
-use Rattle.std.proofs.lemmas.Option.{none-some, same_Some, slice_get_within, get_or_from_slice_get, slice_get_read}
+use Rattle.std.proofs.lemmas.Option.{none-some, same_Some, slice_get_within, get_or_from_slice_get}
 use Rattle.std.proofs.lemmas.List.Elements.{All-head, All-tail, All-cons, All-contains}
 use Rattle.std.proofs.lemmas.Map.Steps.{length-le_from_distinct_below}
 use Rattle.std.proofs.lemmas.Map.Views.{Contains-from_any}
@@ -13,9 +13,9 @@ use Rattle.om_types.specs.declared.decl.Body.TheVariants as bodies
 use Rattle.om_types.specs.Ty.{Ty, name_of, parts}
 use Rattle.om_types.specs.Nodes.{type_at}
 use Rattle.om_types.specs.Declarations.{abbreviated}
-use Rattle.om_scope.specs.Names.{ArePlaces}
+use Rattle.om_scope.specs.Names.{IsFirstPlace}
 use Rattle.om_scope.specs.Breaks.{names_of_decls}
-use Rattle.om_scope.proofs.DeclaredLemmas.{found_at, place_of}
+use Rattle.om_scope.proofs.DeclaredLemmas.{found_at}
 use Rattle.om_layout.specs.Way.{AreKnown, ComesToArgument, EachLeads, EachPasses, IsAbbreviation, IsArgument, IsMore}
 use Rattle.om_layout.proofs.WayLemmas.{known_passes, comes_to_argument}
 
@@ -49,19 +49,17 @@ more_at before after None x is more = absurd (none-some x is)
 more_at before after (Some y) x is more = more
 
 pub abbreviation_found :
-    (decls : List Decl) (t : Ty) (name : List ℕ) (number : ℕ) (d : Decl) (body : Ty) (numbers : List ℕ → Option ℕ)
-    → ArePlaces (names_of_decls decls) (length decls) numbers → name_of t ≡ Some name → numbers name ≡ Some number
-    → d ≡ get_or decls number d → (get_or decls number d).body ≡ bodies.Abbreviation body → IsAbbreviation decls t number
-abbreviation_found decls t name number d body numbers places named' placed read is =
-    let place = place_of (names_of_decls decls) (length decls) name (numbers name) number placed (places name) in
-    record {
-      name = name;
-      decl = d;
-      named = named';
-      found = sym (found_at decls name number place d read);
-      there = slice_get_read decls (length decls) number d refl place.below read;
-      abbreviates = ap (λ (x : Decl). is_some (abbreviated x.body)) read ∙ ap (λ b. is_some (abbreviated b)) is;
-    }
+    (decls : List Decl) (t : Ty) (name : List ℕ) (number : ℕ) (d : Decl) (body : Ty)
+    → IsFirstPlace (names_of_decls decls) (length decls) name number → name_of t ≡ Some name
+    → slice_get decls number ≡ Some d → d.body ≡ bodies.Abbreviation body → IsAbbreviation decls t number
+abbreviation_found decls t name number d body place named' there is = record {
+  name = name;
+  decl = d;
+  named = named';
+  found = sym (found_at decls name number place d (sym (get_or_from_slice_get decls number d d there)));
+  there = there;
+  abbreviates = ap (λ b. is_some (abbreviated b)) is;
+}
 
 module _ (decls : List Decl) (group : Option ℕ) where
   pub part_passes :
@@ -75,15 +73,15 @@ module _ (decls : List Decl) (group : Option ℕ) where
       (are.arguments j i here.decl is here.there)
 
   pub argument_found :
-      (k i : ℕ) (d e : Decl) (body end : Ty) → k < length decls → d ≡ get_or decls k d → e ≡ get_or decls k e
-      → (get_or decls k d).body ≡ bodies.Abbreviation body → EachLeads decls group body end → IsArgument e group end i
+      (k i : ℕ) (d e : Decl) (body end : Ty) → slice_get decls k ≡ Some d → slice_get decls k ≡ Some e
+      → d.body ≡ bodies.Abbreviation body → EachLeads decls group body end → IsArgument e group end i
       → (i' : ℕ) (decl : Decl) → Some i ≡ Some i' → slice_get decls k ≡ Some decl → ComesToArgument decls group decl i'
-  argument_found k i d e body end below read read' is leads argument i' decl same there =
-      let one : d ≡ decl = same_Some d decl (sym (slice_get_read decls (length decls) k d refl below read) ∙ there) in
-      let other : e ≡ decl = same_Some e decl (sym (slice_get_read decls (length decls) k e refl below read') ∙ there) in
+  argument_found k i d e body end at at' is leads argument i' decl same there =
+      let one : d ≡ decl = same_Some d decl (sym at ∙ there) in
+      let other : e ≡ decl = same_Some e decl (sym at' ∙ there) in
       subst (ComesToArgument decls group decl) (same_Some i i' same)
       (comes_to_argument decls group decl body end i
-      (ap (λ (x : Decl). abbreviated x.body) (sym one ∙ read) ∙ ap abbreviated is) leads
+      (ap (λ (x : Decl). abbreviated x.body) (sym one) ∙ ap abbreviated is) leads
       (subst (λ (x : Decl). IsArgument x group end i) other argument))
 
 module _ (decls : List Decl) (group : Option ℕ) {S : Type 0} where

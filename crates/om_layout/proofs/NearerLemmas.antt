@@ -1,5 +1,5 @@
 -- The next type of a walk along replacements.
-use Rattle.std.proofs.Common.{ℕ, suc, ◌<◌, ◌≡◌, ◌∙◌, List, length, Option, Some, None, sym, ap, subst, arith, length-append}
+use Rattle.std.proofs.Common.{ℕ, suc, ◌<◌, ◌≡◌, ◌∙◌, List, length, Option, Some, None, sym, ap, subst, arith}
 use Rattle.std.specs.Prelude.{MatchOption}
 use Rattle.std.proofs.lemmas.Option.{get_or_from_slice_get, slice_get_within}
 use Rattle.om_types.specs.declared.decl.Decl.{Decl}
@@ -13,7 +13,7 @@ use Rattle.om_equal.proofs.NeedLemmas.{head_again}
 use Rattle.om_equal.proofs.RankedLemmas.{are_ranked}
 use Rattle.om_store.specs.Held.{Grows}
 use Rattle.om_store.proofs.HeldLemmas.{Grows-none, Holds-grows}
-use Rattle.om_layout.specs.Unfolded.{IsReplaced, IsLeft, HasHeadOf}
+use Rattle.om_layout.specs.Unfolded.{IsReplaced, IsLeft}
 use Rattle.om_layout.specs.Way.{EachPasses, IsNearer}
 use Rattle.om_layout.proofs.ReplacedLemmas.{ComesTo, times_more}
 use Rattle.om_layout.proofs.WayLemmas.{passes_once, comes_more, way_head, way_work}
@@ -94,17 +94,3 @@ module _ (decls : List Decl) where
         comes_more decls group nearer.leads.0 t nearer.first (type_at types n)
         (record { times = suc comes.times; replaced = times_more decls comes.times t u nearer.first comes.replaced nearer.is })
         nearer.leads.1
-
-  -- ---- its end
-
-  pub ends : (old new : List Ty) (t : Ty) (at : ℕ) → Grows old new → at < length old → unfolded decls (type_at old at) ≡ None
-      → head decls (type_at old at) ≡ head decls t → HasHeadOf decls new t at
-  ends old new t at grown within none same =
-      let kept = type_kept old new at grown within in record {
-        within = within_grown old new at grown within;
-        head = ap (head decls) kept ∙ same;
-        ended = ap (unfolded decls) kept ∙ none;
-      } where
-        within_grown : (xs ys : List Ty) (i : ℕ) → Grows xs ys → i < length xs → i < length ys
-        within_grown xs ys i more below =
-            let same_length = ap length more.kept in omega (arith, same_length, below, length-append xs more.added)

@@ -1,12 +1,12 @@
 -- Abbreviations whose tags are all there, at any arguments.
-use Rattle.std.proofs.Common.{ℕ, suc, ◌+◌, ◌<◌, ◌≤◌, ◌≡◌, ◌∙◌, get_or, nat_eq, Bool, true, false, cond, List, [], ◌∷◌, ◌++◌, length, Option, Some, None, refl, sym, ap, subst, arith}
-use Rattle.std.specs.Prelude.{not, filter, IfSome}
+use Rattle.std.proofs.Common.{ℕ, suc, ◌+◌, ◌<◌, ◌≤◌, ◌≡◌, ◌∙◌, nat_eq, Bool, true, false, cond, List, [], ◌∷◌, ◌++◌, length, Option, Some, None, refl, sym, ap, subst, arith}
+use Rattle.std.specs.Prelude.{slice_get, not, filter, IfSome}
 use Rattle.std.specs.List.{list_any}
 use Rattle.std.proofs.lemmas.Bool.{false≢true, eqb-true}
 use Rattle.std.proofs.lemmas.List.Elements.{filter-append, All-push, All-contains}
 use Rattle.std.proofs.lemmas.List.Sums.{sum_by_push}
 use Rattle.std.proofs.lemmas.Map.Views.{Contains-from_any}
-use Rattle.std.proofs.lemmas.Option.{none-some, same_Some, slice_get_read, slice_get_within}
+use Rattle.std.proofs.lemmas.Option.{none-some, same_Some, slice_get_within}
 use Rattle.indexmap.specs.IndexSet.{insert_key}
 use Rattle.om_types.specs.declared.decl.Decl.{Decl}
 use Rattle.om_types.specs.declared.decl.Body.TheVariants as bodies
@@ -136,11 +136,11 @@ module _ (decls : List Decl) (tags : List (TagOf Ty)) where
         ∙ each value
 
     -- the abbreviation of a type whose tags are all there
-    pub settles : (k : ℕ) (d : Decl) (body : Ty) → k < length decls → d ≡ get_or decls k d
-        → (get_or decls k d).body ≡ bodies.Abbreviation body → EachBringsNone decls tags body → IsSettled decls tags k
-    settles k d body below read is each t at =
-        let one : d ≡ at.decl = same_Some d at.decl (sym (slice_get_read decls (length decls) k d refl below read) ∙ at.there) in
-        let type = ap (λ (x : Decl). abbreviated x.body) (sym one ∙ read) ∙ ap abbreviated is in
+    pub settles : (k : ℕ) (d : Decl) (body : Ty) → slice_get decls k ≡ Some d
+        → d.body ≡ bodies.Abbreviation body → EachBringsNone decls tags body → IsSettled decls tags k
+    settles k d body there is each t at =
+        let one : d ≡ at.decl = same_Some d at.decl (sym there ∙ at.there) in
+        let type = ap (λ (x : Decl). abbreviated x.body) (sym one) ∙ ap abbreviated is in
         let value = argument_for at.decl.parameters (parts t) in
         let next = unfolded_is decls None t body at.decl at.name at.named at.found type in
         ap (λ h. filter (is_new tags) (tags_in h))

@@ -73,9 +73,6 @@ module _ (decls : List Decl) (group : Option ℕ) where
   way_then (suc n) t u v way leads =
       let rest = way_then n way.0 u v way.3 leads in (suc rest.0, (way.0, way.1, way.2, rest.1))
 
-  pub leads_none : (t : Ty) → EachLeads decls group t t
-  leads_none t value = (0, refl)
-
   pub leads_more : (t u v : Ty) → EachLeads decls group t u → EachPasses decls group u v → EachLeads decls group t v
   leads_more t u v leads passes value =
       let first = leads value in

@@ -8,8 +8,6 @@ ghost use Rattle.om_types.specs.Nodes.{type_at};
 ghost use Rattle.om_types.specs.Declarations.{unfolded};
 ghost use Rattle.om_types.specs.Head.{head};
 ghost use Rattle.om_types.specs.Accepted.{AreSound};
-ghost use Rattle.om_scope.specs.Breaks.{names_of_decls};
-ghost use Rattle.om_scope.specs.Names.{number_of, ArePlaces};
 ghost use Rattle.om_store.specs.Held.{Grows};
 ghost use Rattle.om_layout.specs.Plain.{IsBracketed};
 ghost use Rattle.om_layout.specs.declared.bracket.Step.TheVariants as steps;
@@ -24,9 +22,8 @@ use crate::settled::{Settled, is_settled, settle};
 use indexmap::{IndexMap, IndexSet};
 use om_model::Memory;
 use om_model::list::List;
-use om_scope::table::Table;
+use om_scope::SoundEnvironment;
 use om_store::{TypeNode, Types};
-use om_types::decl::Decl;
 use om_types::head::{HeadOf, TagOf};
 use std::alloc::Global;
 
@@ -48,23 +45,20 @@ pub(crate) enum Step {
 pub fn bracket_head(
     alloc: Global,
     types: &mut Types,
-    decls: &[Decl],
-    table: &Table<'_>,
+    decls: &SoundEnvironment<'_>,
     number: usize,
 ) -> Result<HeadOf<usize>, Memory>
-    requires places { ArePlaces (names_of_decls decls.now) (length decls.now)
-        (number_of table.now) }
     requires number { number < length types.old }
-    requires sound { AreSound decls.now }
     requires bracketed { IsBracketed (type_at types.old number) }
     ensures ok { IfOk result (IsHeadOf decls.now types.new (type_at types.old number)) }
     ensures grown { Grows types.old types.new }
 {
+    decls.holds();
     if !has_bracket(types, number) {
         return Ok(HeadOf::Absent);
     }
     let mut tags: Tags = IndexMap::new(alloc);
-    gather_tags(alloc, types, decls, table, number, &mut tags)?;
+    gather_tags(alloc, types, decls, number, &mut tags)?;
     Ok(HeadOf::Variants(List::of(listed(alloc, tags)?)))
 }
 
@@ -72,15 +66,11 @@ pub fn bracket_head(
 fn gather_tags(
     alloc: Global,
     types: &mut Types,
-    decls: &[Decl],
-    table: &Table<'_>,
+    decls: &SoundEnvironment<'_>,
     number: usize,
     tags: &mut Tags,
 ) -> Result<(), Memory>
-    requires places { ArePlaces (names_of_decls decls.now) (length decls.now)
-        (number_of table.now) }
     requires number { number < length types.old }
-    requires sound { AreSound decls.now }
     requires none { tags.old.entries ≡ [] }
     ensures gathered { OnOk result
         (AreAll types.new (tags_of_entries tags.new.entries)
@@ -89,21 +79,17 @@ fn gather_tags(
 {
     let mut waiting = Vec::new(alloc);
     push_items(types, number, &mut waiting)?;
-    gather_all(alloc, types, decls, table, tags, &mut waiting)
+    gather_all(alloc, types, decls, tags, &mut waiting)
 }
 
 /// Takes all steps.
 fn gather_all(
     alloc: Global,
     types: &mut Types,
-    decls: &[Decl],
-    table: &Table<'_>,
+    decls: &SoundEnvironment<'_>,
     tags: &mut Tags,
     waiting: &mut Vec<Step>,
 ) -> Result<(), Memory>
-    requires places { ArePlaces (names_of_decls decls.now) (length decls.now)
-        (number_of table.now) }
-    requires sound { AreSound decls.now }
     requires gathered { (all : List (Tag Ty))
         × AreGathered decls.now types.old (tags_of_entries tags.old.entries) []
         (reverse waiting.old.items) all }
@@ -121,7 +107,6 @@ fn gather_all(
             alloc,
             types,
             decls,
-            table,
             step,
             &mut known,
             tags,
@@ -136,18 +121,14 @@ fn gather_all(
 fn gather(
     alloc: Global,
     types: &mut Types,
-    decls: &[Decl],
-    table: &Table<'_>,
+    decls: &SoundEnvironment<'_>,
     step: Step,
     known: &mut Known,
     tags: &mut Tags,
     settled: &mut Settled,
     waiting: &mut Vec<Step>,
 ) -> Result<(), Memory>
-    requires places { ArePlaces (names_of_decls decls.now) (length decls.now)
-        (number_of table.now) }
     requires step { IsStepWithin decls.now types.old step }
-    requires sound { AreSound decls.now }
     requires known { AreKnown decls.now None known.old }
     ensures gathered { OnOk result
         ((all : List (Tag Ty))
@@ -166,10 +147,8 @@ fn gather(
 {
     match step {
         Step::Item(item) => gather_item(alloc, types, item, tags, waiting),
-        Step::Included(included) => include(
-            alloc, types, decls, table, known, settled, included, waiting,
-        ),
-        Step::Settle(decl) => settle(alloc, types, decls, table, known, tags, settled, decl),
+        Step::Included(included) => include(alloc, types, decls, known, settled, included, waiting),
+        Step::Settle(decl) => settle(alloc, types, decls, known, tags, settled, decl),
     }
 }
 
@@ -209,17 +188,13 @@ fn gather_item(
 fn include(
     alloc: Global,
     types: &mut Types,
-    decls: &[Decl],
-    table: &Table<'_>,
+    decls: &SoundEnvironment<'_>,
     known: &mut Known,
     settled: &Settled,
     included: usize,
     waiting: &mut Vec<Step>,
 ) -> Result<(), Memory>
-    requires places { ArePlaces (names_of_decls decls.now) (length decls.now)
-        (number_of table.now) }
     requires included { included < length types.old }
-    requires sound { AreSound decls.now }
     requires known { AreKnown decls.now None known.old }
     ensures gathered { OnOk result
         ((found : List (Tag ℕ)) (all : List (Tag Ty))
@@ -237,11 +212,12 @@ fn include(
     ensures known { OnOk result (AreKnown decls.now None known.new) }
     ensures grown { Grows types.old types.new }
 {
-    let decl = abbreviation(types, decls, table, included);
+    decls.holds();
+    let decl = abbreviation(types, decls, included);
     if is_settled(settled, decl) {
         return Ok(());
     }
-    match nearer(alloc, types, decls, table, None, known, included)? {
+    match nearer(alloc, types, decls, None, known, included)? {
         Some(next) => push_next(decl, next, waiting),
         None => put_items(types, included, waiting),
     }

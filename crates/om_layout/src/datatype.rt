@@ -2,9 +2,6 @@
 
 ghost use Rattle.std.specs.Prelude.{◌≡◌, ◌<◌, length, map, All, IfOk};
 ghost use Rattle.om_types.specs.Shape.{body_shape, is_flat, any_mutable, is_constant, constants_in, block_of, blocks_in, types_of_fields};
-ghost use Rattle.om_types.specs.Accepted.{AreSound};
-ghost use Rattle.om_scope.specs.Breaks.{names_of_decls};
-ghost use Rattle.om_scope.specs.Names.{number_of, ArePlaces};
 ghost use Rattle.om_store.specs.Held.{Grows};
 ghost use Rattle.om_store.specs.Instance.{HasNumbers};
 ghost use Rattle.om_layout.specs.Layout.{instance_at, HasBlock, HasBlocks, IsShapeAt};
@@ -12,7 +9,7 @@ ghost use Rattle.om_layout.specs.Layout.{instance_at, HasBlock, HasBlocks, IsSha
 use crate::kind::is_float;
 use om_model::Memory;
 use om_model::list::List;
-use om_scope::table::Table;
+use om_scope::SoundEnvironment;
 use om_store::Types;
 use om_types::decl::{Arguments, Body, Constructor, Decl, Field};
 use om_types::shape::{Constr, ShapeOf};
@@ -24,15 +21,11 @@ use std::alloc::Global;
 pub(crate) fn datatype_shape(
     alloc: Global,
     types: &mut Types,
-    decls: &[Decl],
-    table: &Table<'_>,
+    decls: &SoundEnvironment<'_>,
     decl: &Decl,
     arguments: &[usize],
 ) -> Result<ShapeOf<usize>, Memory>
-    requires places { ArePlaces (names_of_decls decls.now) (length decls.now)
-        (number_of table.now) }
     requires within { All (λ i. i < length types.old) arguments.now }
-    requires sound { AreSound decls.now }
     ensures ok { IfOk result
         (IsShapeAt types.new
         (body_shape decls.now (instance_at types.old decl.now arguments.now) decl.now.body)) }
@@ -43,7 +36,7 @@ pub(crate) fn datatype_shape(
         Body::Record(fields) => {
             let fields = fields.as_slice();
             let mutable = any_mutable(fields);
-            if is_flat(alloc, types, decls, table, fields)? {
+            if is_flat(alloc, types, decls, fields)? {
                 return Ok(ShapeOf::FlatFloats(mutable, fields.len() as u64));
             }
             let numbers = instances_of_fields(alloc, types, decl, arguments, fields)?;
@@ -61,19 +54,15 @@ pub(crate) fn datatype_shape(
 pub(crate) fn is_flat(
     alloc: Global,
     types: &mut Types,
-    decls: &[Decl],
-    table: &Table<'_>,
+    decls: &SoundEnvironment<'_>,
     fields: &[Field],
 ) -> Result<bool, Memory>
-    requires places { ArePlaces (names_of_decls decls.now) (length decls.now)
-        (number_of table.now) }
-    requires sound { AreSound decls.now }
     ensures ok { IfOk result (λ flat. flat ≡ is_flat decls.now fields.now) }
     ensures grown { Grows types.old types.new }
 {
     for field in fields {
         let number = types.add(alloc, &field.ty)?;
-        if !is_float(alloc, types, decls, table, number)? {
+        if !is_float(alloc, types, decls, number)? {
             return Ok(false);
         }
     }

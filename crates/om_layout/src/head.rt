@@ -2,9 +2,6 @@
 
 ghost use Rattle.std.specs.Prelude.{◌<◌, length, IfOk};
 ghost use Rattle.om_types.specs.Nodes.{type_at};
-ghost use Rattle.om_types.specs.Accepted.{AreSound};
-ghost use Rattle.om_scope.specs.Breaks.{names_of_decls};
-ghost use Rattle.om_scope.specs.Names.{number_of, ArePlaces};
 ghost use Rattle.om_store.specs.Held.{Grows};
 ghost use Rattle.om_layout.specs.Tags.{IsHeadOf};
 
@@ -12,9 +9,8 @@ use crate::bracket::bracket_head;
 use crate::plain::plain;
 use crate::replaced::expanded;
 use om_model::Memory;
-use om_scope::table::Table;
+use om_scope::SoundEnvironment;
 use om_store::Types;
-use om_types::decl::Decl;
 use om_types::head::HeadOf;
 use std::alloc::Global;
 
@@ -23,20 +19,17 @@ use std::alloc::Global;
 pub fn head_of(
     alloc: Global,
     types: &mut Types,
-    decls: &[Decl],
-    table: &Table<'_>,
+    decls: &SoundEnvironment<'_>,
     number: usize,
 ) -> Result<HeadOf<usize>, Memory>
-    requires places { ArePlaces (names_of_decls decls.now) (length decls.now)
-        (number_of table.now) }
     requires number { number < length types.old }
-    requires sound { AreSound decls.now }
     ensures ok { IfOk result (IsHeadOf decls.now types.new (type_at types.old number)) }
     ensures grown { Grows types.old types.new }
 {
-    let at = expanded(alloc, types, decls, table, number)?;
+    decls.holds();
+    let at = expanded(alloc, types, decls, number)?;
     match plain(alloc, types, at)? {
         Some(head) => Ok(head),
-        None => bracket_head(alloc, types, decls, table, at),
+        None => bracket_head(alloc, types, decls, at),
     }
 }

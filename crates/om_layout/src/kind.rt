@@ -4,9 +4,7 @@ ghost use Rattle.std.specs.Prelude.{◌≡◌, ◌<◌, ◌↔◌, IsTrue, lengt
 ghost use Rattle.om_types.specs.Nodes.{type_at};
 ghost use Rattle.om_types.specs.Head.{head};
 ghost use Rattle.om_types.specs.Shape.{is_float};
-ghost use Rattle.om_types.specs.Accepted.{AreSound, AreVariants};
-ghost use Rattle.om_scope.specs.Breaks.{names_of_decls};
-ghost use Rattle.om_scope.specs.Names.{number_of, ArePlaces};
+ghost use Rattle.om_types.specs.Accepted.{AreVariants};
 ghost use Rattle.om_store.specs.Held.{Grows};
 ghost use Rattle.om_layout.specs.Kind.{is_float_name};
 
@@ -14,29 +12,26 @@ use crate::bracket::has_bracket;
 use crate::replaced::expanded;
 use crate::spine::name;
 use om_model::Memory;
-use om_scope::declared::predeclared;
-use om_scope::table::Table;
+use om_scope::SoundEnvironment;
+use om_scope::predeclared::predeclared;
 use om_store::Types;
-use om_types::decl::{Decl, Predeclared};
+use om_types::decl::Predeclared;
 use std::alloc::Global;
 
 /// Whether a type is a polymorphic variant. After `Memory` there may be more types, at the end.
 pub fn is_polymorphic_variant(
     alloc: Global,
     types: &mut Types,
-    decls: &[Decl],
-    table: &Table<'_>,
+    decls: &SoundEnvironment<'_>,
     number: usize,
 ) -> Result<bool, Memory>
-    requires places { ArePlaces (names_of_decls decls.now) (length decls.now)
-        (number_of table.now) }
     requires number { number < length types.old }
-    requires sound { AreSound decls.now }
     ensures ok { IfOk result
         (λ is. IsTrue is ↔ AreVariants (head decls.now (type_at types.old number))) }
     ensures grown { Grows types.old types.new }
 {
-    let at = expanded(alloc, types, decls, table, number)?;
+    decls.holds();
+    let at = expanded(alloc, types, decls, number)?;
     Ok(has_bracket(types, at))
 }
 
@@ -44,18 +39,15 @@ pub fn is_polymorphic_variant(
 pub fn is_float(
     alloc: Global,
     types: &mut Types,
-    decls: &[Decl],
-    table: &Table<'_>,
+    decls: &SoundEnvironment<'_>,
     number: usize,
 ) -> Result<bool, Memory>
-    requires places { ArePlaces (names_of_decls decls.now) (length decls.now)
-        (number_of table.now) }
     requires number { number < length types.old }
-    requires sound { AreSound decls.now }
     ensures ok { IfOk result (λ is. is ≡ is_float decls.now (type_at types.old number)) }
     ensures grown { Grows types.old types.new }
 {
-    let at = expanded(alloc, types, decls, table, number)?;
+    decls.holds();
+    let at = expanded(alloc, types, decls, number)?;
     match name(types, at) {
         Some(name) => Ok(is_float_name(name)),
         None => Ok(false),

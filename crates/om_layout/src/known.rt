@@ -6,15 +6,13 @@ ghost use Rattle.indexmap.specs.IndexMap.{get, index_map_len};
 ghost use Rattle.om_types.specs.declared.decl.Decl.{Decl as Declaration};
 ghost use Rattle.om_types.specs.Ty.{parts};
 ghost use Rattle.om_types.specs.Nodes.{type_at};
-ghost use Rattle.om_scope.specs.Breaks.{names_of_decls};
-ghost use Rattle.om_scope.specs.Names.{number_of, ArePlaces};
 ghost use Rattle.om_store.specs.Held.{Grows};
 ghost use Rattle.om_layout.specs.Way.{AreKnown, IsAbbreviation, IsOf, EachLeads, EachPasses, IsArgument, IsMore};
 
 use crate::spine::{name, parts};
 use indexmap::IndexMap;
 use om_model::Memory;
-use om_scope::table::{Table, find};
+use om_scope::SoundEnvironment;
 use om_store::{TypeNode, Types};
 use om_types::decl::{Body, Decl};
 use std::alloc::Global;
@@ -33,18 +31,15 @@ pub fn none_known(alloc: Global) -> Known
 /// The number of the declaration of the abbreviation at the head of a type.
 pub(crate) fn abbreviation(
     types: &Types,
-    decls: &[Decl],
-    table: &Table<'_>,
+    decls: &SoundEnvironment<'_>,
     number: usize,
 ) -> Option<usize>
-    requires places { ArePlaces (names_of_decls decls.now) (length decls.now)
-        (number_of table.now) }
     requires number { number < length types.now }
     ensures { IfSome result (IsAbbreviation decls.now (type_at types.now number)) }
 {
     let name = name(types, number)?;
-    let found = find(table, name)?;
-    match &decls[found].body {
+    let found = decls.place(name)?;
+    match &decls.at(found).body {
         Body::Abbreviation(_) => Some(found),
         _ => None,
     }
@@ -83,13 +78,10 @@ fn nth(numbers: &[usize], i: usize) -> Option<usize>
 pub(crate) fn known_part(
     alloc: Global,
     types: &Types,
-    decls: &[Decl],
-    table: &Table<'_>,
+    decls: &SoundEnvironment<'_>,
     known: &Known,
     number: usize,
 ) -> Result<Option<usize>, Memory>
-    requires places { ArePlaces (names_of_decls decls.now) (length decls.now)
-        (number_of table.now) }
     requires number { number < length types.now }
     ensures passes { IfOk result
         (λ part. (group : Option ℕ) → AreKnown decls.now group known.now
@@ -98,7 +90,7 @@ pub(crate) fn known_part(
         (type_at types.now n))) }
     ensures below { IfOk result (λ part. IfSome part (λ n. n < number)) }
 {
-    let Some(decl) = abbreviation(types, decls, table, number) else {
+    let Some(decl) = abbreviation(types, decls, number) else {
         return Ok(None);
     };
     match known_argument(known, decl) {
@@ -111,13 +103,10 @@ pub(crate) fn known_part(
 pub(crate) fn known_end(
     alloc: Global,
     types: &Types,
-    decls: &[Decl],
-    table: &Table<'_>,
+    decls: &SoundEnvironment<'_>,
     known: &Known,
     number: usize,
 ) -> Result<usize, Memory>
-    requires places { ArePlaces (names_of_decls decls.now) (length decls.now)
-        (number_of table.now) }
     requires number { number < length types.now }
     ensures leads { IfOk result
         (λ end. (group : Option ℕ) → AreKnown decls.now group known.now
@@ -125,7 +114,7 @@ pub(crate) fn known_end(
     ensures below { IfOk result (λ end. end < length types.now) }
 {
     let mut at = number;
-    while let Some(next) = known_part(alloc, types, decls, table, known, at)? {
+    while let Some(next) = known_part(alloc, types, decls, known, at)? {
         at = next;
     }
     Ok(at)
@@ -170,14 +159,11 @@ fn place(decl: &Decl, name: &[u8]) -> Option<usize>
 fn look(
     alloc: Global,
     types: &mut Types,
-    decls: &[Decl],
-    table: &Table<'_>,
+    decls: &SoundEnvironment<'_>,
     group: Option<usize>,
     known: &mut Known,
     decl: usize,
 ) -> Result<Option<usize>, Memory>
-    requires places { ArePlaces (names_of_decls decls.now) (length decls.now)
-        (number_of table.now) }
     requires decl { decl < length decls.now }
     requires known { AreKnown decls.now group known.old }
     ensures known { OnOk result (AreKnown decls.now group known.new) }
@@ -185,15 +171,15 @@ fn look(
     ensures more { IfOk result (IsMore (index_map_len known.old) (index_map_len known.new)) }
     ensures grown { Grows types.old types.new }
 {
-    let Body::Abbreviation(body) = &decls[decl].body else {
+    let Body::Abbreviation(body) = &decls.at(decl).body else {
         return Ok(None);
     };
     let start = types.add(alloc, body)?;
-    let end = known_end(alloc, types, decls, table, known, start)?;
-    if let Some(other) = abbreviation(types, decls, table, end) {
+    let end = known_end(alloc, types, decls, known, start)?;
+    if let Some(other) = abbreviation(types, decls, end) {
         return first_look(known, other);
     }
-    if let Some(i) = argument(types, &decls[decl], group, end) {
+    if let Some(i) = argument(types, decls.at(decl), group, end) {
         known.insert(decl, Some(i))?;
     }
     Ok(None)
@@ -219,14 +205,11 @@ fn first_look(known: &mut Known, decl: usize) -> Result<Option<usize>, Memory>
 pub(crate) fn look_at(
     alloc: Global,
     types: &mut Types,
-    decls: &[Decl],
-    table: &Table<'_>,
+    decls: &SoundEnvironment<'_>,
     group: Option<usize>,
     known: &mut Known,
     decl: usize,
 ) -> Result<(), Memory>
-    requires places { ArePlaces (names_of_decls decls.now) (length decls.now)
-        (number_of table.now) }
     requires decl { decl < length decls.now }
     requires known { AreKnown decls.now group known.old }
     ensures known { OnOk result (AreKnown decls.now group known.new) }
@@ -237,7 +220,7 @@ pub(crate) fn look_at(
     };
     let mut waiting = vec![in alloc; first]?;
     while let Some(next) = waiting.pop() {
-        if let Some(first) = look(alloc, types, decls, table, group, known, next)? {
+        if let Some(first) = look(alloc, types, decls, group, known, next)? {
             waiting.push(next)?;
             waiting.push(first)?;
         }

@@ -4,9 +4,6 @@ ghost use Rattle.std.specs.Prelude.{◌≡◌, ◌<◌, length, map, All, IfOk};
 ghost use Rattle.om_types.specs.Nodes.{type_at};
 ghost use Rattle.om_types.specs.Shape.{head_shape};
 ghost use Rattle.om_types.specs.Reached.{parts_of};
-ghost use Rattle.om_types.specs.Accepted.{AreSound};
-ghost use Rattle.om_scope.specs.Breaks.{names_of_decls};
-ghost use Rattle.om_scope.specs.Names.{number_of, ArePlaces};
 ghost use Rattle.om_store.specs.Held.{Grows};
 ghost use Rattle.om_layout.specs.Layout.{head_of_types, hashed, IsLayoutOf, IsShapeAt};
 
@@ -16,10 +13,8 @@ use crate::predeclared::predeclared_shape;
 use om_model::Memory;
 use om_model::list::List;
 use om_polyvar::hash;
-use om_scope::declared::declared;
-use om_scope::table::Table;
+use om_scope::SoundEnvironment;
 use om_store::Types;
-use om_types::decl::Decl;
 use om_types::head::{HeadOf, TagOf};
 use om_types::shape::{PolyTag, ShapeOf};
 use std::alloc::Global;
@@ -35,19 +30,15 @@ pub struct Layout {
 pub fn layout_of(
     alloc: Global,
     types: &mut Types,
-    decls: &[Decl],
-    table: &Table<'_>,
+    decls: &SoundEnvironment<'_>,
     number: usize,
 ) -> Result<Layout, Memory>
-    requires places { ArePlaces (names_of_decls decls.now) (length decls.now)
-        (number_of table.now) }
     requires number { number < length types.old }
-    requires sound { AreSound decls.now }
     ensures ok { IfOk result (IsLayoutOf decls.now types.new (type_at types.old number)) }
     ensures grown { Grows types.old types.new }
 {
-    let head = head_of(alloc, types, decls, table, number)?;
-    let shape = shape_at(alloc, types, decls, table, &head)?;
+    let head = head_of(alloc, types, decls, number)?;
+    let shape = shape_at(alloc, types, decls, &head)?;
     Ok(Layout { head, shape })
 }
 
@@ -55,24 +46,20 @@ pub fn layout_of(
 fn shape_at(
     alloc: Global,
     types: &mut Types,
-    decls: &[Decl],
-    table: &Table<'_>,
+    decls: &SoundEnvironment<'_>,
     at: &HeadOf<usize>,
 ) -> Result<ShapeOf<usize>, Memory>
-    requires places { ArePlaces (names_of_decls decls.now) (length decls.now)
-        (number_of table.now) }
     requires within { All (λ i. i < length types.old) (parts_of at.now) }
-    requires sound { AreSound decls.now }
     ensures ok { IfOk result
         (IsShapeAt types.new (head_shape decls.now (head_of_types types.old at.now))) }
     ensures grown { Grows types.old types.new }
 {
     match at {
         HeadOf::Predeclared(base, parts) => {
-            predeclared_shape(alloc, types, decls, table, *base, parts.as_slice())
+            predeclared_shape(alloc, types, decls, *base, parts.as_slice())
         }
-        HeadOf::Datatype(name, parts) => match declared(decls, table, name.as_slice()) {
-            Some(decl) => datatype_shape(alloc, types, decls, table, decl, parts.as_slice()),
+        HeadOf::Datatype(name, parts) => match decls.get(name.as_slice()) {
+            Some(decl) => datatype_shape(alloc, types, decls, decl, parts.as_slice()),
             None => Ok(ShapeOf::Variable),
         },
         HeadOf::Tuple(parts) => Ok(ShapeOf::Product(

@@ -1,20 +1,17 @@
 //! The names of a type's constructors, fields or tags.
 
-ghost use Rattle.std.specs.Prelude.{◌≡◌, ◌++◌, ◌∷◌, [], List, length, map, IfOk, OnOk};
+ghost use Rattle.std.specs.Prelude.{◌≡◌, ◌++◌, ◌∷◌, [], List, map, IfOk, OnOk};
 ghost use Rattle.std.specs.List.{filter_map};
 ghost use Rattle.om_types.specs.Ty.{Ty};
 ghost use Rattle.om_types.specs.Names.{no_names, body_names, head_names, predeclared_type_names, field_names, constant_name, constr_names, plain_constr};
-ghost use Rattle.om_scope.specs.Breaks.{names_of_decls};
-ghost use Rattle.om_scope.specs.Names.{number_of, ArePlaces};
 ghost use Rattle.om_layout.specs.Layout.{head_of_types, named, AreNamesAt};
 
 use crate::datatype::is_constant;
 use om_model::Memory;
 use om_model::list::List;
 use om_polyvar::hash;
-use om_scope::declared::declared;
-use om_scope::table::Table;
-use om_types::decl::{Arguments, Body, Constructor, Decl, Field, Predeclared};
+use om_scope::SoundEnvironment;
+use om_types::decl::{Arguments, Body, Constructor, Field, Predeclared};
 use om_types::head::{HeadOf, TagOf};
 use om_types::names::{ConstrNames, Names, TagName};
 use std::alloc::Global;
@@ -22,32 +19,26 @@ use std::alloc::Global;
 /// The names of a type with this head.
 pub fn names_at(
     alloc: Global,
-    decls: &[Decl],
-    table: &Table<'_>,
+    decls: &SoundEnvironment<'_>,
     at: &HeadOf<usize>,
 ) -> Result<Names, Memory>
-    requires places { ArePlaces (names_of_decls decls.now) (length decls.now)
-        (number_of table.now) }
     ensures { IfOk result (AreNamesAt decls.now at.now) }
 {
-    names_by_head(alloc, decls, table, at)
+    names_by_head(alloc, decls, at)
 }
 
 /// The names that a head has, whatever its parts.
 fn names_by_head(
     alloc: Global,
-    decls: &[Decl],
-    table: &Table<'_>,
+    decls: &SoundEnvironment<'_>,
     at: &HeadOf<usize>,
 ) -> Result<Names, Memory>
-    requires places { ArePlaces (names_of_decls decls.now) (length decls.now)
-        (number_of table.now) }
     ensures { IfOk result
         (λ names. (types : List Ty) → names ≡ head_names decls.now (head_of_types types at.now)) }
 {
     match at {
         HeadOf::Predeclared(base, _) => names_of_predeclared(alloc, *base),
-        HeadOf::Datatype(name, _) => match declared(decls, table, name.as_slice()) {
+        HeadOf::Datatype(name, _) => match decls.get(name.as_slice()) {
             Some(decl) => names_of_body(alloc, &decl.body),
             None => Ok(no_names(alloc)),
         },

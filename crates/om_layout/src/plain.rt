@@ -8,7 +8,7 @@ ghost use Rattle.om_layout.specs.Plain.{IsBracketed, IsPlainHead, head_of_root};
 use crate::spine::{parts, root};
 use om_model::Memory;
 use om_model::list::List;
-use om_scope::declared::predeclared;
+use om_scope::predeclared::predeclared;
 use om_store::{TypeNode, Types};
 use om_types::head::HeadOf;
 use std::alloc::Global;

@@ -5,16 +5,13 @@ ghost use Rattle.om_types.specs.Ty.{Ty};
 ghost use Rattle.om_types.specs.Nodes.{type_at};
 ghost use Rattle.om_types.specs.Shape.{predeclared_shape, block, list_of};
 ghost use Rattle.om_types.specs.declared.shape.ShapeOf.TheVariants as shapes;
-ghost use Rattle.om_types.specs.Accepted.{AreSound};
-ghost use Rattle.om_scope.specs.Breaks.{names_of_decls};
-ghost use Rattle.om_scope.specs.Names.{number_of, ArePlaces};
 ghost use Rattle.om_store.specs.Held.{Grows};
 ghost use Rattle.om_layout.specs.Layout.{array_at, IsShapeAt};
 
 use crate::head::head_of;
 use om_model::Memory;
 use om_model::list::List;
-use om_scope::table::Table;
+use om_scope::SoundEnvironment;
 use om_store::Types;
 use om_types::decl::{Decl, Predeclared};
 use om_types::head::HeadOf;
@@ -25,15 +22,11 @@ use std::alloc::Global;
 pub(crate) fn predeclared_shape(
     alloc: Global,
     types: &mut Types,
-    decls: &[Decl],
-    table: &Table<'_>,
+    decls: &SoundEnvironment<'_>,
     base: Predeclared,
     parts: &[usize],
 ) -> Result<ShapeOf<usize>, Memory>
-    requires places { ArePlaces (names_of_decls decls.now) (length decls.now)
-        (number_of table.now) }
     requires within { All (λ i. i < length types.old) parts.now }
-    requires sound { AreSound decls.now }
     ensures ok { IfOk result
         (IsShapeAt types.new
         (predeclared_shape decls.now base (map (type_at types.old) parts.now))) }
@@ -41,7 +34,7 @@ pub(crate) fn predeclared_shape(
 {
     match parts {
         [] => Ok(alone(base)),
-        [part] => of_one(alloc, types, decls, table, base, *part),
+        [part] => of_one(alloc, types, decls, base, *part),
         _ => Ok(ShapeOf::Variable),
     }
 }
@@ -74,15 +67,11 @@ fn alone(base: Predeclared) -> ShapeOf<usize>
 fn of_one(
     alloc: Global,
     types: &mut Types,
-    decls: &[Decl],
-    table: &Table<'_>,
+    decls: &SoundEnvironment<'_>,
     base: Predeclared,
     part: usize,
 ) -> Result<ShapeOf<usize>, Memory>
-    requires places { ArePlaces (names_of_decls decls.now) (length decls.now)
-        (number_of table.now) }
     requires part { part < length types.old }
-    requires sound { AreSound decls.now }
     ensures ok { IfOk result
         (IsShapeAt types.new (predeclared_shape decls.now base (type_at types.old part ∷ []))) }
     ensures grown { Grows types.old types.new }
@@ -92,7 +81,7 @@ fn of_one(
         Predeclared::Option => one_block(alloc, 1, false, vec![in alloc; part]?),
         Predeclared::Ref => one_block(alloc, 0, true, vec![in alloc; part]?),
         Predeclared::Array => {
-            let head = head_of(alloc, types, decls, table, part)?;
+            let head = head_of(alloc, types, decls, part)?;
             Ok(array_at(&head, part))
         }
         _ => Ok(ShapeOf::Variable),

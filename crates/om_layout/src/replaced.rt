@@ -3,9 +3,6 @@
 ghost use Rattle.std.specs.Prelude.{ℕ, ◌≡◌, ◌<◌, Option, None, length, IfOk, OnErr, OnOk, MatchOption};
 ghost use Rattle.om_types.specs.Nodes.{type_at};
 ghost use Rattle.om_types.specs.Declarations.{unfolded, IsExpanded};
-ghost use Rattle.om_types.specs.Accepted.{AreSound};
-ghost use Rattle.om_scope.specs.Breaks.{names_of_decls};
-ghost use Rattle.om_scope.specs.Names.{number_of, ArePlaces};
 ghost use Rattle.om_store.specs.Held.{Grows};
 ghost use Rattle.om_layout.specs.Unfolded.{IsReplaced, IsLeft, HasHeadOf};
 ghost use Rattle.om_layout.specs.Way.{AreKnown, IsNearer};
@@ -13,10 +10,9 @@ ghost use Rattle.om_layout.specs.Way.{AreKnown, IsNearer};
 use crate::known::{Known, abbreviation, known_part, look_at, none_known};
 use crate::spine::{name, parts};
 use om_model::Memory;
-use om_scope::declared::declared;
-use om_scope::table::Table;
+use om_scope::SoundEnvironment;
 use om_store::Types;
-use om_types::decl::{Body, Decl};
+use om_types::decl::Body;
 use std::alloc::Global;
 
 /// The type after one replacement at its head, where an abbreviation is there. It takes a step for
@@ -24,12 +20,9 @@ use std::alloc::Global;
 pub fn unfolded(
     alloc: Global,
     types: &mut Types,
-    decls: &[Decl],
-    table: &Table<'_>,
+    decls: &SoundEnvironment<'_>,
     number: usize,
 ) -> Result<Option<usize>, Memory>
-    requires places { ArePlaces (names_of_decls decls.now) (length decls.now)
-        (number_of table.now) }
     requires number { number < length types.old }
     ensures ok { IfOk result
         (λ next. MatchOption next
@@ -38,7 +31,7 @@ pub fn unfolded(
     ensures err { OnErr result (types.new ≡ types.old) }
 {
     let decl = match name(types, number) {
-        Some(name) => declared(decls, table, name),
+        Some(name) => decls.get(name),
         None => None,
     };
     let Some(decl) = decl else {
@@ -61,12 +54,9 @@ pub fn unfolded(
 fn once(
     alloc: Global,
     types: &mut Types,
-    decls: &[Decl],
-    table: &Table<'_>,
+    decls: &SoundEnvironment<'_>,
     number: usize,
 ) -> Result<Option<usize>, Memory>
-    requires places { ArePlaces (names_of_decls decls.now) (length decls.now)
-        (number_of table.now) }
     requires number { number < length types.old }
     ensures ok { IfOk result
         (λ next. MatchOption next (unfolded decls.now (type_at types.old number) ≡ None)
@@ -74,7 +64,7 @@ fn once(
         → IsNearer decls.now group types.new (type_at types.old number) n)) }
     ensures grown { Grows types.old types.new }
 {
-    unfolded(alloc, types, decls, table, number)
+    unfolded(alloc, types, decls, number)
 }
 
 /// The type after the replacements that this abbreviation at its head is known to begin, or after
@@ -82,13 +72,10 @@ fn once(
 fn passed(
     alloc: Global,
     types: &mut Types,
-    decls: &[Decl],
-    table: &Table<'_>,
+    decls: &SoundEnvironment<'_>,
     known: &Known,
     number: usize,
 ) -> Result<Option<usize>, Memory>
-    requires places { ArePlaces (names_of_decls decls.now) (length decls.now)
-        (number_of table.now) }
     requires number { number < length types.old }
     ensures ok { IfOk result
         (λ next. (group : Option ℕ) → AreKnown decls.now group known.now
@@ -96,9 +83,9 @@ fn passed(
         (IsNearer decls.now group types.new (type_at types.old number))) }
     ensures grown { Grows types.old types.new }
 {
-    match known_part(alloc, types, decls, table, known, number)? {
+    match known_part(alloc, types, decls, known, number)? {
         Some(next) => Ok(Some(next)),
-        None => once(alloc, types, decls, table, number),
+        None => once(alloc, types, decls, number),
     }
 }
 
@@ -107,14 +94,11 @@ fn passed(
 pub fn nearer(
     alloc: Global,
     types: &mut Types,
-    decls: &[Decl],
-    table: &Table<'_>,
+    decls: &SoundEnvironment<'_>,
     group: Option<usize>,
     known: &mut Known,
     number: usize,
 ) -> Result<Option<usize>, Memory>
-    requires places { ArePlaces (names_of_decls decls.now) (length decls.now)
-        (number_of table.now) }
     requires number { number < length types.old }
     requires known { AreKnown decls.now group known.old }
     ensures ok { IfOk result
@@ -123,11 +107,11 @@ pub fn nearer(
     ensures known { OnOk result (AreKnown decls.now group known.new) }
     ensures grown { Grows types.old types.new }
 {
-    let Some(decl) = abbreviation(types, decls, table, number) else {
-        return passed(alloc, types, decls, table, known, number);
+    let Some(decl) = abbreviation(types, decls, number) else {
+        return passed(alloc, types, decls, known, number);
     };
-    look_at(alloc, types, decls, table, group, known, decl)?;
-    passed(alloc, types, decls, table, known, number)
+    look_at(alloc, types, decls, group, known, decl)?;
+    passed(alloc, types, decls, known, number)
 }
 
 /// The type after all replacements at its head. An abbreviation that comes to one of its arguments
@@ -136,22 +120,19 @@ pub fn nearer(
 pub fn expanded(
     alloc: Global,
     types: &mut Types,
-    decls: &[Decl],
-    table: &Table<'_>,
+    decls: &SoundEnvironment<'_>,
     number: usize,
 ) -> Result<usize, Memory>
-    requires places { ArePlaces (names_of_decls decls.now) (length decls.now)
-        (number_of table.now) }
     requires number { number < length types.old }
-    requires sound { AreSound decls.now }
     ensures ok { IfOk result (HasHeadOf decls.now types.new (type_at types.old number)) }
     ensures expanded { IfOk result
         (λ i. IsExpanded decls.now (type_at types.old number) (type_at types.new i)) }
     ensures grown { Grows types.old types.new }
 {
+    decls.holds();
     let mut known = none_known(alloc);
     let mut at = number;
-    'next: while let Some(next) = nearer(alloc, types, decls, table, None, &mut known, at)? {
+    'next: while let Some(next) = nearer(alloc, types, decls, None, &mut known, at)? {
         at = next;
     }
     Ok(at)

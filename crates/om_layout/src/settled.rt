@@ -6,8 +6,6 @@ ghost use Rattle.om_types.specs.declared.head.TagOf.{TagOf as Tag};
 ghost use Rattle.om_types.specs.Ty.{Ty};
 ghost use Rattle.om_types.specs.Nodes.{type_at};
 ghost use Rattle.om_types.specs.Accepted.{AreSound};
-ghost use Rattle.om_scope.specs.Breaks.{names_of_decls};
-ghost use Rattle.om_scope.specs.Names.{number_of, ArePlaces};
 ghost use Rattle.om_store.specs.Held.{Grows};
 ghost use Rattle.om_layout.specs.Tags.{tags_at, tags_of_entries};
 ghost use Rattle.om_layout.specs.Way.{AreKnown};
@@ -18,9 +16,9 @@ use crate::bracket::{Tags, before_item, has_bracket};
 use crate::known::{Known, abbreviation, known_end};
 use indexmap::IndexSet;
 use om_model::Memory;
-use om_scope::table::Table;
+use om_scope::SoundEnvironment;
 use om_store::{TypeNode, Types};
-use om_types::decl::{Body, Decl};
+use om_types::decl::Body;
 use std::alloc::Global;
 
 /// Abbreviations, by the numbers of their declarations, whose tags are all there, at any arguments.
@@ -42,17 +40,13 @@ pub(crate) fn is_settled(settled: &Settled, decl: Option<usize>) -> bool
 pub(crate) fn settle(
     alloc: Global,
     types: &mut Types,
-    decls: &[Decl],
-    table: &Table<'_>,
+    decls: &SoundEnvironment<'_>,
     known: &Known,
     tags: &Tags,
     settled: &mut Settled,
     decl: usize,
 ) -> Result<(), Memory>
-    requires places { ArePlaces (names_of_decls decls.now) (length decls.now)
-        (number_of table.now) }
     requires decl { decl < length decls.now }
-    requires sound { AreSound decls.now }
     requires known { AreKnown decls.now None known.now }
     ensures settled { let there = tags_at types.new (tags_of_entries tags.now.entries) in
         OnOk result
@@ -60,11 +54,12 @@ pub(crate) fn settle(
         → AreSettled decls.now there settled.new.keys) }
     ensures grown { Grows types.old types.new }
 {
-    let Body::Abbreviation(body) = &decls[decl].body else {
+    let Body::Abbreviation(body) = &decls.at(decl).body else {
         return Ok(());
     };
+    decls.holds();
     let number = types.add(alloc, body)?;
-    if are_there(alloc, types, decls, table, known, tags, settled, number)? {
+    if are_there(alloc, types, decls, known, tags, settled, number)? {
         settled.insert(decl)?;
     }
     Ok(())
@@ -74,17 +69,13 @@ pub(crate) fn settle(
 fn are_there(
     alloc: Global,
     types: &Types,
-    decls: &[Decl],
-    table: &Table<'_>,
+    decls: &SoundEnvironment<'_>,
     known: &Known,
     tags: &Tags,
     settled: &Settled,
     number: usize,
 ) -> Result<bool, Memory>
-    requires places { ArePlaces (names_of_decls decls.now) (length decls.now)
-        (number_of table.now) }
     requires number { number < length types.now }
-    requires sound { AreSound decls.now }
     requires known { AreKnown decls.now None known.now }
     ensures { let there = tags_at types.now (tags_of_entries tags.now.entries) in
         IfOk result
@@ -97,7 +88,6 @@ fn are_there(
             alloc,
             types,
             decls,
-            table,
             known,
             tags,
             settled,
@@ -114,18 +104,14 @@ fn are_there(
 fn is_there(
     alloc: Global,
     types: &Types,
-    decls: &[Decl],
-    table: &Table<'_>,
+    decls: &SoundEnvironment<'_>,
     known: &Known,
     tags: &Tags,
     settled: &Settled,
     number: usize,
     waiting: &mut Vec<usize>,
 ) -> Result<bool, Memory>
-    requires places { ArePlaces (names_of_decls decls.now) (length decls.now)
-        (number_of table.now) }
     requires number { number < length types.now }
-    requires sound { AreSound decls.now }
     requires known { AreKnown decls.now None known.now }
     requires within { All (λ n. n < length types.now) waiting.old.items }
     ensures there { let there = tags_at types.now (tags_of_entries tags.now.entries) in
@@ -141,8 +127,9 @@ fn is_there(
         + work decls.now (type_at types.now number)) }
     ensures within { OnOk result (All (λ n. n < length types.now) waiting.new.items) }
 {
-    let end = known_end(alloc, types, decls, table, known, number)?;
-    match abbreviation(types, decls, table, end) {
+    decls.holds();
+    let end = known_end(alloc, types, decls, known, number)?;
+    match abbreviation(types, decls, end) {
         Some(decl) => Ok(settled.contains(&decl)),
         None => items_are_there(types, tags, end, waiting),
     }

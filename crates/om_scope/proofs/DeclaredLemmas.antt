@@ -1,7 +1,7 @@
 -- The declaration of a name is the first that has it.
 use Rattle.std.proofs.Common.{ℕ, zero, suc, ◌<◌, ◌≡◌, ◌≢◌, Option, Some, None, List, [], ◌∷◌, Bool}
 use Rattle.std.proofs.Common.{true, false, cond, length, get_or, refl, sym, ap, subst, arith, ◌∙◌}
-use Rattle.std.specs.Prelude.{slice_get, MatchOption, option_map, is_some, IsSome, IsTrue, ◌↔◌}
+use Rattle.std.specs.Prelude.{slice_get, option_map, is_some, IsSome, IsTrue, ◌↔◌}
 use Rattle.std.specs.Str.{bytes_eq}
 use Rattle.std.proofs.lemmas.Slice.Eq.{bytes_eq-Decides}
 use Rattle.std.proofs.lemmas.Option.{slice_get-map, same_Some, none-some}
@@ -10,7 +10,7 @@ use Rattle.om_types.specs.declared.decl.Decl.{Decl}
 use Rattle.om_types.specs.declared.decl.Predeclared.{Predeclared}
 use Rattle.om_types.specs.declared.decl.Predeclared.{Predeclared}
 use Rattle.om_types.specs.Declarations.{declaration_of, predeclared_arity}
-use Rattle.om_scope.specs.Names.{IsFirstPlace}
+use Rattle.om_scope.specs.Names.{IsFirstPlace, IsPlace}
 use Rattle.om_scope.specs.Breaks.{names_of_decls}
 
 same_bytes : (xs ys : List ℕ) → xs ≡ ys → bytes_eq xs ys ≡ true
@@ -59,14 +59,14 @@ found_at decls name j place d read =
 
 pub place_of :
     (names : List (List ℕ)) (n : ℕ) (name : List ℕ) (found : Option ℕ) (j : ℕ) → found ≡ Some j
-    → MatchOption found ((i : ℕ) → i < n → slice_get names i ≢ Some name) (IsFirstPlace names n name)
+    → IsPlace names n name found
     → IsFirstPlace names n name j
 place_of names n name None j is at = absurd (none-some j is)
 place_of names n name (Some i) j is at = subst (IsFirstPlace names n name) (same_Some i j is) at
 
 pub nowhere :
     (names : List (List ℕ)) (n : ℕ) (name : List ℕ) (found : Option ℕ) → found ≡ None
-    → MatchOption found ((i : ℕ) → i < n → slice_get names i ≢ Some name) (IsFirstPlace names n name)
+    → IsPlace names n name found
     → (i : ℕ) → i < n → slice_get names i ≢ Some name
 nowhere names n name None is at = at
 nowhere names n name (Some i) is at = absurd (none-some i (sym is))

@@ -1,21 +1,17 @@
 -- Tables of names.
 use Rattle.std.proofs.Common.{ℕ, ◌<◌, ◌+◌, ◌≡◌, ◌≢◌, ⊎_elim, Option, Some, None, List, Bool}
 use Rattle.std.proofs.Common.{true, false, cond, length, refl, sym, ap, subst, arith, ◌∙◌}
-use Rattle.std.specs.Prelude.{slice_get, MatchOption, unwrap_or, IsTrue, is_some, not, ◌↔◌, Contains}
+use Rattle.std.specs.Prelude.{slice_get, unwrap_or, IsTrue, is_some, not, ◌↔◌, Contains}
 use Rattle.std.specs.Str.{bytes_eq}
 use Rattle.std.proofs.lemmas.Bool.{cases_lt, false≢true}
 use Rattle.std.proofs.lemmas.Slice.Eq.{bytes_eq-Decides}
 use Rattle.std.proofs.lemmas.Option.{same_Some, slice_get-get_or, get_or_from_slice_get}
-use Rattle.om_scope.specs.Names.{added, IsFirstPlace, ArePlaces}
-
-abbrev pub Finds : List (List ℕ) → ℕ → List ℕ → Option ℕ → Type 0
-Finds names n name found = MatchOption found ((i : ℕ) → i < n → slice_get names i ≢ Some name)
-    (IsFirstPlace names n name)
+use Rattle.om_scope.specs.Names.{added, IsPlace, ArePlaces}
 
 more_places :
     (names : List (List ℕ)) (n : ℕ) (q name : List ℕ) (found : Option ℕ)
-    → slice_get names n ≡ Some name → (name ≡ q → ⊥) → Finds names n q found
-    → Finds names (n + 1) q found
+    → slice_get names n ≡ Some name → (name ≡ q → ⊥) → IsPlace names n q found
+    → IsPlace names (n + 1) q found
 more_places names n q name None here apart none = λ i below at. ⊎_elim
     (λ before. none i before at)
     (λ last. let e : i ≡ n = omega arith in
@@ -26,8 +22,8 @@ more_places names n q name (Some j) here apart place =
 
 kept_place :
     (names : List (List ℕ)) (n : ℕ) (name : List ℕ) (found : Option ℕ)
-    → slice_get names n ≡ Some name → Finds names n name found
-    → Finds names (n + 1) name (Some (unwrap_or found n))
+    → slice_get names n ≡ Some name → IsPlace names n name found
+    → IsPlace names (n + 1) name (Some (unwrap_or found n))
 kept_place names n name None here none = record { below = omega arith; is = here; first = none }
 kept_place names n name (Some j) here place =
     record { below = let b = place.below in omega arith; is = place.is; first = place.first }
@@ -36,9 +32,9 @@ places_at :
     (names : List (List ℕ)) (n : ℕ) (name q : List ℕ) (numbers : List ℕ → Option ℕ)
     (same : Bool) → (IsTrue same → name ≡ q) → (name ≡ q → IsTrue same)
     → slice_get names n ≡ Some name → ArePlaces names n numbers
-    → Finds names (n + 1) q (cond same (Some (unwrap_or (numbers name) n)) (numbers q))
+    → IsPlace names (n + 1) q (cond same (Some (unwrap_or (numbers name) n)) (numbers q))
 places_at names n name q numbers true to from here places =
-    subst (λ x. Finds names (n + 1) x (Some (unwrap_or (numbers name) n))) (to refl)
+    subst (λ x. IsPlace names (n + 1) x (Some (unwrap_or (numbers name) n))) (to refl)
     (kept_place names n name (numbers name) here (places name))
 places_at names n name q numbers false to from here places =
     more_places names n q name (numbers q) here (λ same. absurd (false≢true (from same))) (places q)
@@ -49,14 +45,14 @@ pub places_more :
     → slice_get names n ≡ Some name → ArePlaces names n numbers
     → ((q : List ℕ) → next q ≡ added numbers name n q) → ArePlaces names (n + 1) next
 places_more names n name numbers next here places is = λ q.
-    subst (Finds names (n + 1) q) (sym (is q))
+    subst (IsPlace names (n + 1) q) (sym (is q))
     (places_at names n name q numbers (bytes_eq name q) (bytes_eq-Decides name q).0
     (bytes_eq-Decides name q).1 here places)
 
 -- a name that the table of all names does not have is none of them
 pub absent :
     (names : List (List ℕ)) (name : List ℕ) (found : Option ℕ) (test : Bool)
-    → Finds names (length names) name found → is_some found ≡ not test
+    → IsPlace names (length names) name found → is_some found ≡ not test
     → IsTrue test ↔ (¬ Contains names name)
 absent names name None true finds is = (
   λ yes among. finds among.0 among.1

@@ -53,12 +53,6 @@ module _ {X : Type 0} (xs : List X) (LeadsTo : X → ℕ → Type 0) where
         ((before_more (AtItem xs LeadsTo) i k).1 some),
   )
 
-  pub led_first : AreLed 0 []
-  led_first = λ k. (
-    λ among. absurd (Contains-none k among),
-    λ some. let less : some.0 < 0 = some.1 in absurd (omega arith),
-  )
-
   pub led_all :
       (i : ℕ) (found : List ℕ) → i ≤ length xs → length xs ≤ i → AreLed i found → (j : ℕ)
       → Contains found j ↔ ((x : X) × Contains xs x × LeadsTo x j)

@@ -22,9 +22,11 @@ pub record IsFirstPlace (names : List (List ℕ)) (n : ℕ) (name : List ℕ) (j
   pub is : slice_get names j ≡ Some name
   pub first : (i : ℕ) → i < j → slice_get names i ≢ Some name
 
+-- this is the first place of the name among the first n names, where it is there
+abbrev pub IsPlace : List (List ℕ) → ℕ → List ℕ → Option ℕ → Type 0
+IsPlace names n name place =
+    MatchOption place ((i : ℕ) → i < n → slice_get names i ≢ Some name) (IsFirstPlace names n name)
+
 -- the numbers are the first places of the first n names
 abbrev pub ArePlaces : List (List ℕ) → ℕ → (List ℕ → Option ℕ) → Type 0
-ArePlaces names n numbers =
-    (name : List ℕ)
-    → MatchOption (numbers name) ((i : ℕ) → i < n → slice_get names i ≢ Some name)
-    (IsFirstPlace names n name)
+ArePlaces names n numbers = (name : List ℕ) → IsPlace names n name (numbers name)

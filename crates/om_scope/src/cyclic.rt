@@ -9,6 +9,7 @@ ghost use Rattle.om_scope.specs.Least.{IsLeast};
 ghost use Rattle.om_scope.specs.Ranks.{AreRanks};
 ghost use Rattle.om_scope.specs.Sites.{AreSites};
 
+use crate::environment::Environment;
 use crate::least::{place_if, sooner};
 use crate::ranks::{Mark, is_ranked, ranks};
 use crate::search::is_on_cycle;
@@ -16,7 +17,6 @@ use crate::site::{Placed, Site};
 use crate::steps::step_graph;
 use om_model::Memory;
 use om_model::list::List;
-use om_types::decl::Decl;
 use std::alloc::Global;
 
 /// Whether a place comes before this one, where there is one.
@@ -72,7 +72,7 @@ fn least_cyclic_name(
 /// The least lexeme of the name of an abbreviation that comes back to itself.
 pub fn least_cyclic(
     alloc: Global,
-    decls: &[Decl],
+    decls: &Environment<'_>,
     names: &[Placed],
     sites: &[Site],
 ) -> Result<Option<usize>, Memory>

@@ -7,6 +7,7 @@ ghost use Rattle.om_scope.specs.Breaks.{rule_of};
 ghost use Rattle.om_scope.specs.First.{IsFirstBefore};
 ghost use Rattle.om_scope.specs.Sites.{AreSites, IsTypeSite};
 
+use crate::environment::Environment;
 use crate::rule::NameRule;
 use crate::site::{Placed, Site, TypeSite};
 use crate::sites::{least_break, least_break_in_type};
@@ -48,6 +49,21 @@ pub fn first_break(
     requires { AreSites decls.now names.now sites.now all }
     ensures { IfOk result (IsFirstBefore (BreaksInFile all) 7) }
 {
+    let environment = Environment::new(alloc, decls)?;
+    first_of_file(alloc, &environment, names, sites)
+}
+
+/// The same, with the places of declared names.
+fn first_of_file(
+    alloc: Global,
+    decls: &Environment<'_>,
+    names: &[Placed],
+    sites: &[Site],
+) -> Result<Option<Broken>, Memory>
+    ghost all: { List DeclPlaces }
+    requires { AreSites decls.now names.now sites.now all }
+    ensures { IfOk result (IsFirstBefore (BreaksInFile all) 7) }
+{
     for i in 0..7 {
         let rule = rule_at(i);
         if let Some(place) = least_break(alloc, rule, decls, names, sites)? {
@@ -61,6 +77,20 @@ pub fn first_break(
 pub fn first_break_in_type(
     alloc: Global,
     decls: &[Decl],
+    site: &TypeSite,
+) -> Result<Option<Broken>, Memory>
+    ghost occurrences: { List Occurrence }
+    requires { IsTypeSite site.now occurrences }
+    ensures { IfOk result (IsFirstBefore (BreaksInType decls.now occurrences) 7) }
+{
+    let environment = Environment::new(alloc, decls)?;
+    first_of_type(alloc, &environment, site)
+}
+
+/// The same, with the places of declared names.
+fn first_of_type(
+    alloc: Global,
+    decls: &Environment<'_>,
     site: &TypeSite,
 ) -> Result<Option<Broken>, Memory>
     ghost occurrences: { List Occurrence }

@@ -3,25 +3,29 @@
 
 mod brackets;
 mod cyclic;
-pub mod declared;
+mod environment;
 mod first;
 mod graph;
 mod least;
 mod names;
+pub mod predeclared;
 mod ranks;
 mod rule;
 mod search;
 mod seconds;
 mod site;
 mod sites;
+mod sound;
 mod steps;
-pub mod table;
+mod table;
 mod uses;
 mod variables;
 
 pub use brackets::{BracketItem, TypeBrackets};
+pub use environment::Environment;
 pub use first::{Broken, first_break, first_break_in_type};
 pub use least::{place_if, sooner};
 pub use rule::NameRule;
 pub use site::{Placed, Site, TypeSite, Use};
 pub use sites::{least_break, least_break_in_type};
+pub use sound::SoundEnvironment;

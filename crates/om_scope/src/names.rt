@@ -4,8 +4,8 @@ ghost use Rattle.std.specs.Prelude.{IfOk};
 ghost use Rattle.om_scope.specs.Breaks.{IsPredeclaredAt, NamesTwice};
 ghost use Rattle.om_scope.specs.Least.{IsLeast};
 
-use crate::declared::predeclared_arity;
 use crate::least::{place_if, sooner};
+use crate::predeclared::predeclared_arity;
 use crate::seconds::least_second;
 use crate::site::Placed;
 use om_model::Memory;

@@ -3,19 +3,17 @@
 ghost use Rattle.std.specs.Prelude.{◌≡◌, ℕ, List, IfOk, length, slice_get};
 ghost use Rattle.om_types.specs.Occurrence.{DeclPlaces, Occurrence};
 ghost use Rattle.om_types.specs.Scope.{BreaksInFile, BreaksInType, NamesBreak, twice};
-ghost use Rattle.om_scope.specs.Breaks.{names_of_decls, SiteBreaks, SitesBreak, NameBreaks, TypeBreaks, WantsDistinctNames, rule_of};
+ghost use Rattle.om_scope.specs.Breaks.{SiteBreaks, SitesBreak, NameBreaks, TypeBreaks, WantsDistinctNames, rule_of};
 ghost use Rattle.om_scope.specs.Least.{IsLeast};
-ghost use Rattle.om_scope.specs.Names.{number_of, ArePlaces};
 ghost use Rattle.om_scope.specs.Sites.{AreSites, IsTypeSite};
 
 use crate::cyclic::least_cyclic;
-use crate::declared::table_of;
+use crate::environment::Environment;
 use crate::least::sooner;
 use crate::names::least_name_twice;
 use crate::rule::{NameRule, UseRule};
 use crate::seconds::least_second_of_rows;
 use crate::site::{Placed, Site, TypeSite};
-use crate::table::Table;
 use crate::uses::least_use;
 use crate::variables::least_unbound;
 use om_model::Memory;
@@ -33,27 +31,25 @@ fn nth(places: &[usize], n: usize) -> Option<usize>
 fn least_in_site(
     alloc: Global,
     rule: NameRule,
-    decls: &[Decl],
-    table: &Table<'_>,
+    decls: &Environment<'_>,
     decl: &Decl,
     site: &Site,
 ) -> Result<Option<usize>, Memory>
-    requires { ArePlaces (names_of_decls decls.now) (length decls.now) (number_of table.now) }
     ensures { IfOk result (IsLeast (SiteBreaks rule decls.now decl.now site.now)) }
 {
     let uses = site.uses.as_slice();
     let group = Some(decl.group);
     match rule {
         NameRule::Twice => least_second_of_rows(alloc, site.rows.as_slice()),
-        NameRule::UnknownName => Ok(least_use(UseRule::UnknownName, decls, table, group, uses)),
-        NameRule::Arity => Ok(least_use(UseRule::Arity, decls, table, group, uses)),
+        NameRule::UnknownName => Ok(least_use(UseRule::UnknownName, decls, group, uses)),
+        NameRule::Arity => Ok(least_use(UseRule::Arity, decls, group, uses)),
         NameRule::UnboundVariable => least_unbound(
             alloc,
             decl.parameters.as_slice(),
             site.variables.as_slice(),
         ),
         NameRule::Cyclic => Ok(None),
-        NameRule::Irregular => Ok(least_use(UseRule::Irregular, decls, table, group, uses)),
+        NameRule::Irregular => Ok(least_use(UseRule::Irregular, decls, group, uses)),
         NameRule::TooManyConstructors => Ok(nth(site.carrying.as_slice(), 244)),
     }
 }
@@ -62,18 +58,16 @@ fn least_in_site(
 pub fn least_in_type(
     alloc: Global,
     rule: NameRule,
-    decls: &[Decl],
-    table: &Table<'_>,
+    decls: &Environment<'_>,
     site: &TypeSite,
 ) -> Result<Option<usize>, Memory>
-    requires { ArePlaces (names_of_decls decls.now) (length decls.now) (number_of table.now) }
     ensures { IfOk result (IsLeast (TypeBreaks rule decls.now site.now)) }
 {
     let uses = site.uses.as_slice();
     match rule {
         NameRule::Twice => least_second_of_rows(alloc, site.rows.as_slice()),
-        NameRule::UnknownName => Ok(least_use(UseRule::UnknownName, decls, table, None, uses)),
-        NameRule::Arity => Ok(least_use(UseRule::Arity, decls, table, None, uses)),
+        NameRule::UnknownName => Ok(least_use(UseRule::UnknownName, decls, None, uses)),
+        NameRule::Arity => Ok(least_use(UseRule::Arity, decls, None, uses)),
         NameRule::UnboundVariable
         | NameRule::Cyclic
         | NameRule::Irregular
@@ -85,16 +79,15 @@ pub fn least_in_type(
 pub fn least_in_sites(
     alloc: Global,
     rule: NameRule,
-    decls: &[Decl],
+    decls: &Environment<'_>,
     sites: &[Site],
 ) -> Result<Option<usize>, Memory>
     requires { length decls.now ≡ length sites.now }
     ensures { IfOk result (IsLeast (SitesBreak rule decls.now sites.now)) }
 {
-    let table = table_of(alloc, decls)?;
     let mut best = None;
     for i in 0..decls.len() {
-        let found = least_in_site(alloc, rule, decls, &table, &decls[i], &sites[i])?;
+        let found = least_in_site(alloc, rule, decls, decls.at(i), &sites[i])?;
         best = sooner(best, found);
     }
     Ok(best)
@@ -118,7 +111,7 @@ pub fn least_in_names(
 pub fn least_break(
     alloc: Global,
     rule: NameRule,
-    decls: &[Decl],
+    decls: &Environment<'_>,
     names: &[Placed],
     sites: &[Site],
 ) -> Result<Option<usize>, Memory>
@@ -141,13 +134,12 @@ pub fn least_break(
 pub fn least_break_in_type(
     alloc: Global,
     rule: NameRule,
-    decls: &[Decl],
+    decls: &Environment<'_>,
     site: &TypeSite,
 ) -> Result<Option<usize>, Memory>
     ghost occurrences: { List Occurrence }
     requires { IsTypeSite site.now occurrences }
     ensures { IfOk result (IsLeast (BreaksInType decls.now occurrences (rule_of rule))) }
 {
-    let table = table_of(alloc, decls)?;
-    least_in_type(alloc, rule, decls, &table, site)
+    least_in_type(alloc, rule, decls, site)
 }

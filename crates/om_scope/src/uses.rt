@@ -1,26 +1,24 @@
 //! Rules on the uses of names.
 
-ghost use Rattle.std.specs.Prelude.{◌≡◌, ◌↔◌, IsTrue, length, option_copied};
+ghost use Rattle.std.specs.Prelude.{◌≡◌, ◌↔◌, IsTrue, option_copied};
 ghost use Rattle.om_types.specs.Declarations.{arity_of};
-ghost use Rattle.om_scope.specs.Breaks.{names_of_decls, BreaksUse, UsesBreak, Later, OfGroup, IsOther};
+ghost use Rattle.om_scope.specs.Breaks.{BreaksUse, UsesBreak, Later, OfGroup, IsOther};
 ghost use Rattle.om_scope.specs.Least.{IsLeast};
-ghost use Rattle.om_scope.specs.Names.{number_of, ArePlaces};
 
-use crate::declared::{declared, predeclared_arity};
+use crate::environment::Environment;
 use crate::least::{place_if, sooner};
+use crate::predeclared::predeclared_arity;
 use crate::rule::UseRule;
 use crate::site::Use;
-use crate::table::Table;
 use om_types::decl::Decl;
 
 /// How many arguments a name takes.
-fn arity(decls: &[Decl], table: &Table<'_>, name: &[u8]) -> Option<usize>
-    requires { ArePlaces (names_of_decls decls.now) (length decls.now) (number_of table.now) }
+fn arity(decls: &Environment<'_>, name: &[u8]) -> Option<usize>
     ensures { result ≡ arity_of decls.now name.now }
 {
     match predeclared_arity(name) {
         Some(n) => Some(n),
-        None => match declared(decls, table, name) {
+        None => match decls.get(name) {
             Some(decl) => Some(decl.parameters.len()),
             None => None,
         },
@@ -59,40 +57,31 @@ fn is_other(arity: Option<usize>, arguments: usize) -> bool
 }
 
 /// Whether a use breaks the rule, in a declaration of this group or in the text of a type.
-fn breaks(
-    rule: UseRule,
-    decls: &[Decl],
-    table: &Table<'_>,
-    group: Option<usize>,
-    usage: &Use,
-) -> bool
-    requires { ArePlaces (names_of_decls decls.now) (length decls.now) (number_of table.now) }
+fn breaks(rule: UseRule, decls: &Environment<'_>, group: Option<usize>, usage: &Use) -> bool
     ensures { IsTrue result ↔ BreaksUse rule decls.now group usage.now }
 {
     let name = usage.name.as_slice();
     match rule {
         UseRule::UnknownName => predeclared_arity(name).is_none()
-            && is_later(declared(decls, table, name), group),
-        UseRule::Arity => is_other(arity(decls, table, name), usage.arguments),
-        UseRule::Irregular => usage.grows && is_of_group(declared(decls, table, name), group),
+            && is_later(decls.get(name), group),
+        UseRule::Arity => is_other(arity(decls, name), usage.arguments),
+        UseRule::Irregular => usage.grows && is_of_group(decls.get(name), group),
     }
 }
 
 /// The least place of a use that breaks the rule.
 pub fn least_use(
     rule: UseRule,
-    decls: &[Decl],
-    table: &Table<'_>,
+    decls: &Environment<'_>,
     group: Option<usize>,
     uses: &[Use],
 ) -> Option<usize>
-    requires { ArePlaces (names_of_decls decls.now) (length decls.now) (number_of table.now) }
     ensures { IsLeast (UsesBreak rule decls.now group uses.now) result }
 {
     let mut best = None;
     for i in 0..uses.len() {
         let usage = &uses[i];
-        let broken = breaks(rule, decls, table, group, usage);
+        let broken = breaks(rule, decls, group, usage);
         best = sooner(best, place_if(broken, usage.place));
     }
     best

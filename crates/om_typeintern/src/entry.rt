@@ -3,9 +3,6 @@
 ghost use Rattle.std.specs.Prelude.{◌<◌, List, length, IfOk, OnOk};
 ghost use Rattle.om_types.specs.declared.decl.Decl.{Decl as Declaration};
 ghost use Rattle.om_types.specs.Nodes.{type_at};
-ghost use Rattle.om_types.specs.Accepted.{AreSound};
-ghost use Rattle.om_scope.specs.Breaks.{names_of_decls};
-ghost use Rattle.om_scope.specs.Names.{number_of, ArePlaces};
 ghost use Rattle.om_store.specs.Held.{Grows, AreDistinct};
 ghost use Rattle.om_layout.specs.Layout.{AreNamesAt};
 ghost use Rattle.om_typeintern.specs.Listed.{types_at, AreWithin, IsPlacedEntry, IsEntry};
@@ -15,9 +12,8 @@ use crate::met::Met;
 use crate::shape::placed_shape;
 use om_layout::{Layout, layout_of, names_at};
 use om_model::Memory;
-use om_scope::table::Table;
+use om_scope::SoundEnvironment;
 use om_store::Types;
-use om_types::decl::Decl;
 use om_types::head::HeadOf;
 use om_types::names::Names;
 use om_types::shape::ShapeOf;
@@ -37,38 +33,32 @@ pub(crate) fn entry_of(
     alloc: Global,
     types: &mut Types,
     met: &mut Met,
-    decls: &[Decl],
-    table: &Table<'_>,
+    decls: &SoundEnvironment<'_>,
     number: usize,
 ) -> Result<Entry, Memory>
-    requires places { ArePlaces (names_of_decls decls.now) (length decls.now)
-        (number_of table.now) }
     requires number { number < length types.old }
     requires met { AreWithin types.old met.old.keys }
-    requires sound { AreSound decls.now }
     ensures within { OnOk result (AreWithin types.new met.new.keys) }
     ensures ok { IfOk result
         (IsEntry decls.now (type_at types.old number) (types_at types.old met.old.keys)
         (types_at types.new met.new.keys)) }
     ensures grown { Grows types.old types.new }
 {
-    let layout = layout_of(alloc, types, decls, table, number)?;
+    let layout = layout_of(alloc, types, decls, number)?;
     stand_once(types);
-    placed_entry(alloc, met, decls, table, &layout)
+    placed_entry(alloc, met, decls, &layout)
 }
 
 /// The entry of what a type looks like.
 fn placed_entry(
     alloc: Global,
     met: &mut Met,
-    decls: &[Decl],
-    table: &Table<'_>,
+    decls: &SoundEnvironment<'_>,
     layout: &Layout,
 ) -> Result<Entry, Memory>
-    requires { ArePlaces (names_of_decls decls.now) (length decls.now) (number_of table.now) }
     ensures { IfOk result (IsPlacedEntry decls.now met.old.keys met.new.keys layout.now) }
 {
-    let names = names_at(alloc, decls, table, &layout.head)?;
+    let names = names_at(alloc, decls, &layout.head)?;
     placed(alloc, met, layout, names)
 }
 

@@ -3,18 +3,14 @@
 ghost use Rattle.std.specs.Prelude.{◌≡◌, ◌<◌, ◌+◌, ◌++◌, ◌∷◌, [], List, length, IfOk, OnOk};
 ghost use Rattle.om_types.specs.declared.decl.Decl.{Decl as Declaration};
 ghost use Rattle.om_types.specs.Ty.{Ty as Tree};
-ghost use Rattle.om_types.specs.Accepted.{AreSound};
-ghost use Rattle.om_scope.specs.Breaks.{names_of_decls};
-ghost use Rattle.om_scope.specs.Names.{number_of, ArePlaces};
 ghost use Rattle.om_typeintern.specs.Listed.{AreWithin, IsListingOf};
 
 use crate::entry::{Entry, entry_of};
 use crate::met::{Met, place};
 use indexmap::IndexSet;
 use om_model::Memory;
-use om_scope::table::Table;
+use om_scope::SoundEnvironment;
 use om_store::Types;
-use om_types::decl::Decl;
 use om_types::head::HeadOf;
 use om_types::names::Names;
 use om_types::shape::ShapeOf;
@@ -55,14 +51,10 @@ pub(crate) fn started(alloc: Global, ty: &Ty) -> Result<Listing, Memory>
 pub(crate) fn go_on(
     alloc: Global,
     listing: &mut Listing,
-    decls: &[Decl],
-    table: &Table<'_>,
+    decls: &SoundEnvironment<'_>,
 ) -> Result<(), Memory>
-    requires places { ArePlaces (names_of_decls decls.now) (length decls.now)
-        (number_of table.now) }
     requires within { AreWithin listing.old.types listing.old.met.keys }
     requires more { length listing.old.nodes.items < length listing.old.met.keys }
-    requires sound { AreSound decls.now }
     ensures within { OnOk result (AreWithin listing.new.types listing.new.met.keys) }
     ensures one { OnOk result
         (length listing.new.nodes.items ≡ length listing.old.nodes.items + 1) }
@@ -70,14 +62,7 @@ pub(crate) fn go_on(
         ((t : Tree) → IsListingOf decls.now t listing.old → IsListingOf decls.now t listing.new) }
 {
     let number = listing.met.as_slice()[listing.nodes.len()];
-    let entry = entry_of(
-        alloc,
-        &mut listing.types,
-        &mut listing.met,
-        decls,
-        table,
-        number,
-    )?;
+    let entry = entry_of(alloc, &mut listing.types, &mut listing.met, decls, number)?;
     put(listing, entry)?;
     Ok(())
 }

@@ -13,7 +13,7 @@ use crate::listing::{Listing, go_on, started};
 use om_classes::classes;
 use om_model::Memory;
 use om_model::list::List;
-use om_scope::declared::table_of;
+use om_scope::SoundEnvironment;
 use om_type_table::TypeTable;
 use om_types::decl::Decl;
 use om_types::ty::Ty;
@@ -41,10 +41,18 @@ fn listed(alloc: Global, decls: &[Decl], ty: &Ty) -> Result<Listing, TypeFault>
     ensures ok { IfOk result (IsWhole decls.now ty.now) }
     ensures err { IfErr result (IsTypeFault decls.now ty.now) }
 {
-    let table = table_of(alloc, decls)?;
+    let environment = SoundEnvironment::new(alloc, decls)?;
+    listed_by(alloc, &environment, ty)
+}
+
+/// The same, with the places of declared names.
+fn listed_by(alloc: Global, decls: &SoundEnvironment<'_>, ty: &Ty) -> Result<Listing, TypeFault>
+    ensures ok { IfOk result (IsWhole decls.now ty.now) }
+    ensures err { IfErr result (IsTypeFault decls.now ty.now) }
+{
     let mut listing = started(alloc, ty)?;
     while listing.nodes.len() < listing.met.len() {
-        go_on(alloc, &mut listing, decls, &table)?;
+        go_on(alloc, &mut listing, decls)?;
         if listing.met.len() > MOST {
             return Err(TypeFault::TooManyTypes);
         }

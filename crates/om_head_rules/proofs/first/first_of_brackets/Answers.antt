@@ -1,7 +1,9 @@
 use Rattle.std.proofs.Common.{List, subst, sym}
 use Rattle.std.proofs.lemmas.Result.{IfOk-weaker}
+use Rattle.om_types.specs.declared.decl.Decl.{Decl}
 use Rattle.om_scope.specs.Least.{IsLeast}
 use Rattle.om_brackets.specs.declared.item.Item.{Item}
+use Rattle.om_head_rules.specs.Apart.{StandApart}
 use Rattle.om_head_rules.specs.Broken.{IsFirstOfHeads}
 use Rattle.om_head_rules.specs.Rules.{SomeBreaks, ItemsInclude, AreTagged, TagsBreak, CollideAmong, BracketsBreak, BracketsHash, brackets_at}
 use Rattle.om_head_rules.proofs.FirstLemmas.{is_none}
@@ -24,7 +26,8 @@ returns-then-branch c =
     (apart_before c.args.decls.now types c.stand_apart.new.types
     (Grows-then types c.least_not_variant.new.types c.stand_apart.new.types c.in_ok-place.ensures.grown
     c.in_ok-stand_apart.ensures.grown)
-    (c.in_ok-stand_apart.ensures.ok c.if-branch.true))
+    (subst (λ (ds : List Decl). StandApart ds c.stand_apart.new.types) c.all.ensures
+    (c.in_ok-stand_apart.ensures.ok c.if-branch.true)))
 
 pub returns : goal.returns
 returns c =

@@ -18,7 +18,7 @@ next-init c = record {
 pub next-smaller : goal.next-smaller
 next-smaller c =
     let nearer = MatchOption-at_some _ _ c.in-Some.next c.in-Some.is c.in_ok-next.ensures.ok in
-    nearer_work c.args.decls.now (Some c.args.group) c.requires.sound c.nearer.new.types (type_at c.next.types c.next.at)
+    nearer_work c.args.decls.now (Some c.args.group) c.holds.ensures c.nearer.new.types (type_at c.next.types c.next.at)
     c.in-Some.next nearer
 
 pub next-preserved : goal.next-preserved

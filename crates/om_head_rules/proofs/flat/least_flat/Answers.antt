@@ -1,11 +1,15 @@
-use Rattle.std.proofs.Common.{arith}
+use Rattle.std.proofs.Common.{sym, arith}
+use Rattle.std.proofs.lemmas.Option.{get_or_from_slice_get}
 use Rattle.om_head_rules.proofs.FlatLemmas.{more_flat, all_flat}
 use Rattle.om_head_rules.proofs.flat.least_flat.Goals as goal
 
 pub loop-i-preserved : goal.loop-i-preserved
 loop-i-preserved c =
-    more_flat c.args.decls.now c.args.names.now c.loop-i.i c.index-decls-i.result c.index-names-i.result c.in_ok-flat.flat
-    c.place.result c.loop-i.best c.place_if.result c.sooner-best.result c.requires.named (omega arith) c.index-decls-i.is
+    let decls = c.args.decls.now in
+    let d = c.at.result.now in
+    more_flat decls c.args.names.now c.loop-i.i d c.index-names-i.result c.in_ok-flat.flat
+    c.place.result c.loop-i.best c.place_if.result c.sooner-best.result c.requires.named (omega arith)
+    (sym (get_or_from_slice_get decls c.loop-i.i d d c.at.ensures))
     c.index-names-i.is c.place.ensures c.place_if.ensures c.in_ok-flat.ensures c.loop-i.invariant c.sooner-best.ensures
 
 pub returns : goal.returns

@@ -8,7 +8,7 @@ use Rattle.om_layout.proofs.bracket.bracket_head.Goals as goal
 
 pub returns-then-not-has_bracket-clause-ok : goal.returns-then-not-has_bracket-clause-ok
 returns-then-not-has_bracket-clause-ok c =
-    nothing_gathered c.args.decls.now c.requires.sound c.args.types.now (type_at c.args.types.now c.args.number) c.requires.bracketed
+    nothing_gathered c.args.decls.now c.holds.ensures c.args.types.now (type_at c.args.types.now c.args.number) c.requires.bracketed
     (sym c.has_bracket.ensures ∙ c.if-not-has_bracket.true)
 
 pub returns-clause-ok : goal.returns-clause-ok
@@ -17,5 +17,5 @@ returns-clause-ok c =
     let found = tags_of_entries c.gather_tags.new.tags.entries in
     subst (λ (tags : List (TagOf ℕ)). IsHeadOf c.args.decls.now c.gather_tags.new.types t (heads.Variants tags))
     (sym (c.of.ensures ∙ c.in_ok-listed.ensures))
-    (all_gathered c.args.decls.now c.requires.sound c.gather_tags.new.types t c.requires.bracketed found
+    (all_gathered c.args.decls.now c.holds.ensures c.gather_tags.new.types t c.requires.bracketed found
     (sym c.has_bracket.ensures ∙ c.if-not-has_bracket.false) c.in_ok-gather_tags.ensures.gathered)

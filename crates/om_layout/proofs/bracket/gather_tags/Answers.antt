@@ -6,15 +6,17 @@ use Rattle.om_layout.specs.Tags.{items, with_items}
 use Rattle.om_layout.proofs.GatherLemmas.{none_gathered}
 use Rattle.om_layout.proofs.bracket.gather_tags.Goals as goal
 
-pub gather_all-requires-clause-gathered : goal.gather_all-requires-clause-gathered
-gather_all-requires-clause-gathered c =
+pub gather_all-requires : goal.gather_all-requires
+gather_all-requires c =
     let decls = c.args.decls.now in
     let t = type_at c.args.types.now c.args.number in
-    let all = with_items (head decls) [] (items t) in (
-      all,
-      none_gathered decls c.args.types.now t c.args.tags.now.entries (reverse c.push_items.new.waiting.items) c.requires.none
-          (c.in_ok-push_items.ensures.left decls [] all (rw c.new-waiting.ensures.items refl)),
-    )
+    let all = with_items (head decls) [] (items t) in record {
+      gathered = (
+        all,
+        none_gathered decls c.args.types.now t c.args.tags.now.entries (reverse c.push_items.new.waiting.items) c.requires.none
+            (c.in_ok-push_items.ensures.left decls [] all (rw c.new-waiting.ensures.items refl)),
+      );
+    }
 
 pub returns-clause-gathered : goal.returns-clause-gathered
 returns-clause-gathered c =

@@ -19,7 +19,7 @@ returns-then-is_settled-clause-gathered c = λ found all was.
     let t = type_at types c.args.included in
     left_by decls types found c.args.settled.now.keys rest all (steps.Included c.args.included ∷ rest) was
     (λ left.
-    include_there decls c.requires.sound types c.args.included rest (tags_at types found) all left
+    include_there decls c.holds.ensures types c.args.included rest (tags_at types found) all left
     (settled_at decls (tags_at types found) t c.abbreviation-decl.result c.abbreviation-decl.ensures
     (c.is_settled.ensures c.if-is_settled.true decls (tags_at types found) was.brought)))
 
@@ -37,14 +37,14 @@ returns-in-Some-clause-gathered c =
     let rest = reverse c.args.waiting.now.items in
     let nearer = MatchOption-at_some _ _ c.in-Some.next c.in-Some.is c.in_ok-next.ensures.ok in
     let kept = type_kept old new n grown c.requires.included in
-    let same = nearer_head decls None c.requires.sound new (type_at old n) c.in-Some.next nearer ∙ ap (head decls) (sym kept) in
+    let same = nearer_head decls None c.holds.ensures new (type_at old n) c.in-Some.next nearer ∙ ap (head decls) (sym kept) in
     on_ok_weaker c.push_next.result
     (λ put found all was.
     left_by decls new found c.args.settled.now.keys (reverse c.push_next.new.waiting.items) all (steps.Included n ∷ rest)
     (gathered_kept decls old new grown found c.args.settled.now.keys (steps.Included n ∷ rest) all was)
     (λ left.
     put decls new (tags_at new found) all (abbreviation_within decls (tags_at new found) (type_at old n) c.abbreviation-decl.result c.abbreviation-decl.ensures)
-    (include_next decls c.requires.sound new n rest (tags_at new found) all left c.in-Some.next nearer.within same)))
+    (include_next decls c.holds.ensures new n rest (tags_at new found) all left c.in-Some.next nearer.within same)))
     c.push_next.ensures.left
 
 pub returns-in-Some-clause-less : goal.returns-in-Some-clause-less
@@ -58,7 +58,7 @@ returns-in-Some-clause-less c =
     (λ put found all was.
     next_less decls old new c.in_ok-next.ensures.grown found c.args.settled.now.keys n (reverse c.args.waiting.now.items)
     (reverse c.push_next.new.waiting.items) all c.requires.included was c.in-Some.next
-    (nearer_work_more decls None c.requires.sound new (type_at old n) c.in-Some.next nearer) (put decls new))
+    (nearer_work_more decls None c.holds.ensures new (type_at old n) c.in-Some.next nearer) (put decls new))
     c.push_next.ensures.work
 
 pub returns-in-None-clause-gathered : goal.returns-in-None-clause-gathered
@@ -75,7 +75,7 @@ returns-in-None-clause-gathered c =
     (λ put found all was.
     left_by decls new found c.args.settled.now.keys (reverse c.put_items.new.waiting.items) all (steps.Included n ∷ rest)
     (gathered_kept decls old new grown found c.args.settled.now.keys (steps.Included n ∷ rest) all was)
-    (λ left. put decls (tags_at new found) all c.requires.sound ended left))
+    (λ left. put decls (tags_at new found) all c.holds.ensures ended left))
     c.put_items.ensures.left
 
 pub returns-in-None-clause-less : goal.returns-in-None-clause-less
@@ -91,7 +91,7 @@ returns-in-None-clause-less c =
     (λ put found all was.
     last_less decls old new grown found c.args.settled.now.keys n (reverse c.args.waiting.now.items)
     (reverse c.put_items.new.waiting.items) all c.requires.included was kept
-    (put decls c.requires.sound (ap (unfolded decls) kept ∙ none)))
+    (put decls c.holds.ensures (ap (unfolded decls) kept ∙ none)))
     c.put_items.ensures.work
 
 pub put_items-requires : goal.put_items-requires

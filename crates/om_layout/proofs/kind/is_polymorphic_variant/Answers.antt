@@ -3,4 +3,4 @@ use Rattle.om_layout.proofs.kind.is_polymorphic_variant.Goals as goal
 
 pub returns-clause-ok : goal.returns-clause-ok
 returns-clause-ok c =
-    are_variants c.args.decls.now c.requires.sound c.expanded.new.types _ c.in_ok-at.at c.in_ok-at.ensures.ok c.has_bracket.result c.has_bracket.ensures
+    are_variants c.args.decls.now c.holds.ensures c.expanded.new.types _ c.in_ok-at.at c.in_ok-at.ensures.ok c.has_bracket.result c.has_bracket.ensures

@@ -1,11 +1,10 @@
 use Rattle.std.proofs.Common.{sym}
 use Rattle.om_types.specs.Nodes.{type_at}
-use Rattle.om_scope.specs.Names.{number_of}
 use Rattle.om_layout.proofs.KnownLemmas.{abbreviation_found}
 use Rattle.om_layout.proofs.known.abbreviation.Goals as goal
 
 pub returns-in-Abbreviation : goal.returns-in-Abbreviation
 returns-in-Abbreviation c =
     abbreviation_found c.args.decls.now (type_at c.args.types.now c.args.number) c.in_ok-name.name.now c.in_ok-found.found
-    c.index-decls-found.result c.in-Abbreviation.field-0 (number_of c.args.table.now) c.requires.places
-    (sym c.in_ok-name.ensures) (sym c.in_ok-found.ensures) c.index-decls-found.is c.in-Abbreviation.is
+    c.at.result.now c.in-Abbreviation.field-0 c.in_ok-found.ensures (sym c.in_ok-name.ensures) c.at.ensures
+    c.in-Abbreviation.is

@@ -30,9 +30,7 @@ returns-in_ok-insert-clause-known c =
     let end = type_at types c.in_ok-end.end in
     known_added decls c.args.group c.args.known.now c.insert.new.self c.args.decl (Some c.in-Some-argument.i) c.requires.known
     c.requires.decl c.insert.ensures.unique c.in_ok-insert.ensures.entries c.in_ok-insert.ensures.updates
-    (argument_found decls c.args.group c.args.decl c.in-Some-argument.i c.index-decls-decl.result c.index-decls-decl-2.result body end
-    c.requires.decl c.index-decls-decl.is
-    c.index-decls-decl-2.is
-    c.in-Abbreviation.is
+    (argument_found decls c.args.group c.args.decl c.in-Some-argument.i c.at.result.now c.at-2.result.now body end
+    c.at.ensures c.at-2.ensures c.in-Abbreviation.is
     (subst (λ (t : Ty). EachLeads decls c.args.group t end) at (c.in_ok-end.ensures.leads c.args.group c.requires.known))
     c.in-Some-argument.ensures)

@@ -8,8 +8,8 @@ use Rattle.om_layout.specs.Layout.{IsShapeAt}
 use Rattle.om_layout.proofs.LayoutLemmas.{head_found, head_within, head_kept}
 use Rattle.om_layout.proofs.layout.layout_of.Goals as goal
 
-pub shape_at-requires-clause-within : goal.shape_at-requires-clause-within
-shape_at-requires-clause-within c = head_within _ c.in_ok-head.head _ c.in_ok-head.ensures.ok
+pub shape_at-requires : goal.shape_at-requires
+shape_at-requires c = record { within = head_within _ c.in_ok-head.head _ c.in_ok-head.ensures.ok }
 
 pub returns-clause-ok : goal.returns-clause-ok
 returns-clause-ok c =

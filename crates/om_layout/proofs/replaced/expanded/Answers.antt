@@ -18,7 +18,7 @@ next-init c = record {
 pub next-smaller : goal.next-smaller
 next-smaller c =
     let nearer = MatchOption-at_some _ _ c.in-Some.next c.in-Some.is c.in_ok-next.ensures.ok in
-    nearer_work c.args.decls.now None c.requires.sound c.nearer.new.types (type_at c.next.types c.next.at) c.in-Some.next nearer
+    nearer_work c.args.decls.now None c.holds.ensures c.nearer.new.types (type_at c.next.types c.next.at) c.in-Some.next nearer
 
 pub next-preserved : goal.next-preserved
 next-preserved c =
@@ -29,7 +29,7 @@ next-preserved c =
     record {
       within = nearer.within;
       grown = Grows-then c.args.types.now c.next.types c.nearer.new.types c.next.invariant.grown c.in_ok-next.ensures.grown;
-      head = nearer_head decls None c.requires.sound c.nearer.new.types u c.in-Some.next nearer ∙ c.next.invariant.head;
+      head = nearer_head decls None c.holds.ensures c.nearer.new.types u c.in-Some.next nearer ∙ c.next.invariant.head;
       comes = nearer_comes decls None c.nearer.new.types t u c.in-Some.next c.next.invariant.comes nearer;
       known = c.in_ok-next.ensures.known;
     }

@@ -8,10 +8,11 @@ pub returns-in_default-clause-ok : goal.returns-in_default-clause-ok
 returns-in_default-clause-ok c =
     IfOk-weaker c.passed.result _ _ (λ next is. is c.args.group c.requires.known) c.passed.ensures.ok
 
-pub passed-requires-2-clause-number : goal.passed-requires-2-clause-number
-passed-requires-2-clause-number c =
-    let more = c.look_at.ensures.grown in
-    omega (arith, ap length more.kept, length-append c.args.types.now more.added, c.requires.number)
+pub passed-requires-2 : goal.passed-requires-2
+passed-requires-2 c =
+    let more = c.look_at.ensures.grown in record {
+      number = omega (arith, ap length more.kept, length-append c.args.types.now more.added, c.requires.number);
+    }
 
 pub returns-clause-ok : goal.returns-clause-ok
 returns-clause-ok c =

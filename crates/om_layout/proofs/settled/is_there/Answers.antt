@@ -12,7 +12,7 @@ returns-in-Some-clause-there c = λ is settled are.
     let there = tags_at types (tags_of_entries c.args.tags.now.entries) in
     let end = type_at types c.in_ok-end.end in (
       are,
-      each_led decls there c.requires.sound (type_at types c.args.number) end (c.in_ok-end.ensures.leads None c.requires.known)
+      each_led decls there c.holds.ensures (type_at types c.args.number) end (c.in_ok-end.ensures.leads None c.requires.known)
           (settled_each decls there end c.in-Some.decl c.in-Some.ensures
           (settled_among decls there c.args.settled.now.keys c.in-Some.decl settled (sym c.contains.ensures ∙ is))),
     )
@@ -24,9 +24,9 @@ returns-in-None-clause-there c =
     let there = tags_at types (tags_of_entries c.args.tags.now.entries) in
     IfOk-weaker c.items_are_there.result _ _
     (λ are items is settled waits.
-    let both = items is decls c.requires.sound waits in (
+    let both = items is decls c.holds.ensures waits in (
       both.0,
-      each_led decls there c.requires.sound (type_at types c.args.number) (type_at types c.in_ok-end.end)
+      each_led decls there c.holds.ensures (type_at types c.args.number) (type_at types c.in_ok-end.end)
           (c.in_ok-end.ensures.leads None c.requires.known) both.1,
     ))
     c.items_are_there.ensures.there
@@ -35,10 +35,10 @@ pub returns-in-None-clause-less : goal.returns-in-None-clause-less
 returns-in-None-clause-less c =
     let decls = c.args.decls.now in
     let types = c.args.types.now in
-    let led = led_work decls c.requires.sound (type_at types c.args.number) (type_at types c.in_ok-end.end)
+    let led = led_work decls c.holds.ensures (type_at types c.args.number) (type_at types c.in_ok-end.end)
     (c.in_ok-end.ensures.leads None c.requires.known) in
     IfOk-weaker c.items_are_there.result _ _
     (λ are less is.
-    let more = less is decls c.requires.sound in
+    let more = less is decls c.holds.ensures in
     omega (arith, more, led))
     c.items_are_there.ensures.less

@@ -16,5 +16,4 @@ returns-in_ok-insert-clause-settled c = λ settled.
     let each = subst (EachBringsNone decls there) at (c.in_ok-are_there.ensures c.if-branch.true settled) in
     subst (λ (ks : List ℕ). AreSettled decls there ks) (sym c.in_ok-insert.ensures.keys)
     (settled_added decls there c.args.settled.now.keys c.args.decl settled
-    (settles decls there c.requires.sound c.args.decl c.index-decls-decl.result body c.requires.decl c.index-decls-decl.is
-    c.in-Abbreviation.is each))
+    (settles decls there c.holds.ensures c.args.decl c.at.result.now body c.at.ensures c.in-Abbreviation.is each))

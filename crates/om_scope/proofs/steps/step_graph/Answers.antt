@@ -8,11 +8,11 @@ loop-i-preserved c =
     let decls = c.args.decls.now in
     let sites = c.args.sites.now in
     let i = c.loop-i.i in
-    let d = c.index-decls-i.result in
+    let d = c.at.result.now in
     let site = c.index-sites-i.result in
     let steps = c.in_ok-steps.steps in
     let more = more_steps decls sites c.loop-i.graph i c.loop-i.invariant d site steps
-    (slice_get_read decls (length decls) i d refl (omega arith) c.index-decls-i.is)
+    c.at.ensures
     (slice_get_read sites (length sites) i site refl (omega arith) c.index-sites-i.is)
     c.in_ok-steps.ensures in
     subst (λ g. AreFirstSteps decls sites g (i + 1)) (sym c.in_ok-push.ensures.ok) more

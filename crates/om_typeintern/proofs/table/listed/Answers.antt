@@ -1,28 +1,16 @@
-use Rattle.std.proofs.Common.{◌<◌, length, arith}
-use Rattle.std.proofs.lemmas.List.{length-map}
-use Rattle.om_types.specs.Nodes.{type_at}
-use Rattle.om_typeintern.specs.Listed.{met_types}
-use Rattle.om_typeintern.proofs.ListingLemmas.{too_many}
+use Rattle.std.proofs.Common.{List, subst}
+use Rattle.std.specs.Prelude.{IfOk, IfErr}
+use Rattle.om_types.specs.declared.decl.Decl.{Decl}
+use Rattle.om_typeintern.specs.Faults.{IsTypeFault}
+use Rattle.om_typeintern.specs.Listed.{IsWhole}
 use Rattle.om_typeintern.proofs.table.listed.Goals as goal
 
-pub loop-alloc-init : goal.loop-alloc-init
-loop-alloc-init c = record {
-  within = c.in_ok-listing.ensures.within;
-  listed = c.in_ok-listing.ensures.is c.args.decls.now;
-  few = omega (arith, c.in_ok-listing.ensures.one);
-}
+pub returns-clause-ok : goal.returns-clause-ok
+returns-clause-ok c =
+    subst (λ (ds : List Decl). IfOk c.listed_by.result (IsWhole ds c.args.ty.now))
+    c.in_ok-environment.ensures c.listed_by.ensures.ok
 
-pub returns-then-len-gt-MOST-clause-err : goal.returns-then-len-gt-MOST-clause-err
-returns-then-len-gt-MOST-clause-err c =
-    let listing = c.go_on.new.listing in
-    let many : 65536 < length (met_types listing) =
-    omega (arith, length-map listing.met.keys (type_at listing.types), c.if-len-gt-MOST.true, c.len-in-loop-alloc-2.ensures.len) in
-    too_many c.args.decls.now c.args.ty.now (length listing.nodes.items) (met_types listing) listing.nodes.items listing.heads.items
-    listing.names.items (c.in_ok-go_on.ensures.is c.args.ty.now c.loop-alloc.invariant.listed) many
-
-pub loop-alloc-preserved : goal.loop-alloc-preserved
-loop-alloc-preserved c = record {
-  within = c.in_ok-go_on.ensures.within;
-  listed = c.in_ok-go_on.ensures.is c.args.ty.now c.loop-alloc.invariant.listed;
-  few = omega (arith, c.if-len-gt-MOST.false, c.len-in-loop-alloc-2.ensures.len);
-}
+pub returns-clause-err : goal.returns-clause-err
+returns-clause-err c =
+    subst (λ (ds : List Decl). IfErr c.listed_by.result (IsTypeFault ds c.args.ty.now))
+    c.in_ok-environment.ensures c.listed_by.ensures.err

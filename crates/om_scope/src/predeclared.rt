@@ -1,39 +1,10 @@
-//! What names mean.
+//! What predeclared names mean.
 
-ghost use Rattle.std.specs.Prelude.{◌≡◌, IfOk, length, option_map, option_copied};
+ghost use Rattle.std.specs.Prelude.{◌≡◌, option_map};
 ghost use Rattle.std.specs.Str.{bytes_eq};
-ghost use Rattle.om_types.specs.Declarations.{declaration_of, predeclared, predeclared_arity};
-ghost use Rattle.om_scope.specs.Breaks.{names_of_decls};
-ghost use Rattle.om_scope.specs.Names.{number_of, ArePlaces};
+ghost use Rattle.om_types.specs.Declarations.{predeclared, predeclared_arity};
 
-use crate::table::{Table, add, empty, find};
-use om_model::Memory;
-use om_types::decl::{Decl, Predeclared};
-use std::alloc::Global;
-
-/// The first place of each declared name.
-pub fn table_of<'a>(alloc: Global, decls: &'a [Decl]) -> Result<Table<'a>, Memory>
-    ensures { IfOk result
-        (λ t. ArePlaces (names_of_decls decls.now) (length decls.now) (number_of t)) }
-{
-    let mut table = empty(alloc);
-    for i in 0..decls.len() {
-        let decl = &decls[i];
-        let _ = add(&mut table, decl.name.as_slice(), i)?;
-    }
-    Ok(table)
-}
-
-/// The declaration of a name.
-pub fn declared<'a>(decls: &'a [Decl], table: &Table<'_>, name: &[u8]) -> Option<&'a Decl>
-    requires { ArePlaces (names_of_decls decls.now) (length decls.now) (number_of table.now) }
-    ensures { option_copied result ≡ declaration_of decls.now name.now }
-{
-    match find(table, name) {
-        Some(j) => Some(&decls[j]),
-        None => None,
-    }
-}
+use om_types::decl::Predeclared;
 
 /// Whether these are the same bytes.
 fn is(word: &[u8], name: &[u8]) -> bool

@@ -4,7 +4,7 @@ use Rattle.std.proofs.lemmas.Option.{get_or_from_slice_get}
 use Rattle.om_types.specs.Ty.{Ty, tuple}
 use Rattle.om_types.specs.Nodes.{type_at}
 use Rattle.om_types.specs.Declarations.{IsExpanded}
-use Rattle.om_layout.proofs.calls.expand_by.Goals as goal
+use Rattle.om_layout.proofs.calls.expand.Goals as goal
 
 pub returns : goal.returns
 returns c =

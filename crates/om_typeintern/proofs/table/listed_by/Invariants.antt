@@ -1,6 +1,6 @@
 use Rattle.std.proofs.Common.{◌≤◌, ◌-◌, length}
 use Rattle.om_typeintern.specs.Listed.{AreWithin, IsListingOf}
-use Rattle.om_typeintern.proofs.table.listed.Given as goal
+use Rattle.om_typeintern.proofs.table.listed_by.Given as goal
 
 abbrev pub invariant-loop-alloc : goal.invariant-loop-alloc
 invariant-loop-alloc l = record {

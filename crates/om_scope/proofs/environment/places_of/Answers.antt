@@ -3,7 +3,7 @@ use Rattle.om_scope.specs.Breaks.{names_of_decls}
 use Rattle.om_scope.specs.Names.{number_of, added}
 use Rattle.om_scope.proofs.NameLemmas.{places_more}
 use Rattle.om_scope.proofs.DeclaredLemmas.{decl_named}
-use Rattle.om_scope.proofs.declared.table_of.Goals as goal
+use Rattle.om_scope.proofs.environment.places_of.Goals as goal
 
 pub loop-i-preserved : goal.loop-i-preserved
 loop-i-preserved c =

@@ -5,7 +5,7 @@ use Rattle.om_types.specs.Ty.{tuple}
 use Rattle.om_types.specs.Nodes.{type_at}
 use Rattle.om_types.specs.Shape.{shape}
 use Rattle.om_layout.proofs.TreesLemmas.{shape_found, shape_within}
-use Rattle.om_layout.proofs.calls.shape_by.Goals as goal
+use Rattle.om_layout.proofs.calls.shape.Goals as goal
 
 pub trees_of_shape-requires : goal.trees_of_shape-requires
 trees_of_shape-requires c =

@@ -1,0 +1,97 @@
+//! Declarations whose abbreviations come to an end, with the places of their names.
+
+ghost use Rattle.std.specs.Prelude.{◌≡◌, ◌<◌, IfOk, Some, length, option_copied, slice_get};
+ghost use Rattle.om_types.specs.Accepted.{AreSound};
+ghost use Rattle.om_types.specs.Declarations.{declaration_of};
+ghost use Rattle.om_scope.specs.Breaks.{names_of_decls};
+ghost use Rattle.om_scope.specs.Names.{IsPlace};
+
+use crate::environment::Environment;
+use om_model::Memory;
+use om_types::decl::Decl;
+use std::alloc::Global;
+use std::marker::Model;
+
+/// An environment of declarations that are sound: no abbreviation comes back to itself, and each
+/// type is as deep as the limit at most. Contracts see the declarations.
+#[derive(Drop)]
+pub struct SoundEnvironment<'a> {
+    of: Environment<'a>,
+}
+
+impl<'a> Model for SoundEnvironment<'a> {
+    ghost use Rattle.std.specs.Prelude.{List};
+    ghost use Rattle.std.specs.Coded.{codes};
+    ghost use Rattle.om_types.specs.declared.decl.Decl.{Decl as Declaration};
+    ghost use Rattle.om_types.specs.TyCode.{code};
+
+    ghost Value = { List Declaration };
+
+    ghost coded = { Prim.hlevel (codes, code) };
+
+    ghost use Rattle.om_types.specs.Accepted.{AreSound};
+
+    ghost view = { λ e. e.of };
+
+    ghost invariant = { λ e. AreSound e.of };
+}
+
+impl<'a> SoundEnvironment<'a> {
+    /// These declarations, with the places of their names.
+    pub fn new(alloc: Global, decls: &'a [Decl]) -> Result<SoundEnvironment<'a>, Memory>
+        requires { AreSound decls.now }
+        ensures { IfOk result (λ e. e ≡ decls.now) }
+    {
+        let of = Environment::new(alloc, decls)?;
+        Ok(SoundEnvironment { of })
+    }
+
+    /// What always holds of them. It does nothing.
+    #[inline(always)]
+    pub fn holds(&self)
+        ensures { AreSound self.now }
+    {
+        let _ = &self.of;
+    }
+
+    /// The declarations.
+    #[inline(always)]
+    pub fn all(&self) -> &[Decl]
+        ensures { result.now ≡ self.now }
+    {
+        self.of.all()
+    }
+
+    /// How many there are.
+    #[inline(always)]
+    pub fn len(&self) -> usize
+        ensures { result ≡ length self.now }
+    {
+        self.of.len()
+    }
+
+    /// The declaration at a place.
+    #[inline(always)]
+    pub fn at(&self, place: usize) -> &Decl
+        requires { place < length self.now }
+        ensures { slice_get self.now place ≡ Some result.now }
+    {
+        self.of.at(place)
+    }
+
+    /// The first place of a name, where it is declared.
+    #[inline(always)]
+    pub fn place(&self, name: &[u8]) -> Option<usize>
+        ensures { IsPlace (names_of_decls self.now) (length self.now) name.now result }
+    {
+        self.of.place(name)
+    }
+
+    /// The declaration of a name.
+    #[inline(always)]
+    pub fn get(&self, name: &[u8]) -> Option<&Decl>
+        ensures { option_copied result ≡ declaration_of self.now name.now }
+    {
+        self.of.get(name)
+    }
+}
