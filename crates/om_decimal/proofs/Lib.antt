@@ -11,3 +11,6 @@ pub mod ScanLemmas
 pub mod ReadBackLemmas
 pub mod LimbsLemmas
 pub mod RoomLemmas
+pub mod ShortestLemmas
+pub mod TextLemmas
+pub mod FeedLemmas

@@ -11,19 +11,25 @@ use Rattle.om_decimal.proofs.ClosestLemmas.{gap, some_unit, more, units_mono}
 inside : (x u m z y : ℕ) → 0 < u → m ≡ x + u → m + u ≤ z → gap x y ≡ gap z y → gap x y ≤ gap m y → ⊥
 inside x u m z y p e h same k = omega arith
 
+-- of two equally near decimals that read as the double no digits between are farther from it
+pub none_between : (size d e power : ℕ) → IsSome size → Reads size d power → Reads size e power → d + 1 < e → distance size d power ≡ distance size e power
+    → (Reads size (d + 1) power → distance size d power ≤ distance size (d + 1) power) → ⊥
+none_between size d e power some r t l same near =
+    let middle : Reads size (d + 1) power = record {
+      some = omega arith;
+      few = omega (arith, t.few);
+      nearest = between size d (d + 1) e power some (omega arith) (omega arith) r.nearest t.nearest;
+    } in
+    inside (decimal_units d power) (decimal_units 1 power) (decimal_units (d + 1) power) (decimal_units e power) (double_units size power) (some_unit power) (more d power)
+    (omega (arith, more (d + 1) power, units_mono (d + 1 + 1) e power (omega arith))) same (near middle)
+
 -- of two equally near ones with even digits the first one is not less
 no_two : (size d e power : ℕ) → IsSome size → IsShortest size d power → IsShortest size e power → d < e → ⊥
 no_two size d e power some s t l =
     let same : distance size d power ≡ distance size e power = omega (arith, s.closest e t.reads, t.closest d s.reads) in
     let de : d % 2 ≡ 0 = s.even e t.reads (λ q. omega arith) same in
     let ee : e % 2 ≡ 0 = t.even d s.reads (λ q. omega arith) (sym same) in
-    let middle : Reads size (d + 1) power = record {
-      some = omega arith;
-      few = omega (arith, t.reads.few);
-      nearest = between size d (d + 1) e power some (omega arith) (omega arith) s.reads.nearest t.reads.nearest;
-    } in
-    inside (decimal_units d power) (decimal_units 1 power) (decimal_units (d + 1) power) (decimal_units e power) (double_units size power) (some_unit power) (more d power)
-    (omega (arith, more (d + 1) power, units_mono (d + 1 + 1) e power (omega arith))) same (s.closest (d + 1) middle)
+    none_between size d e power some s.reads t.reads (omega arith) same (s.closest (d + 1))
 
 pub one_shortest : (size d p e q : ℕ) → IsSome size → IsShortest size d p → IsShortest size e q → (d ≡ e) × (p ≡ q)
 one_shortest size d p e q some s t =

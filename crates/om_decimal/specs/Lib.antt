@@ -1,5 +1,6 @@
 pub mod Limbs
 pub mod Doubles
 pub mod Layout
+pub mod Shortest
 pub mod Reading
 pub mod Laws

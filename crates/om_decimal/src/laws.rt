@@ -2,7 +2,7 @@
 
 ghost use Rattle.om_decimal.specs.Laws.{DoublesAreReadBack, DoublesHaveOneText};
 
-/// A double has no two texts.
+/// A double has one text, which is a function of its bits.
 pub fn doubles_have_one_text()
     ensures { DoublesHaveOneText }
 {}

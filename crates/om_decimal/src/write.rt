@@ -1,9 +1,10 @@
 //! Doubles as text.
 
-ghost use Rattle.std.specs.Prelude.{ℕ, List, ◌≡◌, ◌<◌, ◌^◌, ◌++◌, OnOk, codes};
+ghost use Rattle.std.specs.Prelude.{◌≡◌, ◌<◌, ◌^◌, ◌++◌, OnOk, codes};
 ghost use Rattle.std.specs.Fmt.{sign_text};
 ghost use Rattle.om_decimal.specs.Doubles.{is_negative};
-ghost use Rattle.om_decimal.specs.Layout.{IsDoubleText, size_text};
+ghost use Rattle.om_decimal.specs.Layout.{size_text};
+ghost use Rattle.om_decimal.specs.Shortest.{double_text};
 
 use crate::layout::put_size;
 use crate::reads::INFINITE;
@@ -42,8 +43,7 @@ fn put_signed(text: &mut Vec<u8>, bits: u64, digits: u64, power: u64) -> Result<
 
 /// Puts a double: a finite one as the shortest decimal, any other one by its bits.
 pub fn put_double(text: &mut Vec<u8>, bits: u64) -> Result<(), Memory>
-    ensures { OnOk result ((written : List ℕ) × IsDoubleText bits written
-        × (text.new.items ≡ text.old.items ++ written)) }
+    ensures { OnOk result (text.new.items ≡ text.old.items ++ double_text bits) }
 {
     let size = bits % SIGN;
     if size == 0 {

@@ -13,10 +13,10 @@ use Rattle.om_decimal.specs.Reading.{Stops, IsRead, decimal_at}
 use Rattle.om_decimal.proofs.ReadBackLemmas.{double_is_read_back}
 use Rattle.om_decimal.proofs.ScanLemmas.{decimal_long, other_no_decimal}
 use Rattle.om_decimal_texts.specs.declared.front.Front.TheVariants as fronts
-use Rattle.om_decimal_texts.specs.Texts.{IsReplaced, IsDecimalText}
+use Rattle.om_decimal_texts.specs.Texts.{replaced, decimal_text}
 use Rattle.om_decimal_texts.specs.Plain.{front_of, front_at, plain_text}
 use Rattle.om_decimal_texts.specs.Laws.{AreApart}
-use Rattle.om_decimal_texts.proofs.OnceLemmas.{lexed_same, lexed_or_fault}
+use Rattle.om_decimal_texts.proofs.LexedLemmas.{decimal_text_lexed}
 use Rattle.om_decimal_texts.proofs.PlainLemmas.{plain_from, plain_text_is, plain_none, plain_kept, plain_double}
 use Rattle.om_decimal_texts.proofs.SpelledLemmas.{first_of, ends_open, IsStart, Alike, alike_closed, IsKept, kept_part, kept_alike, closed_double, part_some}
 use Rattle.om_decimal_texts.proofs.NoneLemmas.{next_may, front_kept, open_may, stops_apart}
@@ -160,15 +160,22 @@ plain_parts (p ∷ ps) (suc n) opened may new short parts kept (put, rest, how, 
     ap (plain_from (suc n) may) is
     ∙ plain_part p ps n opened may put rest parts kept how more opens (λ next may_next. plain_parts ps n (ends_open (part_bytes p)) next rest less parts.1 kept.1 more may_next)
 
-plain_of_lexed : (text new : List ℕ) (lexemes : List Lexeme) → Lexes text lexemes → AreApart text lexemes → IsReplaced text 0 lexemes new → plain_text new ≡ text
-plain_of_lexed text new lexemes (ps, parts, is, found) apart replaced =
-    let all = subst (AreApart text) found apart in
-    let kept = are_kept ps text [] 0 is refl all in
-    let put = are_put ps text [] [] 0 0 new parts is refl refl (subst (λ l. IsReplaced text 0 l new) found replaced) in
-    let are : ArePut true ps new = subst (λ t. ArePut true ps t) (sym put.1) put.2 in
-    plain_text_is new ∙ plain_parts ps (length new) true true new (omega arith) parts kept are (λ e. refl) ∙ sym is
+-- of parts that are put as they are
+same_put : (ps : List Part) (opened : Bool) → ArePut opened ps (flat_map part_bytes ps)
+same_put [] opened = refl
+same_put (p ∷ ps) opened = (part_bytes p, flat_map part_bytes ps, inl refl, same_put ps (ends_open (part_bytes p)), refl)
 
-pub text_is_read_back : (text new : List ℕ) (lexemes : List Lexeme) → Lexes text lexemes → AreApart text lexemes → IsDecimalText text new → plain_text new ≡ text
-text_is_read_back text new lexemes lexes apart (inl (others, lexed, replaced)) =
-    plain_of_lexed text new others lexed (subst (AreApart text) (lexed_same text lexemes others lexes lexed) apart) replaced
-text_is_read_back text new lexemes lexes apart (inr (fault, faults, same)) = absurd (lexed_or_fault text lexemes fault lexes faults)
+plain_of_put : (text : List ℕ) (ps : List Part) (new : List ℕ) → AreParts ps [] → text ≡ flat_map part_bytes ps → AreKept ps → ArePut true ps new → plain_text new ≡ text
+plain_of_put text ps new parts is kept are = plain_text_is new ∙ plain_parts ps (length new) true true new (omega arith) parts kept are (λ e. refl) ∙ sym is
+
+pub text_is_read_back : (text : List ℕ) (lexemes : List Lexeme) → Lexes text lexemes → AreApart text lexemes → (plain_text (decimal_text text) ≡ text) × (plain_text text ≡ text)
+text_is_read_back text lexemes lexes apart = by_parts lexes
+  where
+    by_parts : Lexes text lexemes → (plain_text (decimal_text text) ≡ text) × (plain_text text ≡ text)
+    by_parts (ps, parts, is, found) =
+        let new = decimal_text text in
+        let kept = are_kept ps text [] 0 is refl (subst (AreApart text) found apart) in
+        let put = are_put ps text [] [] 0 0 new parts is refl refl (subst (λ l. new ≡ replaced text 0 l) found (decimal_text_lexed text lexemes lexes)) in (
+          plain_of_put text ps new parts is kept (subst (λ t. ArePut true ps t) (sym put.1) put.2),
+          plain_of_put text ps text parts is kept (subst (ArePut true ps) (sym is) (same_put ps true)),
+        )

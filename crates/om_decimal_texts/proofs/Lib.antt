@@ -1,4 +1,4 @@
-pub mod OnceLemmas
+pub mod LexedLemmas
 pub mod ReplacedLemmas
 pub mod PlainLemmas
 pub mod PlacesLemmas
@@ -6,3 +6,6 @@ pub mod SpelledLemmas
 pub mod NoneLemmas
 pub mod PartsLemmas
 pub mod BackLemmas
+pub mod FoundLemmas
+pub mod FrontLemmas
+pub mod FeedLemmas

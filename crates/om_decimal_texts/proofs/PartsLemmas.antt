@@ -1,5 +1,5 @@
 -- A text with its doubles as decimals, part after part.
-use Rattle.std.proofs.Common.{◌≡◌, ◌⊎◌, ◌∙◌, ℕ, ◌+◌, ◌-◌, ◌&&◌, ◌||◌, ◌==◌, Bool, true, false, List, [], ◌∷◌, ◌++◌, length, get_or, slice_range, slice_index_or, refl, sym, ap, subst, arith, inl, inr, append-nil, append_assoc, length-append, take_at, drop_at, add-zero, get_or-append-add}
+use Rattle.std.proofs.Common.{◌≡◌, ◌⊎◌, ◌∙◌, ℕ, ◌+◌, ◌-◌, ◌&&◌, ◌||◌, ◌==◌, Bool, true, false, cond, List, [], ◌∷◌, ◌++◌, length, get_or, slice_range, slice_index_or, refl, sym, ap, subst, arith, inl, inr, append-nil, append_assoc, length-append, take_at, drop_at, add-zero, get_or-append-add}
 use Rattle.std.specs.List.{flat_map, AllByRecursion}
 use Rattle.std.specs.Str.{bytes_eq}
 use Rattle.std.proofs.lemmas.Bool.{and_parts}
@@ -9,7 +9,9 @@ use Rattle.om_lex.specs.Lexeme.{number_in, Form, Reserved, Lower, Upper, Tag, Va
 use Rattle.om_lex.specs.LexText.{Part, Separator, Comment, Word, part_bytes, AreParts, lexemes_of}
 use Rattle.om_leaves.specs.Leaves.{float_text}
 use Rattle.om_decimal.specs.Layout.{IsDoubleText}
-use Rattle.om_decimal_texts.specs.Texts.{may_precede, may_follow, stands_alone, IsPutIf, IsPutFor, IsReplaced}
+use Rattle.om_decimal.specs.Shortest.{double_text}
+use Rattle.om_decimal.proofs.TextLemmas.{double_text_is}
+use Rattle.om_decimal_texts.specs.Texts.{may_precede, may_follow, stands_alone, put_for, replaced}
 use Rattle.om_decimal_texts.specs.Laws.{IsApart}
 use Rattle.om_decimal_texts.proofs.SpelledLemmas.{first_of, opens, ends_open, ends_append, IsKept, part_some}
 
@@ -66,7 +68,7 @@ module _ (text before : List ℕ) (place : ℕ) (at : length before ≡ place) (
   precede_here : may_precede text place ≡ ends_open before
   precede_here = rw (is, ← at) (precede_is before (form_bytes form ++ r))
 
-  next_here : slice_index_or text (place + length (form_bytes form)) 32 ≡ first_of r
+  pub next_here : slice_index_or text (place + length (form_bytes form)) 32 ≡ first_of r
   next_here =
       let cut : text ≡ (before ++ form_bytes form) ++ r = is ∙ sym (append_assoc before (form_bytes form) r) in
       let long : place + length (form_bytes form) ≡ length (before ++ form_bytes form) = omega (arith, length-append before (form_bytes form)) in
@@ -77,7 +79,7 @@ module _ (text before : List ℕ) (place : ℕ) (at : length before ≡ place) (
 
 double_put : (text before : List ℕ) (place : ℕ) → length before ≡ place → (ds r : List ℕ) → text ≡ before ++ (form_bytes (Double ds) ++ r) → (put : List ℕ)
     → (alone : Bool) → stands_alone text place (place + length (form_bytes (Double ds))) (float_text (number_in 16 ds)) ≡ alone
-    → IsPutIf alone (number_in 16 ds) (slice_range text place (place + length (form_bytes (Double ds)))) put → IsPutPart (ends_open before) (Word (Double ds)) r put
+    → put ≡ cond alone (double_text (number_in 16 ds)) (slice_range text place (place + length (form_bytes (Double ds)))) → IsPutPart (ends_open before) (Word (Double ds)) r put
 double_put text before place at ds r is put false test put_is = same_put text before place at (Double ds) r is put put_is
 double_put text before place at ds r is put true test put_is =
     let last = place + length (form_bytes (Double ds)) in
@@ -87,13 +89,13 @@ double_put text before place at ds r is put true test put_is =
       digits = ds;
       is = refl;
       written = sym (here text before place at (Double ds) r is) ∙ (bytes_eq-Decides (slice_range text place last) (float_text (number_in 16 ds))).0 first.1;
-      text = put_is;
+      text = subst (IsDoubleText (number_in 16 ds)) (sym put_is) (double_text_is (number_in 16 ds));
       before = sym (precede_here text before place at (Double ds) r is) ∙ second.0;
       behind = ap follows (sym (next_here text before place at (Double ds) r is)) ∙ second.1;
     })
 
 form_put : (text before : List ℕ) (place : ℕ) → length before ≡ place → (form : Form) (r : List ℕ) → text ≡ before ++ (form_bytes form ++ r) → (put : List ℕ)
-    → IsPutFor text (form_kind form) place (place + length (form_bytes form)) put → IsPutPart (ends_open before) (Word form) r put
+    → put ≡ put_for text (form_kind form) place (place + length (form_bytes form)) → IsPutPart (ends_open before) (Word form) r put
 form_put text before place at (Double ds) r is put for = double_put text before place at ds r is put (stands_alone text place (place + length (form_bytes (Double ds))) (float_text (number_in 16 ds))) refl for
 form_put text before place at (Reserved k) r is put for = same_put text before place at (Reserved k) r is put for
 form_put text before place at (Lower name) r is put for = same_put text before place at (Lower name) r is put for
@@ -128,7 +130,7 @@ module _ (p : Part) (ps : List Part) (text before gap : List ℕ) (place : ℕ) 
       )
 
 pub are_put : (ps : List Part) (text before gap : List ℕ) (from place : ℕ) (new : List ℕ) → AreParts ps [] → text ≡ before ++ (gap ++ flat_map part_bytes ps) → length before ≡ from → length (before ++ gap) ≡ place
-    → IsReplaced text from (lexemes_of place ps) new → (put : List ℕ) × (new ≡ gap ++ put) × ArePut (ends_open (before ++ gap)) ps put
+    → new ≡ replaced text from (lexemes_of place ps) → (put : List ℕ) × (new ≡ gap ++ put) × ArePut (ends_open (before ++ gap)) ps put
 are_put [] text before gap from place new parts is at to replaced =
     ([], replaced ∙ rw (is, drop_at before (gap ++ []) from at), refl)
 are_put (Separator b ∷ ps) text before gap from place new parts is at to replaced =
@@ -140,22 +142,24 @@ are_put (Comment inside ∷ ps) text before gap from place new parts is at to re
     let e = longer_is p ps text before gap place is to in
     let l = longer_to p ps text before gap place is to in
     gap_put p ps text before gap place is to new _ _ refl (are_put ps text before (gap ++ part_bytes p) from (place + length (part_bytes p)) new parts.1 e at l replaced)
-are_put (Word form ∷ ps) text before gap from place new parts is at to (put, rest, for, more, eq) =
+are_put (Word form ∷ ps) text before gap from place new parts is at to eq =
     let x = form_bytes form in
+    let put = put_for text (form_kind form) place (place + length x) in
+    let rest = replaced text (place + length x) (lexemes_of (place + length x) ps) in
     let r = flat_map part_bytes ps in
     let pre = before ++ gap in
     let some = part_some (Word form) (r ++ []) parts.0 in
     let here_is : text ≡ pre ++ (x ++ r) = is ∙ sym (append_assoc before gap (x ++ r)) in
     let next_is : text ≡ (pre ++ x) ++ r = here_is ∙ sym (append_assoc pre x r) in
     let far : length (pre ++ x) ≡ place + length x = length-append pre x ∙ ap (λ (n : ℕ). n + length x) to in
-    let others = are_put ps text (pre ++ x) [] (place + length x) (place + length x) rest parts.1 next_is far (ap length (append-nil (pre ++ x)) ∙ far) more in
+    let others = are_put ps text (pre ++ x) [] (place + length x) (place + length x) rest parts.1 next_is far (ap length (append-nil (pre ++ x)) ∙ far) refl in
     let wide : place - from ≡ length gap = omega (arith, at, to, length-append before gap) in
     let gap_is : slice_range text from place ≡ gap = rw (is, drop_at before (gap ++ (x ++ r)) from at, wide) (take_at gap (x ++ r) (length gap) refl) in
     let opened : ends_open ((pre ++ x) ++ []) ≡ ends_open x = ap ends_open (append-nil (pre ++ x)) ∙ ends_last pre x some.0 some.1 some.2 in
     let are : ArePut (ends_open x) ps rest = subst (λ t. ArePut (ends_open x) ps t) (sym others.1) (subst (λ o. ArePut o ps others.0) opened others.2) in (
       put ++ rest,
       eq ∙ ap (λ t. t ++ (put ++ rest)) gap_is,
-      (put, rest, form_put text pre place to form r here_is put for, are, refl),
+      (put, rest, form_put text pre place to form r here_is put refl, are, refl),
     )
 
 -- ---- integers stand apart

@@ -1,33 +1,32 @@
 -- A text with its doubles as decimals, put lexeme after lexeme.
-use Rattle.std.proofs.Common.{ℕ, ◌≡◌, ◌∙◌, ◌+◌, ◌<◌, ◌≤◌, ◌++◌, List, [], ◌∷◌, length, drop, get_or, append_assoc, refl, subst, sym, ap, arith}
+use Rattle.std.proofs.Common.{ℕ, ◌≡◌, ◌∙◌, ◌+◌, ◌<◌, ◌≤◌, ◌++◌, List, [], ◌∷◌, length, drop, get_or, append_assoc, subst, sym, ap, arith}
 use Rattle.std.proofs.lemmas.List.{drop_more}
 use Rattle.std.specs.Prelude.{slice_range}
 use Rattle.om_lex.specs.LexText.{SpansWithin}
 use Rattle.om_lex.specs.declared.lexeme.Lexeme.{Lexeme}
-use Rattle.om_decimal_texts.specs.Texts.{IsPutFor, IsReplaced}
+use Rattle.om_decimal_texts.specs.Texts.{put_for, replaced}
 
--- what was put leads to the text with decimals, whatever is put for the lexemes that are left
+-- what was put, and what is put for the lexemes that are left, is what is put for all of them
 abbrev pub IsSoFar : (text : List ℕ) (all : List Lexeme) (at : ℕ) (left : List Lexeme) (old new : List ℕ) → Type 0
 IsSoFar text all at left old new =
-    (put : List ℕ) × (new ≡ old ++ put)
-    × ((rest : List ℕ) → IsReplaced text at left rest → IsReplaced text 0 all (put ++ rest))
+    (put : List ℕ) × (new ≡ old ++ put) × (replaced text 0 all ≡ put ++ replaced text at left)
 
 pub so_far_more :
     (text : List ℕ) (all : List Lexeme) (at : ℕ) (l : Lexeme) (left : List Lexeme)
-    (old new between behind put : List ℕ)
+    (old new between behind : List ℕ)
     → IsSoFar text all at (l ∷ left) old new
     → between ≡ new ++ slice_range text at l.span.first
-    → IsPutFor text l.kind l.span.first (l.span.first + l.span.len) put
-    → behind ≡ between ++ put
+    → behind ≡ between ++ put_for text l.kind l.span.first (l.span.first + l.span.len)
     → IsSoFar text all (l.span.first + l.span.len) left old behind
-so_far_more text all at l left old new between behind put (done, is, leads) first for last =
-    let gap = slice_range text at l.span.first in (
+so_far_more text all at l left old new between behind (done, is, all_is) first last =
+    let end = l.span.first + l.span.len in
+    let gap = slice_range text at l.span.first in
+    let put = put_for text l.kind l.span.first end in
+    let rest = replaced text end left in (
       done ++ (gap ++ put),
       last ∙ (λ i. first i ++ put) ∙ (λ i. (is i ++ gap) ++ put)
           ∙ append_assoc (old ++ done) gap put ∙ append_assoc old done (gap ++ put),
-      λ rest more. subst (λ t. IsReplaced text 0 all t)
-          (sym (append_assoc done (gap ++ put) rest ∙ (λ i. done ++ append_assoc gap put rest i)))
-          (leads (gap ++ (put ++ rest)) (put, rest, for, more, refl)),
+      all_is ∙ sym (append_assoc done (gap ++ put) rest ∙ (λ i. done ++ append_assoc gap put rest i)),
     )
 
 -- ---- what the lexemes' places are

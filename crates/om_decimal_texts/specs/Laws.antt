@@ -4,15 +4,18 @@ use Rattle.std.specs.List.{AllByRecursion}
 use Rattle.om_lex.specs.declared.lexeme.Lexeme.{Lexeme}
 use Rattle.om_lex.specs.declared.lexeme.LexemeKind.{LexemeKind}
 use Rattle.om_lex.specs.declared.lexeme.LexemeKind.TheVariants as kinds
+use Rattle.om_lex.specs.declared.lexeme.LexFault.{LexFault}
 use Rattle.om_lex.specs.Lexeme.{is_name_byte}
-use Rattle.om_lex.specs.LexText.{Lexes}
+use Rattle.om_lex.specs.LexText.{Lexes, Faults}
 use Rattle.om_decimal_texts.specs.Plain.{plain_text}
-use Rattle.om_decimal_texts.specs.Texts.{IsDecimalText}
+use Rattle.om_decimal_texts.specs.Texts.{replaced, decimal_text}
 
--- a text has no two texts with decimals
-abbrev pub TextsHaveOneText : Type 0
-TextsHaveOneText =
-    (text new other : List ℕ) → IsDecimalText text new → IsDecimalText text other → new ≡ other
+-- decimals are put by the text's lexemes, and a text that has none stays as it is
+abbrev pub DecimalsAreByLexemes : Type 0
+DecimalsAreByLexemes =
+    (text : List ℕ)
+    → ((lexemes : List Lexeme) → Lexes text lexemes → decimal_text text ≡ replaced text 0 lexemes)
+    × ((fault : LexFault) → Faults text fault → decimal_text text ≡ text)
 
 -- with this byte behind it the lexeme has no decimal in it: it is no variable, and behind an
 -- integer stands neither a point (46) nor a byte of a name
@@ -28,9 +31,15 @@ AreApart text lexemes =
     (λ (l : Lexeme). IsApart l.kind (slice_index_or text (l.span.first + l.span.len) 32))
     lexemes
 
--- The text with its doubles as decimals stands for the text itself, if this has no decimals. Each
--- text of a value is such a text.
+-- a text on one line has its decimals on one line: 10 is the line feed
+abbrev pub DecimalsStayOnOneLine : Type 0
+DecimalsStayOnOneLine =
+    (text : List ℕ) → AllByRecursion (λ b. b ≢ 10) text
+    → AllByRecursion (λ b. b ≢ 10) (decimal_text text)
+
+-- A text that has no decimals is what the text with its doubles as decimals stands for, and what it
+-- stands for itself. Each text of a value is such a text.
 abbrev pub TextsAreReadBack : Type 0
 TextsAreReadBack =
-    (text new : List ℕ) (lexemes : List Lexeme) → Lexes text lexemes → AreApart text lexemes
-    → IsDecimalText text new → plain_text new ≡ text
+    (text : List ℕ) (lexemes : List Lexeme) → Lexes text lexemes → AreApart text lexemes
+    → (plain_text (decimal_text text) ≡ text) × (plain_text text ≡ text)

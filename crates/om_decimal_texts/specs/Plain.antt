@@ -81,3 +81,11 @@ given_from at plain (d ∷ ds) byte =
 -- where a byte of the plain text, or its end, stands in the text with these decimals
 abbrev pub given_place : List Decimal → ℕ → ℕ
 given_place decimals byte = given_from 0 0 decimals byte
+
+-- ---- what a call gives
+
+-- what stands at the front has a length, which the text has too
+abbrev pub IsFrontWithin : ℕ → Front → Type 0
+IsFrontWithin n (fronts.Double bits len) = (0 < len) × (len ≤ n)
+IsFrontWithin n (fronts.Kept len may) = (0 < len) × (len ≤ n)
+IsFrontWithin n fronts.Fault = Unit {0}

@@ -1,13 +1,17 @@
 -- A text in which doubles are decimals, where in the text itself they are their bits.
-use Rattle.std.specs.Prelude.{ℕ, zero, suc, ◌+◌, ◌≡◌, ◌⊎◌, Bool, true, false, ◌&&◌, ◌||◌, ◌==◌, List, [], ◌∷◌, ◌++◌, drop, slice_range, slice_index_or}
+use Rattle.std.specs.Prelude.{ℕ, zero, suc, ◌+◌, Bool, true, ◌&&◌, ◌||◌, ◌==◌, if◌then◌else◌, List, [], ◌∷◌, ◌++◌, length, drop, slice_range, slice_index_or, Option, Some, None, option_map, Result, Ok, Err}
 use Rattle.std.specs.Str.{bytes_eq}
 use Rattle.om_lex.specs.declared.lexeme.Lexeme.{Lexeme}
 use Rattle.om_lex.specs.declared.lexeme.LexemeKind.{LexemeKind}
 use Rattle.om_lex.specs.declared.lexeme.LexemeKind.TheVariants as kinds
 use Rattle.om_lex.specs.declared.lexeme.LexFault.{LexFault}
-use Rattle.om_lex.specs.LexText.{Lexes, Faults}
+use Rattle.om_lex.specs.declared.found.Step.{Step}
+use Rattle.om_lex.specs.declared.found.Step.TheVariants.{Gap, Word}
+use Rattle.om_lex.specs.Scan.{step_at}
 use Rattle.om_leaves.specs.Leaves.{float_text}
-use Rattle.om_decimal.specs.Layout.{IsDoubleText}
+use Rattle.om_decimal.specs.Shortest.{double_text}
+
+-- ---- where a double may be a decimal
 
 -- nothing, a blank (32), `(`, `=` or `|`
 abbrev pub may_precede : List ℕ → ℕ → Bool
@@ -26,28 +30,44 @@ abbrev pub stands_alone : List ℕ → ℕ → ℕ → List ℕ → Bool
 stands_alone text first end written =
     may_precede text first && may_follow text end && bytes_eq (slice_range text first end) written
 
--- the decimal, or the same
-abbrev pub IsPutIf : Bool → ℕ → List ℕ → List ℕ → Type 0
-IsPutIf true bits same put = IsDoubleText bits put
-IsPutIf false bits same put = put ≡ same
+-- ---- the text with its doubles as decimals
 
--- this is put for a lexeme from one place to another
-abbrev pub IsPutFor : List ℕ → LexemeKind → ℕ → ℕ → List ℕ → Type 0
-IsPutFor text (kinds.Double bits) first end put =
-    IsPutIf (stands_alone text first end (float_text bits)) bits (slice_range text first end) put
-IsPutFor text kind first end put = put ≡ slice_range text first end
+-- this is put for a lexeme from one place to another: for a double that stands alone its decimal
+abbrev pub put_for : List ℕ → LexemeKind → ℕ → ℕ → List ℕ
+put_for text (kinds.Double bits) first end =
+    if stands_alone text first end (float_text bits) then double_text bits
+    else slice_range text first end
+put_for text kind first end = slice_range text first end
 
--- from a place on, from which on these are the text's lexemes, it is this
-abbrev pub IsReplaced : List ℕ → ℕ → List Lexeme → List ℕ → Type 0
-IsReplaced text at [] new = new ≡ drop at text
-IsReplaced text at (lexeme ∷ lexemes) new =
-    (put : List ℕ) × (rest : List ℕ)
-    × IsPutFor text lexeme.kind lexeme.span.first (lexeme.span.first + lexeme.span.len) put
-    × IsReplaced text (lexeme.span.first + lexeme.span.len) lexemes rest
-    × (new ≡ slice_range text at lexeme.span.first ++ (put ++ rest))
+-- from a place on, from which on these are the text's lexemes
+abbrev pub replaced : List ℕ → ℕ → List Lexeme → List ℕ
+replaced text at [] = drop at text
+replaced text at (lexeme ∷ lexemes) =
+    let end = lexeme.span.first + lexeme.span.len in
+    slice_range text at lexeme.span.first
+    ++ (put_for text lexeme.kind lexeme.span.first end ++ replaced text end lexemes)
+
+-- the lexemes from a place on, by those behind what stands there
+abbrev pub lexed_by : ℕ → (ℕ → Option (List Lexeme)) → Result Step LexFault → Option (List Lexeme)
+lexed_by place behind (Ok (Gap len)) = behind len
+lexed_by place behind (Ok (Word word)) =
+    option_map
+    (λ lexemes.
+    record { kind = word.kind; span = record { first = place; len = word.len } } ∷ lexemes)
+    (behind word.len)
+lexed_by place behind (Err fault) = None
+
+-- those of a text of at most n bytes that begins at a place, if it has no fault
+unfoldable pub lexed_from : ℕ → ℕ → List ℕ → Option (List Lexeme)
+lexed_from zero place text = Some []
+lexed_from (suc n) place text =
+    if length text == 0 then Some []
+    else lexed_by place (λ len. lexed_from n (place + len) (drop len text)) (step_at text)
+
+abbrev pub replaced_or : List ℕ → Option (List Lexeme) → List ℕ
+replaced_or text None = text
+replaced_or text (Some lexemes) = replaced text 0 lexemes
 
 -- the text with its doubles as decimals; one that has no lexemes stays
-abbrev pub IsDecimalText : List ℕ → List ℕ → Type 0
-IsDecimalText text new =
-    ((lexemes : List Lexeme) × Lexes text lexemes × IsReplaced text 0 lexemes new)
-    ⊎ ((fault : LexFault) × Faults text fault × (new ≡ text))
+unfoldable pub decimal_text : List ℕ → List ℕ
+decimal_text text = replaced_or text (lexed_from (length text) 0 text)

@@ -1,5 +1,15 @@
 //! What stands at the front of a text in which decimals may stand for doubles.
 
+ghost use Rattle.std.specs.Prelude.{◌≡◌, ◌<◌, IfOk, None, length};
+ghost use Rattle.om_lex.specs.Scan.{step_at};
+ghost use Rattle.om_decimal_texts.specs.Plain.{is_point, front_of, front_at, IsFrontWithin};
+
+use om_decimal::read_decimal;
+use om_lex::lexeme::{LexFault, LexemeKind, Symbol};
+use om_lex::{Step, step_at};
+use om_model::Memory;
+use std::alloc::Global;
+
 /// A decimal, by the bits of its double and how many bytes it has; something else, by how many bytes
 /// it has and whether a decimal may begin behind it; or a fault.
 #[derive(Clone, Copy)]
@@ -7,4 +17,40 @@ pub enum Front {
     Double(u64, usize),
     Kept(usize, bool),
     Fault,
+}
+
+/// Whether a lexeme is a point.
+fn is_point(kind: &LexemeKind) -> bool
+    ensures { result ≡ is_point kind.now }
+{
+    matches!(kind, LexemeKind::Symbol(Symbol::Dot))
+}
+
+/// What stands at the front where no decimal does.
+fn kept(alloc: Global, text: &[u8]) -> Result<Front, Memory>
+    requires { 0 < length text.now }
+    ensures is { IfOk result (λ f. f ≡ front_of None (step_at text.now)) }
+    ensures within { IfOk result (IsFrontWithin (length text.now)) }
+{
+    match step_at(alloc, text) {
+        Ok(Step::Gap(len)) => Ok(Front::Kept(len, true)),
+        Ok(Step::Word(word)) => Ok(Front::Kept(word.len, !is_point(&word.kind))),
+        Err(LexFault::Memory) => Err(Memory),
+        Err(_) => Ok(Front::Fault),
+    }
+}
+
+/// What stands at the front: a decimal, where one may begin and does.
+pub fn read_front(alloc: Global, may: bool, text: &[u8]) -> Result<Front, Memory>
+    requires { 0 < length text.now }
+    ensures is { IfOk result (λ f. f ≡ front_at may text.now) }
+    ensures within { IfOk result (IsFrontWithin (length text.now)) }
+{
+    if !may {
+        return kept(alloc, text);
+    }
+    match read_decimal(text) {
+        Some((bits, len)) => Ok(Front::Double(bits, len)),
+        None => kept(alloc, text),
+    }
 }

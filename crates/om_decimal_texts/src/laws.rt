@@ -1,13 +1,19 @@
 //! The laws, as contracts. The functions do nothing: what each ensures is the law.
 
-ghost use Rattle.om_decimal_texts.specs.Laws.{TextsHaveOneText, TextsAreReadBack};
+ghost use Rattle.om_decimal_texts.specs.Laws.{DecimalsAreByLexemes, DecimalsStayOnOneLine, TextsAreReadBack};
 
-/// A text has no two texts with decimals.
-pub fn texts_have_one_text()
-    ensures { TextsHaveOneText }
+/// Decimals are put by the text's lexemes, and a text that has none stays as it is.
+pub fn decimals_are_by_lexemes()
+    ensures { DecimalsAreByLexemes }
 {}
 
-/// A text with its doubles as decimals stands for the text itself, if this has no decimals.
+/// A text on one line has its decimals on one line.
+pub fn decimals_stay_on_one_line()
+    ensures { DecimalsStayOnOneLine }
+{}
+
+/// A text with its doubles as decimals stands for the text itself, if this has no decimals, and so
+/// does that text.
 pub fn texts_are_read_back()
     ensures { TextsAreReadBack }
 {}

@@ -1,11 +1,11 @@
 //! A text with its doubles as decimals.
 
-ghost use Rattle.std.specs.Prelude.{ℕ, ◌≡◌, ◌≤◌, ◌+◌, ◌++◌, List, length, OnOk};
+ghost use Rattle.std.specs.Prelude.{◌≡◌, ◌≤◌, ◌+◌, ◌++◌, length, OnOk};
 ghost use Rattle.std.specs.Str.{bytes_eq};
 ghost use Rattle.om_leaves.specs.Leaves.{float_text};
 ghost use Rattle.om_lex.specs.LexText.{SpansWithin};
 ghost use Rattle.om_lex.specs.declared.lexeme.LexemeKind.TheVariants as kinds;
-ghost use Rattle.om_decimal_texts.specs.Texts.{may_precede, may_follow, IsPutFor, IsReplaced, IsDecimalText};
+ghost use Rattle.om_decimal_texts.specs.Texts.{may_precede, may_follow, put_for, replaced, decimal_text};
 
 use om_decimal::put_double;
 use om_leaves::put;
@@ -51,8 +51,8 @@ fn put_bits(
     end: usize,
 ) -> Result<(), Memory>
     requires { (first ≤ end) × (end ≤ length text.now) }
-    ensures { OnOk result ((put : List ℕ) × IsPutFor text.now (kinds.Double bits) first end put
-        × (new.new.items ≡ new.old.items ++ put)) }
+    ensures { OnOk result (new.new.items
+        ≡ new.old.items ++ put_for text.now (kinds.Double bits) first end) }
 {
     let written = &text[first..end];
     if may_precede(text, first) && may_follow(text, end) && is_float_text(written, bits) {
@@ -65,10 +65,9 @@ fn put_bits(
 /// Puts a lexeme.
 fn put_lexeme(new: &mut Vec<u8>, text: &[u8], lexeme: &Lexeme) -> Result<(), Memory>
     requires { lexeme.now.span.first + lexeme.now.span.len ≤ length text.now }
-    ensures { OnOk result ((put : List ℕ)
-        × IsPutFor text.now lexeme.now.kind lexeme.now.span.first
-        (lexeme.now.span.first + lexeme.now.span.len) put
-        × (new.new.items ≡ new.old.items ++ put)) }
+    ensures { OnOk result (new.new.items
+        ≡ new.old.items ++ put_for text.now lexeme.now.kind lexeme.now.span.first
+        (lexeme.now.span.first + lexeme.now.span.len)) }
 {
     let first = lexeme.span.first;
     let end = first + lexeme.span.len;
@@ -81,8 +80,7 @@ fn put_lexeme(new: &mut Vec<u8>, text: &[u8], lexeme: &Lexeme) -> Result<(), Mem
 /// Puts a text of which these are the lexemes.
 fn put_replaced(new: &mut Vec<u8>, text: &[u8], lexemes: &[Lexeme]) -> Result<(), Memory>
     requires { SpansWithin 0 lexemes.now (length text.now) }
-    ensures { OnOk result ((put : List ℕ) × IsReplaced text.now 0 lexemes.now put
-        × (new.new.items ≡ new.old.items ++ put)) }
+    ensures { OnOk result (new.new.items ≡ new.old.items ++ replaced text.now 0 lexemes.now) }
 {
     let mut at = 0;
     for lexeme in lexemes {
@@ -95,8 +93,7 @@ fn put_replaced(new: &mut Vec<u8>, text: &[u8], lexemes: &[Lexeme]) -> Result<()
 
 /// Puts a text with its doubles as decimals. What has no lexemes is put as it is.
 pub fn put_decimal_text(alloc: Global, new: &mut Vec<u8>, text: &[u8]) -> Result<(), Memory>
-    ensures { OnOk result ((put : List ℕ) × IsDecimalText text.now put
-        × (new.new.items ≡ new.old.items ++ put)) }
+    ensures { OnOk result (new.new.items ≡ new.old.items ++ decimal_text text.now) }
 {
     match tokens(alloc, text) {
         Ok(lexemes) => put_replaced(new, text, lexemes.as_slice()),

@@ -15,6 +15,7 @@ mod symbols;
 mod words;
 
 pub use brief::next_brief;
+pub use found::{Found, Step};
 pub use lexemes::Lexemes;
 pub use next::{next_lexeme, see_lexemes};
-pub use scan::{one_outcome, tokens};
+pub use scan::{one_outcome, step_at, tokens};

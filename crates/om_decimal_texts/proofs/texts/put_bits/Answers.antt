@@ -1,7 +1,8 @@
-use Rattle.std.proofs.Common.{ℕ, ◌≡◌, ◌∙◌, ◌++◌, List, OnOk, true, slice_range, sym, subst}
+use Rattle.std.proofs.Common.{◌≡◌, ◌∙◌, ◌++◌, cond, OnOk, true, slice_range, sym, subst}
 use Rattle.std.specs.Prelude.{◌&&◌}
 use Rattle.om_leaves.specs.Leaves.{float_text}
-use Rattle.om_decimal_texts.specs.Texts.{stands_alone, IsPutIf}
+use Rattle.om_decimal.specs.Shortest.{double_text}
+use Rattle.om_decimal_texts.specs.Texts.{stands_alone}
 use Rattle.om_decimal_texts.proofs.texts.put_bits.Goals as goal
 
 pub returns-then-is_float_text : goal.returns-then-is_float_text
@@ -11,6 +12,5 @@ returns-then-is_float_text c =
     let r = sym c.is_float_text.ensures ∙ c.if-is_float_text.true in
     let alone : stands_alone c.args.text.now c.args.first c.args.end (float_text c.args.bits) ≡ true =
     (λ i. p i && q i && r i) in
-    subst (λ b. OnOk c.put_double.result ((x : List ℕ)
-    × IsPutIf b c.args.bits (slice_range c.args.text.now c.args.first c.args.end) x
-    × (c.put_double.new.text.items ≡ c.args.new.now.items ++ x))) (sym alone) c.put_double.ensures
+    subst (λ b. OnOk c.put_double.result (c.put_double.new.text.items
+    ≡ c.args.new.now.items ++ cond b (double_text c.args.bits) (slice_range c.args.text.now c.args.first c.args.end))) (sym alone) c.put_double.ensures

@@ -26,12 +26,11 @@ loop-lexeme-preserved c =
     let all = c.args.lexemes.now in
     let i = c.loop-lexeme.lexeme-index in
     let l = c.lexeme-item.result in
-    let n = length c.args.text.now in
-    let (put, for, last) = c.in_ok-put_lexeme.ensures in (
+    let n = length c.args.text.now in (
       last_within all c.loop-lexeme.at i l n c.loop-lexeme-test.true c.lexeme-item.is c.loop-lexeme.invariant.1,
       spans_behind all c.loop-lexeme.at i l n c.loop-lexeme-test.true c.lexeme-item.is c.loop-lexeme.invariant.1,
-      so_far_more c.args.text.now all c.loop-lexeme.at l _ _ _ _ _ put
+      so_far_more c.args.text.now all c.loop-lexeme.at l _ _ _ _ _
           (so_far_here all c.loop-lexeme.at i l n c.loop-lexeme-test.true c.lexeme-item.is c.args.text.now _ _
           c.loop-lexeme.invariant.2)
-          c.in_ok-put.ensures for last,
+          c.in_ok-put.ensures c.in_ok-put_lexeme.ensures,
     )

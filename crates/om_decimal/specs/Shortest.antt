@@ -1,0 +1,59 @@
+-- The shortest decimal of a double, by a search of all decimals, and the double's text.
+use Rattle.std.specs.Prelude.{ℕ, zero, suc, ◌+◌, ◌-◌, ◌*◌, ◌%◌, ◌^◌, Bool, false, ◌&&◌, ◌==◌, nat_lt, nat_le, if◌then◌else◌, List, ◌++◌, codes, Option, Some, None, to_bits}
+use Rattle.std.specs.Float.Ieee.{binary64, round}
+use Rattle.std.specs.Fmt.{sign_text}
+use Rattle.om_leaves.specs.Leaves.{float_text}
+use Rattle.om_decimal.specs.Doubles.{is_negative, size_of, infinite, distance}
+use Rattle.om_decimal.specs.Layout.{size_text}
+
+-- whether a decimal that is not 0 reads as the double of this size
+unfoldable pub reads : (size digits power : ℕ) → Bool
+reads size digits power =
+    nat_lt 0 digits
+    && to_bits binary64 (round binary64 false (digits * 10 ^ (power - 342)) (10 ^ (342 - power)))
+    == size
+
+-- The nearer the decimal is to the double, the less is its rank; of two that are equally near the
+-- one with even digits comes first.
+abbrev pub rank : (size digits power : ℕ) → ℕ
+rank size digits power = 2 * distance size digits power + digits % 2
+
+abbrev pub better_of : (ℕ → ℕ) → ℕ → Option ℕ → ℕ
+better_of rank digits None = digits
+better_of rank digits (Some other) = if nat_lt (rank digits) (rank other) then digits else other
+
+-- of the digits below a number that read as the double those with the least rank
+unfoldable pub best_below : (size power n : ℕ) → Option ℕ
+best_below size power zero = None
+best_below size power (suc digits) =
+    let fewer = best_below size power digits in
+    if reads size digits power then Some (better_of (λ d. rank size d power) digits fewer)
+    else fewer
+
+abbrev pub or_lower : ℕ → Option ℕ → Option (ℕ × ℕ) → Option (ℕ × ℕ)
+or_lower power None lower = lower
+or_lower power (Some digits) lower = Some (digits, power)
+
+-- the best digits and the power, which is the greatest one below a number at which any digits of at
+-- most 19 places read as the double
+unfoldable pub shortest_below : (size n : ℕ) → Option (ℕ × ℕ)
+shortest_below size zero = None
+shortest_below size (suc power) =
+    or_lower power (best_below size power (10 ^ 19)) (shortest_below size power)
+
+-- the shortest decimal, if any decimal reads as the double; from 651 on powers read as infinity
+unfoldable pub shortest_of : ℕ → Option (ℕ × ℕ)
+shortest_of size = shortest_below size 651
+
+abbrev pub decimal_or_bits : ℕ → Option (ℕ × ℕ) → List ℕ
+decimal_or_bits bits None = float_text bits
+decimal_or_bits bits (Some decimal) =
+    sign_text (is_negative bits) ++ size_text decimal.0 decimal.1
+
+-- the text of the double with these bits
+unfoldable pub double_text : ℕ → List ℕ
+double_text bits =
+    if size_of bits == 0 then sign_text (is_negative bits) ++ codes "0."
+    else
+    (if nat_le infinite (size_of bits) then float_text bits
+    else decimal_or_bits bits (shortest_of (size_of bits)))

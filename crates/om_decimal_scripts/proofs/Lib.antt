@@ -1,0 +1,4 @@
+pub mod PlainLemmas
+pub mod TimeLemmas
+pub mod LiteralLemmas
+pub mod ReadLemmas

@@ -1,0 +1,94 @@
+-- A script in which decimals may stand for doubles. Each line is read as its plain text, and each
+-- place in what is read is the one in the line that was given.
+use Rattle.std.specs.Prelude.{ℕ, ◌-◌, ◌^◌, ◌≡◌, nat_lt, if◌then◌else◌, List, [], map, slice_index_or, Ok, Err, Result}
+use Rattle.std.specs.List.{join_with_byte}
+use Rattle.om_lex.specs.declared.lexeme.Lexeme.{Lexeme}
+use Rattle.om_lex.specs.declared.lexeme.LexFault.{LexFault}
+use Rattle.om_lex.specs.declared.lexeme.LexFault.TheVariants as lexer
+use Rattle.om_path.specs.declared.edits.Action.{Action}
+use Rattle.om_path.specs.declared.edits.Action.TheVariants as actions
+use Rattle.om_path.specs.declared.edits.Edit.{Edit}
+use Rattle.om_path.specs.declared.edits.Edit.TheVariants as edits
+use Rattle.om_path.specs.declared.edits.Script.{Script}
+use Rattle.om_path.specs.declared.edits.ScriptLine.{ScriptLine}
+use Rattle.om_path.specs.declared.edits.ScriptFault.{ScriptFault}
+use Rattle.om_path.specs.declared.edits.ScriptFault.TheVariants as faults
+use Rattle.om_path.specs.ScriptAnswer.{lines_of, Edits, AreEdits, edits_in}
+use Rattle.om_decimal_texts.specs.declared.decimals.Decimal.{Decimal}
+use Rattle.om_decimal_texts.specs.Plain.{decimals_in, plain_text, given_place}
+
+-- the lines, each as its plain text
+abbrev pub plain_script : List ℕ → List ℕ
+plain_script text = join_with_byte 10 (map plain_text (lines_of text))
+
+-- the decimals of each line
+abbrev pub decimals_of : List ℕ → List (List Decimal)
+decimals_of text = map decimals_in (lines_of text)
+
+-- those of the line of this number, counted from 1
+abbrev pub decimals_on : List (List Decimal) → ℕ → List Decimal
+decimals_on all number = slice_index_or all (number - 1) []
+
+-- ---- places
+
+-- where a place in the plain text of a line with these decimals is in the line; no line is so long
+-- that it has the places that stay
+abbrev pub line_place : List Decimal → ℕ → ℕ
+line_place decimals place = if nat_lt place (2 ^ 63) then given_place decimals place else place
+
+-- a lexeme there; its length is the one in the plain text
+abbrev pub given_lexeme : List Decimal → Lexeme → Lexeme
+given_lexeme decimals lexeme = record {
+  kind = lexeme.kind;
+  span = record { first = line_place decimals lexeme.span.first; len = lexeme.span.len };
+}
+
+abbrev pub given_edit : List Decimal → Edit → Edit
+given_edit decimals (edits.Set path literal end) =
+    edits.Set path (map (given_lexeme decimals) literal) (line_place decimals end)
+given_edit decimals (edits.Link path source) = edits.Link path source
+given_edit decimals (edits.Unshare path) = edits.Unshare path
+
+abbrev pub given_action : List Decimal → Action → Action
+given_action decimals (actions.Edit edit) = actions.Edit (given_edit decimals edit)
+given_action decimals (actions.Graft path other source) = actions.Graft path other source
+
+abbrev pub given_lex : List Decimal → LexFault → LexFault
+given_lex decimals (lexer.BadByte place) = lexer.BadByte (line_place decimals place)
+given_lex decimals (lexer.OpenString place) = lexer.OpenString (line_place decimals place)
+given_lex decimals (lexer.OpenComment place) = lexer.OpenComment (line_place decimals place)
+given_lex decimals (lexer.TooBig place) = lexer.TooBig (line_place decimals place)
+given_lex decimals lexer.Memory = lexer.Memory
+
+-- ---- answers
+
+-- a line that was read of the plain script
+abbrev pub given_line : List (List Decimal) → ScriptLine → ScriptLine
+given_line all line = record {
+  number = line.number;
+  value = line.value;
+  action = given_action (decimals_on all line.number) line.action;
+}
+
+-- its fault
+abbrev pub given_fault : List (List Decimal) → ScriptFault → ScriptFault
+given_fault all (faults.Lex number fault) =
+    faults.Lex number (given_lex (decimals_on all number) fault)
+given_fault all (faults.Syntax number place) =
+    faults.Syntax number (line_place (decimals_on all number) place)
+given_fault all (faults.Later number) = faults.Later number
+given_fault all faults.Memory = faults.Memory
+
+abbrev pub given_edits : List (List Decimal) → Edits → Edits
+given_edits all (Ok lines) = Ok (map (given_line all) lines)
+given_edits all (Err fault) = Err (given_fault all fault)
+
+-- the edits, or the fault, of a text with decimals
+abbrev pub AreGivenEdits : List ℕ → Edits → Type 0
+AreGivenEdits text all =
+    (plain : Edits) × AreEdits 1 (plain_script text) plain
+    × (all ≡ given_edits (decimals_of text) plain)
+
+-- the answer to such a text
+abbrev pub IsGivenAnswer : List ℕ → Result Script ScriptFault → Type 0
+IsGivenAnswer text answer = AreGivenEdits text (edits_in answer)

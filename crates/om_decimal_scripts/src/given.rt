@@ -1,0 +1,162 @@
+//! What was read of plain lines, with the places in the lines that were given.
+
+ghost use Rattle.std.specs.Prelude.{◌≡◌, map, IfOk};
+ghost use Rattle.std.specs.List.{All};
+ghost use Rattle.om_decimal_scripts.specs.Scripts.{line_place, decimals_on, given_lexeme, given_lex, given_edit, given_fault, given_action, given_line};
+ghost use Rattle.om_decimal_scripts.specs.Plain.{Fit};
+
+use om_decimal_texts::{Decimal, given_place};
+use om_lex::Lexemes;
+use om_lex::lexeme::{LexFault, Lexeme, Span};
+use om_model::Memory;
+use om_model::list::List;
+use om_model::path::Path;
+use om_path::{Action, Edit, ScriptFault, ScriptLine};
+use std::alloc::Global;
+
+/// Where a place in the plain text of a line with these decimals is in the line.
+fn line_place(decimals: &[Decimal], place: usize) -> usize
+    requires { Fit decimals.now }
+    ensures { result ≡ line_place decimals.now place }
+{
+    if place < 1 << 63 {
+        given_place(decimals, place)
+    } else {
+        place
+    }
+}
+
+/// The decimals of the line of this number, counted from 1.
+fn decimals_on(all: &[List<Decimal>], number: usize) -> &[Decimal]
+    requires { All Fit all.now }
+    ensures are { result.now ≡ decimals_on all.now number }
+    ensures fit { Fit result.now }
+{
+    match all.get(number.saturating_sub(1)) {
+        Some(decimals) => decimals.as_slice(),
+        None => &[],
+    }
+}
+
+/// A path once more.
+fn copy_path(alloc: Global, path: &Path) -> Result<Path, Memory>
+    ensures { IfOk result (λ copy. copy ≡ path.now) }
+{
+    let mut copy = Path::new(alloc);
+    for i in 0..path.len() {
+        copy.push(path.step(i))?;
+    }
+    Ok(copy)
+}
+
+/// The lexemes of a literal, at their places in the line.
+fn given_literal(
+    alloc: Global,
+    decimals: &[Decimal],
+    literal: &[Lexeme],
+) -> Result<List<Lexeme>, Memory>
+    requires { Fit decimals.now }
+    ensures { IfOk result (λ given. given ≡ map (given_lexeme decimals.now) literal.now) }
+{
+    let kinds = Lexemes::of_row(literal);
+    let mut given = List::new(alloc);
+    for k in 0..literal.len() {
+        let Some(kind) = kinds.kind(alloc, k)? else {
+            return Ok(given);
+        };
+        let lexeme = &literal[k];
+        let first = line_place(decimals, lexeme.span.first);
+        let len = lexeme.span.len;
+        given.push(Lexeme {
+            kind,
+            span: Span { first, len },
+        })?;
+    }
+    Ok(given)
+}
+
+/// An edit, with its literal's places in the line.
+fn given_edit(alloc: Global, decimals: &[Decimal], edit: &Edit) -> Result<Edit, Memory>
+    requires { Fit decimals.now }
+    ensures { IfOk result (λ given. given ≡ given_edit decimals.now edit.now) }
+{
+    match edit {
+        Edit::Set(path, literal, end) => {
+            let path = copy_path(alloc, path)?;
+            let literal = given_literal(alloc, decimals, literal.as_slice())?;
+            Ok(Edit::Set(path, literal, line_place(decimals, *end)))
+        }
+        Edit::Link(path, source) => {
+            let path = copy_path(alloc, path)?;
+            Ok(Edit::Link(path, copy_path(alloc, source)?))
+        }
+        Edit::Unshare(path) => Ok(Edit::Unshare(copy_path(alloc, path)?)),
+    }
+}
+
+/// What a line asks for, with its literal's places in the line.
+fn given_action(alloc: Global, decimals: &[Decimal], action: &Action) -> Result<Action, Memory>
+    requires { Fit decimals.now }
+    ensures { IfOk result (λ given. given ≡ given_action decimals.now action.now) }
+{
+    match action {
+        Action::Edit(edit) => Ok(Action::Edit(given_edit(alloc, decimals, edit)?)),
+        Action::Graft(path, other, source) => {
+            let path = copy_path(alloc, path)?;
+            Ok(Action::Graft(path, *other, copy_path(alloc, source)?))
+        }
+    }
+}
+
+/// The lines that were read, with the places in the lines that were given.
+pub fn given_lines(
+    alloc: Global,
+    all: &[List<Decimal>],
+    lines: &[ScriptLine],
+) -> Result<List<ScriptLine>, Memory>
+    requires { All Fit all.now }
+    ensures { IfOk result (λ given. given ≡ map (given_line all.now) lines.now) }
+{
+    let mut given = List::new(alloc);
+    for line in lines {
+        let decimals = decimals_on(all, line.number);
+        let action = given_action(alloc, decimals, &line.action)?;
+        given.push(ScriptLine {
+            number: line.number,
+            value: line.value,
+            action,
+        })?;
+    }
+    Ok(given)
+}
+
+/// The lexer's fault, at its place in the line.
+fn given_lex(decimals: &[Decimal], fault: LexFault) -> LexFault
+    requires { Fit decimals.now }
+    ensures { result ≡ given_lex decimals.now fault }
+{
+    match fault {
+        LexFault::BadByte(place) => LexFault::BadByte(line_place(decimals, place)),
+        LexFault::OpenString(place) => LexFault::OpenString(line_place(decimals, place)),
+        LexFault::OpenComment(place) => LexFault::OpenComment(line_place(decimals, place)),
+        LexFault::TooBig(place) => LexFault::TooBig(line_place(decimals, place)),
+        LexFault::Memory => LexFault::Memory,
+    }
+}
+
+/// The fault, at its place in the line that was given.
+pub fn given_fault(all: &[List<Decimal>], fault: ScriptFault) -> ScriptFault
+    requires { All Fit all.now }
+    ensures { result ≡ given_fault all.now fault }
+{
+    match fault {
+        ScriptFault::Lex(number, fault) => {
+            ScriptFault::Lex(number, given_lex(decimals_on(all, number), fault))
+        }
+        ScriptFault::Syntax(number, place) => {
+            ScriptFault::Syntax(number, line_place(decimals_on(all, number), place))
+        }
+        ScriptFault::Later(number) => ScriptFault::Later(number),
+        ScriptFault::Memory => ScriptFault::Memory,
+    }
+}

@@ -1,0 +1,54 @@
+//! The plain text of a script.
+
+ghost use Rattle.std.specs.Prelude.{◌≡◌, ◌==◌, OnOk, IfOk};
+ghost use Rattle.std.specs.List.{position_or_len};
+ghost use Rattle.om_decimal_scripts.specs.Plain.{IsLinePut, IsPlainScript};
+
+use om_decimal_texts::{Decimal, put_plain_text};
+use om_model::Memory;
+use om_model::list::List;
+use std::alloc::Global;
+
+/// The plain text of a script, and the decimals of each of its lines.
+#[derive(Drop)]
+pub struct PlainScript {
+    pub text: Vec<u8>,
+    pub decimals: Vec<List<Decimal>>,
+}
+
+/// How many bytes stand before the first line feed, or before the end.
+fn line_len(text: &[u8]) -> usize
+    ensures { result ≡ position_or_len (λ b. b == 10) text.now }
+{
+    text.iter().take_while(|b| **b != b'\n').count()
+}
+
+/// Puts a line's plain text, and the line's decimals.
+fn put_line(alloc: Global, plain: &mut PlainScript, line: &[u8]) -> Result<(), Memory>
+    ensures { OnOk result (IsLinePut line.now plain.old plain.new) }
+{
+    let decimals = put_plain_text(alloc, &mut plain.text, line)?;
+    plain.decimals.push(List::of(decimals))?;
+    Ok(())
+}
+
+/// The plain text of a script, and its decimals.
+pub fn plain_script(alloc: Global, text: &[u8]) -> Result<PlainScript, Memory>
+    ensures { IfOk result (IsPlainScript text.now) }
+{
+    let mut plain = PlainScript {
+        text: Vec::new(alloc),
+        decimals: Vec::new(alloc),
+    };
+    let mut at = 0;
+    loop {
+        let rest = &text[at..];
+        let len = line_len(rest);
+        put_line(alloc, &mut plain, &rest[..len])?;
+        if len == rest.len() {
+            return Ok(plain);
+        }
+        plain.text.push(b'\n')?;
+        at += len + 1;
+    }
+}

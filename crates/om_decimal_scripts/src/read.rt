@@ -1,0 +1,25 @@
+//! A script with decimals, read.
+
+ghost use Rattle.std.specs.Prelude.{Ok, Err, IfOk, IfErr};
+ghost use Rattle.om_path.specs.ScriptAnswer.{UnlessMemory};
+ghost use Rattle.om_decimal_scripts.specs.Scripts.{IsGivenAnswer};
+
+use crate::given::{given_fault, given_lines};
+use crate::plain::plain_script;
+use om_path::{Script, ScriptFault, read_script};
+use std::alloc::Global;
+
+/// The script that a text with decimals is.
+pub fn read_given_script(alloc: Global, text: &[u8]) -> Result<Script, ScriptFault>
+    ensures script { IfOk result (λ script. IsGivenAnswer text.now (Ok script)) }
+    ensures fault { IfErr result (UnlessMemory (λ fault. IsGivenAnswer text.now (Err fault))) }
+{
+    let plain = plain_script(alloc, text)?;
+    match read_script(alloc, plain.text.as_slice()) {
+        Ok(script) => {
+            let lines = given_lines(alloc, plain.decimals.as_slice(), script.as_slice())?;
+            Ok(Script::of(alloc, lines)?)
+        }
+        Err(fault) => Err(given_fault(plain.decimals.as_slice(), fault)),
+    }
+}

@@ -1,0 +1,51 @@
+//! The decimals of a text, found from the left.
+
+ghost use Rattle.std.specs.Prelude.{◌≡◌, ◌++◌, ◌^◌, OnOk, IfOk, length};
+ghost use Rattle.om_decimal_texts.specs.Plain.{decimals_in, plain_text, AreWithin};
+
+use crate::decimals::Decimal;
+use crate::front::{Front, read_front};
+use crate::plain::put_plain;
+use om_model::Memory;
+use std::alloc::Global;
+
+/// The decimals of a text, in their order, up to its first fault.
+pub fn find_decimals(alloc: Global, text: &[u8]) -> Result<Vec<Decimal>, Memory>
+    ensures are { IfOk result (λ v. v.items ≡ decimals_in text.now) }
+    ensures within { IfOk result (λ v. AreWithin 0 v.items (length text.now)) }
+    ensures room { IfOk result (λ v. AreWithin 0 v.items (2 ^ 63)) }
+{
+    let mut decimals = Vec::new(alloc);
+    let mut at = 0;
+    let mut may = true;
+    while at < text.len() {
+        match read_front(alloc, may, &text[at..])? {
+            Front::Double(bits, len) => {
+                decimals.push(Decimal {
+                    first: at,
+                    len,
+                    bits,
+                })?;
+                at += len;
+                may = true;
+            }
+            Front::Kept(len, next) => {
+                at += len;
+                may = next;
+            }
+            Front::Fault => return Ok(decimals),
+        }
+    }
+    Ok(decimals)
+}
+
+/// Puts the plain text that a text stands for, and answers the decimals of the text.
+pub fn put_plain_text(alloc: Global, new: &mut Vec<u8>, text: &[u8]) -> Result<Vec<Decimal>, Memory>
+    ensures text { OnOk result (new.new.items ≡ new.old.items ++ plain_text text.now) }
+    ensures decimals { IfOk result (λ v. v.items ≡ decimals_in text.now) }
+    ensures room { IfOk result (λ v. AreWithin 0 v.items (2 ^ 63)) }
+{
+    let decimals = find_decimals(alloc, text)?;
+    put_plain(new, text, decimals.as_slice())?;
+    Ok(decimals)
+}
