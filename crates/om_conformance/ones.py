@@ -69,10 +69,25 @@ CASES = [
     ("", ONE, "", only("verify", 0, "f.ml", "int", "script"), *USAGE),
     ("", b"", "", only("build", 0), *USAGE),
     ("", ONE, None, ["scan", "--only", "0"], *USAGE),
-    # calls that fail: the input is taken to its end
+    # calls that fail: behind the value nothing is taken
     ("fetch=0", ONE, "", only("check", 0), [], "cannot open f.ml", 8),
-    ("piece=21 take=1", ONE + ONE, "", only("check", 0), ["yes"], "read fault", 6),
+    ("piece=21 take=1", ONE + ONE, "", only("check", 0), ["yes"], "", 0),
     ("piece=21 take=1", ONE + ONE, "", only("check", 1), [], "read fault", 6),
+    ("piece=21 take=1", ONE, "", only("check", 0), ["yes"], "", 0),
+    ("piece=21 take=1", PAIR, "", only("check", 0), [], "read fault", 6),
+    ("piece=23 take=1", PAIR + ONE, "", only("check", 0), [NO], "", 1),
+    ("piece=21 take=2", ONE + FIVE, "", only("show", 1), ["5"], "", 0),
+    ("piece=21 take=2", ONE + FIVE + MAGIC, "", only("show", 1), ["5"], "", 0),
+    ("piece=21 take=2", ONE + FIVE, "", only("show", 2), [], "read fault", 6),
+    ("piece=7 take=3", ONE + ONE, "", only("check", 0), ["yes"], "", 0),
+    ("piece=7 take=2", ONE + ONE, "", only("check", 0), [], "read fault", 6),
+    ("piece=33 take=1", MAGIC + ONE + FIVE, "", only("show", 0, "--skip", "12", "f.ml", "int"), ["1"], "", 0),
+    ("piece=11 take=3", MAGIC + ONE + FIVE, "", only("show", 0, "--skip", "12", "f.ml", "int"), ["1"], "", 0),
+    ("piece=11 take=2", MAGIC + ONE + FIVE, "", only("show", 0, "--skip", "12", "f.ml", "int"), [], "read fault", 6),
+    ("piece=23 take=1", PAIR + PAIR, "", only("get", 0, "f.ml", "int * int", ".1"), ["2"], "", 0),
+    ("piece=23 take=1", PAIR + PAIR, "", only("get", 0, "f.ml", "int * int", ".2"), ["none"], "", 1),
+    ("piece=21 take=1", ONE + MAGIC, None, only("dump", 0, "--limit", "0"), ["root 1"], "", 0),
+    ("put_out=0", ONE + ONE, "", only("check", 0), [], "", 7),
 ]
 
 
@@ -89,7 +104,7 @@ def main():
         print(f"status {status}")
         if "fetch" in settings:
             print("failed to fetch: 1")
-        if "take" in settings:
+        if err == "read fault":
             print("failed to take: 1")
 
 

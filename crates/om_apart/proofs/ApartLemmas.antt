@@ -21,7 +21,7 @@ module _ {D T E : Type 0} (language : Language D T E) where
   pub made_apart : AreApart (commands language) (generation language)
   made_apart (tell saying f t lined most) = inr (generation_idle language (tell saying f t lined most) refl)
   made_apart (get f t path style lined most) = inr (generation_idle language (get f t path style lined most) refl)
-  made_apart (edit f t script compat lined most) = inr (generation_idle language (edit f t script compat lined most) refl)
+  made_apart (edit f t script compat lined decimal most) = inr (generation_idle language (edit f t script compat lined decimal most) refl)
   made_apart (dump most) = inr (generation_idle language (dump most) refl)
   made_apart (compare most) = inr (generation_idle language (compare most) refl)
   made_apart (own request) = inl (values_idle language request)
@@ -30,7 +30,7 @@ module _ {D T E : Type 0} (language : Language D T E) where
   pub made_apart_from_texts :
       {D' T' E' : Type 0} (other : Language D' T' E') (TextOf : T' → List ℕ → Built → Type 0)
       → AreApart (building other TextOf) (generation language)
-  made_apart_from_texts other TextOf (own (build f t lined)) = inr (generation_idle language (own (build f t lined)) refl)
+  made_apart_from_texts other TextOf (own (build f t lined decimal)) = inr (generation_idle language (own (build f t lined decimal)) refl)
   made_apart_from_texts other TextOf (own (generate n count t)) =
       inl (texts_idle other TextOf (own (generate n count t)) refl)
   made_apart_from_texts other TextOf (own (verify f t certificate lined most)) =
@@ -43,8 +43,8 @@ module _ {D T E : Type 0} (language : Language D T E) where
       inr (generation_idle language (tell saying f t lined most) refl)
   made_apart_from_texts other TextOf (get f t path style lined most) =
       inr (generation_idle language (get f t path style lined most) refl)
-  made_apart_from_texts other TextOf (edit f t script compat lined most) =
-      inr (generation_idle language (edit f t script compat lined most) refl)
+  made_apart_from_texts other TextOf (edit f t script compat lined decimal most) =
+      inr (generation_idle language (edit f t script compat lined decimal most) refl)
   made_apart_from_texts other TextOf (dump most) = inr (generation_idle language (dump most) refl)
   made_apart_from_texts other TextOf (compare most) = inr (generation_idle language (compare most) refl)
 
@@ -53,7 +53,7 @@ module _ {D T E S : Type 0} (language : Language D T E) (Reads : ReadsSections S
   pub certificates_apart : AreApart (commands language) (verifying language Reads ShownBy)
   certificates_apart (tell saying f t lined most) = inr (certificates_idle language Reads ShownBy (tell saying f t lined most) refl)
   certificates_apart (get f t path style lined most) = inr (certificates_idle language Reads ShownBy (get f t path style lined most) refl)
-  certificates_apart (edit f t script compat lined most) = inr (certificates_idle language Reads ShownBy (edit f t script compat lined most) refl)
+  certificates_apart (edit f t script compat lined decimal most) = inr (certificates_idle language Reads ShownBy (edit f t script compat lined decimal most) refl)
   certificates_apart (dump most) = inr (certificates_idle language Reads ShownBy (dump most) refl)
   certificates_apart (compare most) = inr (certificates_idle language Reads ShownBy (compare most) refl)
   certificates_apart (own request) = inl (values_idle language request)
@@ -64,7 +64,7 @@ module _ {D T E S : Type 0} (language : Language D T E) (Reads : ReadsSections S
       → AreApart (building other TextOf) (verifying language Reads ShownBy)
   certificates_apart_from_texts other TextOf (own (verify f t certificate lined most)) =
       inl (texts_idle other TextOf (own (verify f t certificate lined most)) refl)
-  certificates_apart_from_texts other TextOf (own (build f t lined)) = inr (certificates_idle language Reads ShownBy (own (build f t lined)) refl)
+  certificates_apart_from_texts other TextOf (own (build f t lined decimal)) = inr (certificates_idle language Reads ShownBy (own (build f t lined decimal)) refl)
   certificates_apart_from_texts other TextOf (own (generate n count t)) =
       inr (certificates_idle language Reads ShownBy (own (generate n count t)) refl)
   certificates_apart_from_texts other TextOf (own (certify f t lined most)) =
@@ -75,8 +75,8 @@ module _ {D T E S : Type 0} (language : Language D T E) (Reads : ReadsSections S
       inr (certificates_idle language Reads ShownBy (tell saying f t lined most) refl)
   certificates_apart_from_texts other TextOf (get f t path style lined most) =
       inr (certificates_idle language Reads ShownBy (get f t path style lined most) refl)
-  certificates_apart_from_texts other TextOf (edit f t script compat lined most) =
-      inr (certificates_idle language Reads ShownBy (edit f t script compat lined most) refl)
+  certificates_apart_from_texts other TextOf (edit f t script compat lined decimal most) =
+      inr (certificates_idle language Reads ShownBy (edit f t script compat lined decimal most) refl)
   certificates_apart_from_texts other TextOf (dump most) =
       inr (certificates_idle language Reads ShownBy (dump most) refl)
   certificates_apart_from_texts other TextOf (compare most) =
@@ -89,7 +89,7 @@ module _ {D T E S : Type 0} (language : Language D T E) (Reads : ReadsSections S
       inl (certificates_idle language Reads ShownBy (own (generate n count t)) refl)
   certificates_apart_from_made other (own (verify f t certificate lined most)) =
       inr (generation_idle other (own (verify f t certificate lined most)) refl)
-  certificates_apart_from_made other (own (build f t lined)) = inr (generation_idle other (own (build f t lined)) refl)
+  certificates_apart_from_made other (own (build f t lined decimal)) = inr (generation_idle other (own (build f t lined decimal)) refl)
   certificates_apart_from_made other (own (certify f t lined most)) =
       inr (generation_idle other (own (certify f t lined most)) refl)
   certificates_apart_from_made other (own (scan most)) =
@@ -98,8 +98,8 @@ module _ {D T E S : Type 0} (language : Language D T E) (Reads : ReadsSections S
       inr (generation_idle other (tell saying f t lined most) refl)
   certificates_apart_from_made other (get f t path style lined most) =
       inr (generation_idle other (get f t path style lined most) refl)
-  certificates_apart_from_made other (edit f t script compat lined most) =
-      inr (generation_idle other (edit f t script compat lined most) refl)
+  certificates_apart_from_made other (edit f t script compat lined decimal most) =
+      inr (generation_idle other (edit f t script compat lined decimal most) refl)
   certificates_apart_from_made other (dump most) =
       inr (generation_idle other (dump most) refl)
   certificates_apart_from_made other (compare most) =
@@ -109,7 +109,7 @@ module _ {D T E : Type 0} (language : Language D T E) (SectionOf : SaysSections 
   pub sections_apart : AreApart (commands language) (certifying language SectionOf)
   sections_apart (tell saying f t lined most) = inr (certifying_idle language SectionOf (tell saying f t lined most) refl)
   sections_apart (get f t path style lined most) = inr (certifying_idle language SectionOf (get f t path style lined most) refl)
-  sections_apart (edit f t script compat lined most) = inr (certifying_idle language SectionOf (edit f t script compat lined most) refl)
+  sections_apart (edit f t script compat lined decimal most) = inr (certifying_idle language SectionOf (edit f t script compat lined decimal most) refl)
   sections_apart (dump most) = inr (certifying_idle language SectionOf (dump most) refl)
   sections_apart (compare most) = inr (certifying_idle language SectionOf (compare most) refl)
   sections_apart (own request) = inl (values_idle language request)
@@ -121,8 +121,8 @@ module _ {D T E : Type 0} (language : Language D T E) (SectionOf : SaysSections 
       → AreApart (building other TextOf) (certifying language SectionOf)
   sections_apart_from_texts other TextOf (own (certify f t lined most)) =
       inl (texts_idle other TextOf (own (certify f t lined most)) refl)
-  sections_apart_from_texts other TextOf (own (build f t lined)) =
-      inr (certifying_idle language SectionOf (own (build f t lined)) refl)
+  sections_apart_from_texts other TextOf (own (build f t lined decimal)) =
+      inr (certifying_idle language SectionOf (own (build f t lined decimal)) refl)
   sections_apart_from_texts other TextOf (own (generate n count t)) =
       inr (certifying_idle language SectionOf (own (generate n count t)) refl)
   sections_apart_from_texts other TextOf (own (verify f t certificate lined most)) =
@@ -133,8 +133,8 @@ module _ {D T E : Type 0} (language : Language D T E) (SectionOf : SaysSections 
       inr (certifying_idle language SectionOf (tell saying f t lined most) refl)
   sections_apart_from_texts other TextOf (get f t path style lined most) =
       inr (certifying_idle language SectionOf (get f t path style lined most) refl)
-  sections_apart_from_texts other TextOf (edit f t script compat lined most) =
-      inr (certifying_idle language SectionOf (edit f t script compat lined most) refl)
+  sections_apart_from_texts other TextOf (edit f t script compat lined decimal most) =
+      inr (certifying_idle language SectionOf (edit f t script compat lined decimal most) refl)
   sections_apart_from_texts other TextOf (dump most) =
       inr (certifying_idle language SectionOf (dump most) refl)
   sections_apart_from_texts other TextOf (compare most) =
@@ -146,8 +146,8 @@ module _ {D T E : Type 0} (language : Language D T E) (SectionOf : SaysSections 
       → AreApart (verifying other Reads ShownBy) (certifying language SectionOf)
   sections_apart_from_certificates other Reads ShownBy (own (certify f t lined most)) =
       inl (certificates_idle other Reads ShownBy (own (certify f t lined most)) refl)
-  sections_apart_from_certificates other Reads ShownBy (own (build f t lined)) =
-      inr (certifying_idle language SectionOf (own (build f t lined)) refl)
+  sections_apart_from_certificates other Reads ShownBy (own (build f t lined decimal)) =
+      inr (certifying_idle language SectionOf (own (build f t lined decimal)) refl)
   sections_apart_from_certificates other Reads ShownBy (own (generate n count t)) =
       inr (certifying_idle language SectionOf (own (generate n count t)) refl)
   sections_apart_from_certificates other Reads ShownBy (own (verify f t certificate lined most)) =
@@ -158,8 +158,8 @@ module _ {D T E : Type 0} (language : Language D T E) (SectionOf : SaysSections 
       inr (certifying_idle language SectionOf (tell saying f t lined most) refl)
   sections_apart_from_certificates other Reads ShownBy (get f t path style lined most) =
       inr (certifying_idle language SectionOf (get f t path style lined most) refl)
-  sections_apart_from_certificates other Reads ShownBy (edit f t script compat lined most) =
-      inr (certifying_idle language SectionOf (edit f t script compat lined most) refl)
+  sections_apart_from_certificates other Reads ShownBy (edit f t script compat lined decimal most) =
+      inr (certifying_idle language SectionOf (edit f t script compat lined decimal most) refl)
   sections_apart_from_certificates other Reads ShownBy (dump most) =
       inr (certifying_idle language SectionOf (dump most) refl)
   sections_apart_from_certificates other Reads ShownBy (compare most) =
@@ -174,15 +174,15 @@ module _ {D T E : Type 0} (language : Language D T E) (SectionOf : SaysSections 
       inr (generation_idle other (own (verify f t certificate lined most)) refl)
   sections_apart_from_made other (own (certify f t lined most)) =
       inr (generation_idle other (own (certify f t lined most)) refl)
-  sections_apart_from_made other (own (build f t lined)) = inr (generation_idle other (own (build f t lined)) refl)
+  sections_apart_from_made other (own (build f t lined decimal)) = inr (generation_idle other (own (build f t lined decimal)) refl)
   sections_apart_from_made other (own (scan most)) =
       inr (generation_idle other (own (scan most)) refl)
   sections_apart_from_made other (tell saying f t lined most) =
       inr (generation_idle other (tell saying f t lined most) refl)
   sections_apart_from_made other (get f t path style lined most) =
       inr (generation_idle other (get f t path style lined most) refl)
-  sections_apart_from_made other (edit f t script compat lined most) =
-      inr (generation_idle other (edit f t script compat lined most) refl)
+  sections_apart_from_made other (edit f t script compat lined decimal most) =
+      inr (generation_idle other (edit f t script compat lined decimal most) refl)
   sections_apart_from_made other (dump most) =
       inr (generation_idle other (dump most) refl)
   sections_apart_from_made other (compare most) =

@@ -40,10 +40,10 @@ use Rattle.om_declared.specs.Types.{type_over, IsReady}
 use Rattle.om_declared.specs.declared.types.Requested.{Requested}
 use Rattle.om_declared.proofs.GivenLemmas.{ready_each}
 use Rattle.om_declared.proofs.VerdictLemmas.{is_first, made as made_for}
-use Rattle.om_texts.specs.Texts.{made as made_of, put_bytes}
+use Rattle.om_texts.specs.Texts.{Built, made as made_of, put_bytes}
 use Rattle.om_build.specs.Guessed.{IsRight}
-use Rattle.om_build.specs.Lines.{IsMade}
-use Rattle.om_build.specs.Steps.{HaltsAtLine, PutsLine}
+use Rattle.om_build.specs.Lines.{IsMade, plain_texts}
+use Rattle.om_build.specs.Steps.{HaltsBy, PutsBy}
 use Rattle.om_build.proofs.AlikeLemmas.{value_alike}
 use Rattle.om_build.proofs.StepLemmas.{bytes_plain, never_none}
 
@@ -154,21 +154,21 @@ each_ok (Err e) P Q f h = tt
 -- ---- what is put
 
 pub halts_so :
-    (t : TypeOver) (line : List ℕ) (number k : ℕ) (out : Change ByteState) (halt : Halt)
+    (Of : Built → Type 0) (number k : ℕ) (out : Change ByteState) (halt : Halt)
     (result : Result ℕ Halt) → IsErrAnd result (λ h. h ≡ halt)
-    → HaltsAtLine t line number k out halt → PutsLine t line number k out result
-halts_so t line number k out halt (Ok texts) is h = absurd is
-halts_so t line number k out halt (Err e) is h =
-    subst (HaltsAtLine t line number k out) (sym is) h
+    → HaltsBy Of number k out halt → PutsBy Of number k out result
+halts_so Of number k out halt (Ok texts) is h = absurd is
+halts_so Of number k out halt (Err e) is h =
+    subst (HaltsBy Of number k out) (sym is) h
 
-module _ (t : TypeOver) (line : List ℕ) (number k : ℕ) (graph : List Obj) (v : Val)
-    (right : IsRight t line graph v) (out : Change ByteState) where
+module _ (t : TypeOver) (told : ℕ → ℕ → List ℕ) (line : List ℕ) (number k : ℕ)
+    (graph : List Obj) (v : Val) (right : IsRight t line graph v) (out : Change ByteState) where
   made_by : (bytes : List ℕ) (tree : Tree) → IsTreeOf graph v tree → bytes ≡ canon tree
       → IsMade t line bytes
   made_by bytes tree of are = subst (IsMade t line) (sym are) (right.made tree of)
 
   pub right_halts : (halt : Halt) → PutsBytes {U = Unit {0}} false k graph v out (Err halt)
-      → HaltsAtLine t line number k out halt
+      → HaltsBy (plain_texts t told line) number k out halt
   right_halts (halts.Stop stop) (inl memory, put) = (inl memory, put)
   right_halts (halts.Stop stop) (inr (why, none, told), put) =
       absurd (never_none graph v why none)
@@ -177,7 +177,7 @@ module _ (t : TypeOver) (line : List ℕ) (number k : ℕ) (graph : List Obj) (v
       (made_of bytes, made_by bytes b.0 b.1 b.2, put_bytes bytes, refl, part)
 
   pub right_counts : PutsBytes {U = Unit {0}} false k graph v out (Ok tt)
-      → PutsLine t line number k out (Ok (k + 1))
+      → PutsBy (plain_texts t told line) number k out (Ok (k + 1))
   right_counts (bytes, are, put) =
       let b = bytes_plain graph v bytes are in
       (made_of bytes, made_by bytes b.0 b.1 b.2, put_bytes bytes, refl, put, refl)

@@ -17,7 +17,6 @@ use Rattle.om_typing.proofs.OnceLemmas.{no_line_once}
 use Rattle.om_canonical.proofs.SameTree.{one_tree_only}
 use Rattle.om_format.specs.Canonical.{canon}
 use Rattle.om_format.specs.Iso.{IsTreeOf}
-use Rattle.om_lines.specs.Lines.{place_on}
 use Rattle.om_decl.specs.Text.{lexer_text}
 use Rattle.om_edit.specs.EditedValues.{Answer}
 use Rattle.om_edit.specs.Reasons.{Reason, literal_text}
@@ -25,7 +24,7 @@ use Rattle.om_edit.proofs.MadeLemmas.{set_once}
 use Rattle.om_promises.specs.Lawful.{IsOnce}
 use Rattle.om_declared.specs.Language.{TypeOver}
 use Rattle.om_texts.specs.Texts.{blank, made, refused, untyped}
-use Rattle.om_build.specs.Lines.{AreText, IsText, IsMade, IsUntyped, IsRefused, declared_texts}
+use Rattle.om_build.specs.Lines.{AreText, IsText, IsMade, IsUntyped, IsRefused, plain_texts}
 use Rattle.om_build.proofs.AlikeLemmas.{before, at_root, put_of_text}
 
 module _ (line : List ℕ) where
@@ -44,7 +43,7 @@ module _ (line : List ℕ) where
   lexed_or_fault : (l : List Lexeme) (f : LexFault) → Lexes line l → Faults line f → ⊥
   lexed_or_fault l f one other = let e = outcomes_same (Ok l) (Err f) one other in cc e
 
-  module _ (t : TypeOver) where
+  module _ (t : TypeOver) (told : ℕ → ℕ → List ℕ) where
     pub text_once : (a b : Answer Ty) → IsText t line a → IsText t line b → a ≡ b
     text_once a b one other =
         let same = lexed_same one.lexemes other.lexemes one.lexes other.lexes in
@@ -72,37 +71,37 @@ module _ (line : List ℕ) where
     values_same graph others root other is its =
         let e = text_once (Ok (graph, root)) (Ok (others, other)) is its in cc e
 
-    blank_or_refused : (refusal : ℕ → List ℕ) → Lexes line [] → IsRefused t line refusal → ⊥
+    blank_or_refused : (refusal : ℕ → List ℕ) → Lexes line [] → IsRefused t line told refusal → ⊥
     blank_or_refused refusal none (inl (f, fault, is)) = lexed_or_fault [] f none fault
-    blank_or_refused refusal none (inr (reason, is, told)) = blank_or_text (Err reason) none is
+    blank_or_refused refusal none (inr (reason, is, spelled)) = blank_or_text (Err reason) none is
 
     value_or_refused :
         (graph : List Obj) (root : Val) (refusal : ℕ → List ℕ) → IsText t line (Ok (graph, root))
-        → IsRefused t line refusal → ⊥
+        → IsRefused t line told refusal → ⊥
     value_or_refused graph root refusal text (inl (f, fault, is)) =
         text_or_fault (Ok (graph, root)) f text fault
-    value_or_refused graph root refusal text (inr (reason, is, told)) =
+    value_or_refused graph root refusal text (inr (reason, is, spelled)) =
         value_or_reason graph root reason text is
 
     refused_once :
-        (refusal other : ℕ → List ℕ) → IsRefused t line refusal → IsRefused t line other
+        (refusal other : ℕ → List ℕ) → IsRefused t line told refusal → IsRefused t line told other
         → refusal ≡ other
-    refused_once refusal other (inl (f, fault, is)) (inl (g, its, told)) =
+    refused_once refusal other (inl (f, fault, is)) (inl (g, its, spelled)) =
         is
-        ∙ (ap {B = ℕ → List ℕ} (λ (f : LexFault) (number : ℕ). lexer_text (place_on t.lines number) f)
+        ∙ (ap {B = ℕ → List ℕ} (λ (f : LexFault) (number : ℕ). lexer_text (told number) f)
         (faults_same f g fault its)
-        ∙ sym told)
-    refused_once refusal other (inl (f, fault, is)) (inr (reason, its, told)) =
+        ∙ sym spelled)
+    refused_once refusal other (inl (f, fault, is)) (inr (reason, its, spelled)) =
         absurd (text_or_fault (Err reason) f its fault)
-    refused_once refusal other (inr (reason, its, told)) (inl (f, fault, is)) =
+    refused_once refusal other (inr (reason, its, spelled)) (inl (f, fault, is)) =
         absurd (text_or_fault (Err reason) f its fault)
-    refused_once refusal other (inr (reason, is, told)) (inr (others, its, told')) =
+    refused_once refusal other (inr (reason, is, spelled)) (inr (others, its, spelled')) =
         let e = text_once (Err reason) (Err others) is its in
         let same : reason ≡ others = cc e in
-        told
+        spelled
         ∙ (ap {B = ℕ → List ℕ}
-        (λ (r : Reason Ty) (number : ℕ). literal_text type_text (place_on t.lines number) r) same
-        ∙ sym told')
+        (λ (r : Reason Ty) (number : ℕ). literal_text type_text (told number) r) same
+        ∙ sym spelled')
 
     -- where no value has the type and a fault
     module _ (never_both : (graph : List Obj) (root : Val) (text : List ℕ)
@@ -130,7 +129,7 @@ module _ (line : List ℕ) where
           (λ (g : List Obj × Val). IsNoLine (declared_shapes t.decls) type_text g.0 g.1 t.type fault)
           same m.why) u.why
 
-      pub built_once : IsOnce (declared_texts t line)
+      pub built_once : IsOnce (plain_texts t told line)
       built_once blank blank h k = refl
       built_once blank (made bytes) h k = absurd (blank_or_text (Ok (k.graph, k.root)) h k.is_text)
       built_once blank (refused refusal) h k = absurd (blank_or_refused refusal h k)

@@ -1,6 +1,7 @@
 -- What comes of a line, in code: its value, or why there is none; and its bytes, or a halt.
-use Rattle.std.proofs.Common.{ℕ, ◌≡◌, ◌+◌, false, List, length, Option, Some, None, Result, Ok, Err, inl, inr, refl, sym, ap, ◌∙◌, subst, arith}
-use Rattle.std.specs.Prelude.{IsErrAnd}
+use Rattle.std.proofs.Common.{ℕ, ◌≡◌, ◌+◌, Bool, false, List, length, Option, Some, None, Result, Ok, Err, inl, inr, refl, sym, ap, ◌∙◌, subst, arith}
+use Rattle.std.specs.Prelude.{IfOk, IsErrAnd}
+use Rattle.om_model.specs.declared.out_of_memory.Memory.{Memory}
 use Rattle.om_model.specs.declared.value.Val.{Val}
 use Rattle.om_model.specs.declared.value.Obj.{Obj}
 use Rattle.om_format.specs.Canonical.{canon}
@@ -8,34 +9,40 @@ use Rattle.om_format.specs.Iso.{IsTreeOf}
 use Rattle.om_format.specs.Compat.{TooLargeFor32, too_large_for_32}
 use Rattle.om_format.specs.Tree.{Tree}
 use Rattle.om_types.specs.TypeText.{type_text}
+use Rattle.om_type_table.specs.declared.table.TypeTable.{TypeTable}
+use Rattle.om_lex.specs.declared.lexeme.LexFault.TheVariants as lexer
+use Rattle.om_literal.specs.declared.fault.LiteralFault.TheVariants as literals
 use Rattle.om_lines.specs.Lines.{place_on}
+use Rattle.om_decimal_texts.specs.declared.decimals.Decimal.{Decimal}
 use Rattle.om_decl.specs.Text.{lexer_text}
 use Rattle.om_edit.specs.Reasons.{literal_text}
-use Rattle.om_outcome.specs.Outcome.{Unedited, text_line, nothing_said}
+use Rattle.om_outcome.specs.Outcome.{Unedited, nothing_said}
+use Rattle.om_outcome.specs.declared.stop.Stop.TheVariants.{Text as text_line, Memory as out_of_memory}
 use Rattle.om_edge.specs.State.{ByteState, Change, change}
 use Rattle.om_promises.proofs.PutLemmas.{puts_nothing}
 use Rattle.om_stops.specs.declared.stop.Halt.{Halt}
 use Rattle.om_stops.specs.declared.stop.Halt.TheVariants as halts
-use Rattle.om_stops.specs.declared.stop.Stop.TheVariants as stops
 use Rattle.om_text.specs.declared.text.TextFault.{TextFault}
 use Rattle.om_text.specs.declared.text.TextFault.TheVariants as faults
 use Rattle.om_text.specs.Text.{ReadsText}
 use Rattle.om_declared.specs.Bytes.{PutsBytes}
 use Rattle.om_declared.specs.Checked.{ChecksType}
-use Rattle.om_declared.specs.Language.{bytes_for, AreBytesOf}
+use Rattle.om_declared.specs.Language.{TypeOver, bytes_for, AreBytesOf}
 use Rattle.om_declared.specs.Types.{type_over, IsReady}
 use Rattle.om_declared.specs.declared.types.Requested.{Requested}
 use Rattle.om_texts.specs.Texts.{blank, made, refused, untyped, put_bytes}
-use Rattle.om_build.specs.Lines.{IsText, IsMade, declared_texts}
-use Rattle.om_build.specs.Steps.{IsFaultText, ReadsLine, HaltsAtLine, PutsValue, PutsLine}
+use Rattle.om_build.specs.Given.{given_fault}
+use Rattle.om_build.specs.Lines.{IsText, IsMade, plain_texts, decimals_if, plain_if, told_on}
+use Rattle.om_build.specs.Steps.{IsFaultText, ReadsLine, HaltsBy, PutsValue, PutsBy, PutsLine}
 use Rattle.om_build.proofs.AlikeLemmas.{value_alike, fault_alike}
 
-module _ (r : Requested) (ready : IsReady r) (line : List ℕ) (new : List Obj) where
+module _ (r : Requested) (ready : IsReady r) (told : ℕ → ℕ → List ℕ) (line : List ℕ)
+    (new : List Obj) where
   -- ---- what is read
 
   pub line_read :
       (number : ℕ) (value : Option Val) → ReadsText r.table line new (Ok value)
-      → ReadsLine (type_over r) line number new (Ok value)
+      → ReadsLine (type_over r) told line number new (Ok value)
   line_read number None (none, is) = is
   line_read number (Some root) (valid, (lexemes, lexes, some, are)) = (
     valid,
@@ -50,32 +57,51 @@ module _ (r : Requested) (ready : IsReady r) (line : List ℕ) (new : List Obj) 
   -- the line is refused, with the text of the fault
   pub line_refused :
       (number : ℕ) (fault : TextFault) (text : List ℕ)
-      → IsFaultText r.table (place_on r.lines number) fault text
+      → IsFaultText r.table (told number) fault text
       → ReadsText r.table line new (Err fault)
-      → (refusal : ℕ → List ℕ) × declared_texts (type_over r) line (refused refusal)
+      → (refusal : ℕ → List ℕ) × plain_texts (type_over r) told line (refused refusal)
       × (text ≡ refusal number)
-  line_refused number (faults.Lex fault) text told (none, is) =
-      (λ n. lexer_text (place_on r.lines n) fault, inl (fault, is, refl), told)
-  line_refused number (faults.Literal fault) text told (none, (lexemes, lexes, full, is)) =
+  line_refused number (faults.Lex fault) text spelled (none, is) =
+      (λ n. lexer_text (told n) fault, inl (fault, is, refl), spelled)
+  line_refused number (faults.Literal fault) text spelled (none, (lexemes, lexes, full, is)) =
       let reason = fault_alike (type_over r) r.table ready.made lexemes (length line) fault is in (
-        λ n. literal_text type_text (place_on r.lines n) reason.0,
+        λ n. literal_text type_text (told n) reason.0,
         inr (
           reason.0,
           record { lexemes = lexemes; lexes = lexes; some = full; are = reason.1 },
           refl,
         ),
-        told ∙ reason.2 (place_on r.lines number),
+        spelled ∙ reason.2 (told number),
       )
-  line_refused number faults.Memory text told is = absurd told
+  line_refused number faults.Memory text spelled is = absurd spelled
 
   pub line_stops :
       (number : ℕ) (fault : TextFault) (text : List ℕ)
-      → IsFaultText r.table (place_on r.lines number) fault text
+      → IsFaultText r.table (told number) fault text
       → ReadsText r.table line new (Err fault)
-      → ReadsLine (type_over r) line number new (Err (halts.Stop (stops.Text number text)))
-  line_stops number fault text told reads =
-      let why = line_refused number fault text told reads in
+      → ReadsLine (type_over r) told line number new (Err (halts.Stop (text_line number text)))
+  line_stops number fault text spelled reads =
+      let why = line_refused number fault text spelled reads in
       inr (why.0, why.1, ap (λ t. text_line number t) why.2)
+
+-- a fault with its places moved has the text of the fault whose places are told so
+pub told_moved :
+    (table : TypeTable) (lines : Bool) (decimals : List Decimal) (number : ℕ) (fault : TextFault)
+    (result : Result (List ℕ) Memory)
+    → IfOk result (IsFaultText table (place_on lines number) (given_fault decimals fault))
+    → IfOk result (IsFaultText table (told_on lines decimals number) fault)
+told_moved table lines decimals number fault (Err e) is = tt
+told_moved table lines decimals number (faults.Lex (lexer.BadByte p)) (Ok text) is = is
+told_moved table lines decimals number (faults.Lex (lexer.OpenString p)) (Ok text) is = is
+told_moved table lines decimals number (faults.Lex (lexer.OpenComment p)) (Ok text) is = is
+told_moved table lines decimals number (faults.Lex (lexer.TooBig p)) (Ok text) is = is
+told_moved table lines decimals number (faults.Lex lexer.Memory) (Ok text) is = is
+told_moved table lines decimals number (faults.Literal (literals.Syntax p)) (Ok text) is = is
+told_moved table lines decimals number (faults.Literal (literals.Misfit p i)) (Ok text) is = is
+told_moved table lines decimals number (faults.Literal (literals.IntRange p)) (Ok text) is = is
+told_moved table lines decimals number (faults.Literal (literals.Label p)) (Ok text) is = is
+told_moved table lines decimals number (faults.Literal literals.Memory) (Ok text) is = is
+told_moved table lines decimals number faults.Memory (Ok text) is = is
 
 -- ---- what is put
 
@@ -101,34 +127,37 @@ never_none graph root why (tree, of, is) =
 module _ (r : Requested) (k : ℕ) (graph : List Obj) (root : Val) where
   -- the value has not the type, or memory ran out
   pub check_halts :
-      (line : List ℕ) (number : ℕ) → IsText (type_over r) line (Ok (graph, root))
+      (told : ℕ → ℕ → List ℕ) (line : List ℕ) (number : ℕ)
+      → IsText (type_over r) line (Ok (graph, root))
       → (out : ByteState) (halt : Halt) (result : Result (Unit {0}) Halt)
       → IsErrAnd result (λ h. h ≡ halt)
       → ChecksType {U = Unit {0}} r k graph root (Err halt)
-      → PutsValue (type_over r) line number k (change out out) result
-  check_halts line number text out halt (Ok unit) is c = absurd is
-  check_halts line number text out halt (Err h) is c =
-      subst (HaltsAtLine (type_over r) line number k (change out out)) (sym is) (at halt c) where
+      → PutsValue (plain_texts (type_over r) told line) number k (change out out) result
+  check_halts told line number text out halt (Ok unit) is c = absurd is
+  check_halts told line number text out halt (Err h) is c =
+      subst (HaltsBy (plain_texts (type_over r) told line) number k (change out out)) (sym is)
+      (at halt c) where
         at : (halt : Halt) → ChecksType {U = Unit {0}} r k graph root (Err halt)
-            → HaltsAtLine (type_over r) line number k (change out out) halt
+            → HaltsBy (plain_texts (type_over r) told line) number k (change out out) halt
         at halts.WriteFault never = absurd never
         at (halts.Stop stop) (inl memory) = (inl memory, puts_nothing out)
-        at (halts.Stop stop) (inr (text', why, some_not, told)) = (
+        at (halts.Stop stop) (inr (text', why, some_not, spelled)) = (
           inr (
             untyped text',
             record { graph = graph; root = root; is_text = text; why = why; some_not = some_not },
-            told,
+            spelled,
           ),
           puts_nothing out,
         )
 
   pub value_puts :
-      (line : List ℕ) (number : ℕ) → IsText (type_over r) line (Ok (graph, root))
+      (told : ℕ → ℕ → List ℕ) (line : List ℕ) (number : ℕ)
+      → IsText (type_over r) line (Ok (graph, root))
       → ChecksType {U = Unit {0}} r k graph root (Ok tt)
       → (out : Change ByteState) (result : Result (Unit {0}) Halt)
       → PutsBytes false k graph root out result
-      → PutsValue (type_over r) line number k out result
-  value_puts line number text has out (Ok unit) (bytes, are, put) =
+      → PutsValue (plain_texts (type_over r) told line) number k out result
+  value_puts told line number text has out (Ok unit) (bytes, are, put) =
       (bytes, is_made bytes are, put) where
         is_made : (bytes : List ℕ) → AreBytesOf false graph root (Ok bytes)
             → IsMade (type_over r) line bytes
@@ -143,10 +172,10 @@ module _ (r : Requested) (k : ℕ) (graph : List Obj) (root : Val) where
               of = b.1;
               are = b.2;
             }
-  value_puts line number text has out (Err (halts.Stop stop)) (inl memory, put) = (inl memory, put)
-  value_puts line number text has out (Err (halts.Stop stop)) (inr (why, none, told), put) =
+  value_puts told line number text has out (Err (halts.Stop stop)) (inl memory, put) = (inl memory, put)
+  value_puts told line number text has out (Err (halts.Stop stop)) (inr (why, none, spelled), put) =
       absurd (never_none graph root why none)
-  value_puts line number text has out (Err halts.WriteFault) (bytes, are, part) =
+  value_puts told line number text has out (Err halts.WriteFault) (bytes, are, part) =
       let b = bytes_plain graph root bytes are in (
         made bytes,
         record {
@@ -166,34 +195,56 @@ module _ (r : Requested) (k : ℕ) (graph : List Obj) (root : Val) where
 
 -- ---- a line
 
-module _ (r : Requested) (line : List ℕ) (number k : ℕ) where
+module _ (r : Requested) (told : ℕ → ℕ → List ℕ) (line : List ℕ) (number k : ℕ) where
   -- by `?`
   pub line_halts :
       (out : Change ByteState) (halt : Halt) (result : Result ℕ Halt)
-      → IsErrAnd result (λ h. h ≡ halt) → HaltsAtLine (type_over r) line number k out halt
-      → PutsLine (type_over r) line number k out result
+      → IsErrAnd result (λ h. h ≡ halt)
+      → HaltsBy (plain_texts (type_over r) told line) number k out halt
+      → PutsBy (plain_texts (type_over r) told line) number k out result
   line_halts out halt (Ok texts) is h = absurd is
   line_halts out halt (Err e) is h =
-      subst (HaltsAtLine (type_over r) line number k out) (sym is) h
+      subst (HaltsBy (plain_texts (type_over r) told line) number k out) (sym is) h
 
   -- what is read comes to a halt
   pub read_halts :
       (new : List Obj) (out : ByteState) (halt : Halt)
-      → ReadsLine (type_over r) line number new (Err halt)
-      → HaltsAtLine (type_over r) line number k (change out out) halt
+      → ReadsLine (type_over r) told line number new (Err halt)
+      → HaltsBy (plain_texts (type_over r) told line) number k (change out out) halt
   read_halts new out halts.WriteFault never = absurd never
   read_halts new out (halts.Stop stop) (inl memory) = (inl memory, puts_nothing out)
-  read_halts new out (halts.Stop stop) (inr (refusal, is, told)) =
-      (inr (refused refusal, is, told), puts_nothing out)
+  read_halts new out (halts.Stop stop) (inr (refusal, is, spelled)) =
+      (inr (refused refusal, is, spelled), puts_nothing out)
 
   pub blank_puts :
-      (out : ByteState) → declared_texts (type_over r) line blank
-      → PutsLine (type_over r) line number k (change out out) (Ok k)
+      (out : ByteState) → plain_texts (type_over r) told line blank
+      → PutsBy (plain_texts (type_over r) told line) number k (change out out) (Ok k)
   blank_puts out is = (blank, is, nothing_said, refl, puts_nothing out, add_none k) where
     add_none : (k : ℕ) → k ≡ k + 0
     add_none k = omega arith
 
   pub value_counts :
-      (out : Change ByteState) → PutsValue {U = Unit {0}} (type_over r) line number k out (Ok tt)
-      → PutsLine (type_over r) line number k out (Ok (k + 1))
+      (out : Change ByteState)
+      → PutsValue {U = Unit {0}} (plain_texts (type_over r) told line) number k out (Ok tt)
+      → PutsBy (plain_texts (type_over r) told line) number k out (Ok (k + 1))
   value_counts out (bytes, is, put) = (made bytes, is, put_bytes bytes, refl, put, refl)
+
+  -- without memory nothing is put
+  pub memory_halts :
+      (out : ByteState) → HaltsBy (plain_texts (type_over r) told line) number k (change out out)
+      (halts.Stop out_of_memory)
+  memory_halts out = (inl refl, puts_nothing out)
+
+-- ---- decimals
+
+module _ (t : TypeOver) (line : List ℕ) (number k : ℕ) (out : Change ByteState)
+    (result : Result ℕ Halt) where
+  -- the line is what its plain text is, with decimals or without
+  pub line_put :
+      (decimal : Bool) → t.decimal ≡ decimal
+      → PutsBy (plain_texts t (told_on t.lines (decimals_if decimal line)) (plain_if decimal line))
+      number k out result
+      → PutsLine t line number k out result
+  line_put decimal is puts =
+      subst (λ b. PutsBy (plain_texts t (told_on t.lines (decimals_if b line)) (plain_if b line))
+      number k out result) (sym is) puts

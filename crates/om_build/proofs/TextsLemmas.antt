@@ -1,14 +1,13 @@
 -- The lines so far: one more piece without a line feed, one more line, and the end.
 use Rattle.std.proofs.Common.{◌≡◌, ℕ, suc, ◌+◌, ◌≤◌, true, List, [], ◌∷◌, ◌++◌, length, Result, Ok, Err, inl, inr, refl, sym, ap, ◌∙◌, subst, append_assoc, append-nil, length-append, arith}
 use Rattle.std.specs.Prelude.{◌&&◌, IsErrAnd, take, drop}
-use Rattle.om_outcome.specs.Outcome as outcome
-use Rattle.om_outcome.specs.Outcome.{Said, out_of_memory, all_well}
+use Rattle.om_outcome.specs.Outcome.{Said, all_well}
+use Rattle.om_outcome.specs.declared.stop.Stop.{Stop}
+use Rattle.om_outcome.specs.declared.stop.Stop.TheVariants.{Text as text_line, Memory as out_of_memory}
 use Rattle.om_edge.specs.Sink.{Puts}
 use Rattle.om_edge.specs.State.{ByteState, Change}
 use Rattle.om_stops.specs.declared.stop.Halt.{Halt}
 use Rattle.om_stops.specs.declared.stop.Halt.TheVariants as halts
-use Rattle.om_stops.specs.declared.stop.Stop.{Stop}
-use Rattle.om_stops.specs.Stops.{stop_of}
 use Rattle.om_promises.specs.Account.{HoldNoStop}
 use Rattle.om_promises.specs.Commands.{Item, value, text, Cut, SaysFirst}
 use Rattle.om_promises.proofs.ValueLemmas.{all_well-snoc}
@@ -63,13 +62,13 @@ length_snoc items item = length-append items (item ∷ [])
 
 -- a line that stops the run does so by its numbers
 pub stops_by :
-    (t : TypeOver) (items : List Item) (lines k : ℕ) (built : Built) (stop : outcome.Stop)
+    (t : TypeOver) (items : List Item) (lines k : ℕ) (built : Built) (stop : Stop)
     → lines ≡ length items → AreTexts declared_texts t items k
     → IsStopAt (lines + 1) k built stop → StopsBy declared_texts t items built stop
 stops_by t items lines k blank stop counts texts h = absurd h
 stops_by t items lines k (made bytes) stop counts texts h = absurd h
 stops_by t items lines k (refused refusal) stop counts texts h =
-    h ∙ ap (λ n. outcome.text_line n (refusal n)) (next lines (length items) counts) where
+    h ∙ ap (λ n. text_line n (refusal n)) (next lines (length items) counts) where
       next : (a b : ℕ) → a ≡ b → a + 1 ≡ suc b
       next a b e = omega (arith, e)
 stops_by t items lines k (untyped fault) stop counts texts h = (k, texts, h)
@@ -184,7 +183,7 @@ module _ (r : Requested) (held : List ℕ) (lines texts : ℕ) (bytes : List ℕ
 
     -- memory ran out
     pub line_memory :
-        (more : List ℕ) (out : Change ByteState) (stop : Stop) → stop_of stop ≡ out_of_memory
+        (more : List ℕ) (out : Change ByteState) (stop : Stop) → stop ≡ out_of_memory
         → Puts out []
         → HaltsIn (building declared_types declared_texts) (type_over r) bytes (end ++ 10 ∷ more)
         said out (halts.Stop stop)
@@ -207,8 +206,8 @@ module _ (r : Requested) (held : List ℕ) (lines texts : ℕ) (bytes : List ℕ
         whole_line more,
         built,
         subst (λ l. declared_texts (type_over r) l built) same of,
-        stops_by (type_over r) h.items lines texts built (stop_of stop) h.counted h.are_texts
-            (subst (λ n. IsStopAt n texts built (stop_of stop)) numbered at),
+        stops_by (type_over r) h.items lines texts built stop h.counted h.are_texts
+            (subst (λ n. IsStopAt n texts built stop) numbered at),
       ),
       put,
     )
@@ -257,8 +256,8 @@ module _ (r : Requested) (held : List ℕ) (lines texts : ℕ) (bytes : List ℕ
       inl (
         built,
         of,
-        stops_by (type_over r) h.items lines texts built (stop_of stop) h.counted h.are_texts
-            (subst (λ n. IsStopAt n texts built (stop_of stop)) numbered at),
+        stops_by (type_over r) h.items lines texts built stop h.counted h.are_texts
+            (subst (λ n. IsStopAt n texts built stop) numbered at),
       ),
       put,
     ),

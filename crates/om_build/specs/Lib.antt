@@ -1,3 +1,4 @@
+pub mod Given
 pub mod Guessed
 pub mod Lines
 pub mod Steps

@@ -1,5 +1,5 @@
 -- What a line of the input is at a declared type.
-use Rattle.std.specs.Prelude.{ℕ, ◌≡◌, ◌≢◌, ◌⊎◌, Ok, Err, List, [], length}
+use Rattle.std.specs.Prelude.{ℕ, ◌≡◌, ◌≢◌, ◌⊎◌, Bool, if◌then◌else◌, Ok, Err, List, [], length}
 use Rattle.om_model.specs.declared.value.Val.{Val}
 use Rattle.om_model.specs.declared.value.Obj.{Obj}
 use Rattle.om_lex.specs.declared.lexeme.Lexeme.{Lexeme}
@@ -18,6 +18,8 @@ use Rattle.om_format.specs.Iso.{IsTreeOf}
 use Rattle.om_format.specs.Tree.{Tree}
 use Rattle.om_lines.specs.Lines.{place_on}
 use Rattle.om_decl.specs.Text.{lexer_text}
+use Rattle.om_decimal_texts.specs.declared.decimals.Decimal.{Decimal}
+use Rattle.om_decimal_texts.specs.Plain.{decimals_in, plain_text, given_place}
 use Rattle.om_edit.specs.EditedValues.{Answer, IsLiteral, IsNoLiteral, IsMisread}
 use Rattle.om_edit.specs.Reasons.{Reason, no_literal, misread, literal_text}
 use Rattle.om_declared.specs.Language.{TypeOver}
@@ -65,17 +67,35 @@ module _ (t : TypeOver) where
       pub some_not : ¬ HasEachInstance t.decls graph root t.type
 
     -- it has no lexemes, for a fault of the lexer, or they are no literal of the type; and this is
-    -- told, by the number of the line
-    abbrev pub IsRefused : (ℕ → List ℕ) → Type 0
-    IsRefused refusal =
+    -- told, by the number of the line, and by how places are told then
+    abbrev pub IsRefused : (told : ℕ → ℕ → List ℕ) → (ℕ → List ℕ) → Type 0
+    IsRefused told refusal =
         ((fault : LexFault) × Faults line fault
-        × (refusal ≡ λ number. lexer_text (place_on t.lines number) fault))
+        × (refusal ≡ λ number. lexer_text (told number) fault))
         ⊎ ((reason : Reason Ty) × IsText (Err reason)
-        × (refusal ≡ λ number. literal_text type_text (place_on t.lines number) reason))
+        × (refusal ≡ λ number. literal_text type_text (told number) reason))
+
+-- what a line without decimals is, where places are told so
+abbrev pub plain_texts : TypeOver → (told : ℕ → ℕ → List ℕ) → List ℕ → Built → Type 0
+plain_texts t told line blank = Lexes line []
+plain_texts t told line (made bytes) = IsMade t line bytes
+plain_texts t told line (refused refusal) = IsRefused t line told refusal
+plain_texts t told line (untyped fault) = IsUntyped t line fault
+
+-- ---- decimals
+
+-- where decimals stand for doubles: those of a line, and the text without them that it stands for
+abbrev pub decimals_if : Bool → List ℕ → List Decimal
+decimals_if decimal line = if decimal then decimals_in line else []
+
+abbrev pub plain_if : Bool → List ℕ → List ℕ
+plain_if decimal line = if decimal then plain_text line else line
+
+-- a place of that text is told as the one in the line, which has these decimals and this number
+abbrev pub told_on : (lines : Bool) → List Decimal → (number : ℕ) → ℕ → List ℕ
+told_on lines decimals number = λ place. place_on lines number (given_place decimals place)
 
 -- what a line is
 abbrev pub declared_texts : TypeOver → List ℕ → Built → Type 0
-declared_texts t line blank = Lexes line []
-declared_texts t line (made bytes) = IsMade t line bytes
-declared_texts t line (refused refusal) = IsRefused t line refusal
-declared_texts t line (untyped fault) = IsUntyped t line fault
+declared_texts t line built =
+    plain_texts t (told_on t.lines (decimals_if t.decimal line)) (plain_if t.decimal line) built

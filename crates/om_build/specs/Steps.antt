@@ -8,11 +8,11 @@ use Rattle.om_fault.specs.Text.{text_at}
 use Rattle.om_edit.specs.Reasons.{literal_or_none, literal_reason}
 use Rattle.om_edge.specs.Sink.{Puts, PutsPart}
 use Rattle.om_edge.specs.State.{ByteState, Change}
-use Rattle.om_outcome.specs.Outcome as outcome
-use Rattle.om_outcome.specs.Outcome.{text_line, untyped_value, out_of_memory, Said, all_well}
+use Rattle.om_outcome.specs.Outcome.{Said, all_well}
+use Rattle.om_outcome.specs.declared.stop.Stop.{Stop}
+use Rattle.om_outcome.specs.declared.stop.Stop.TheVariants.{Text as text_line, Untyped as untyped_value}
 use Rattle.om_stops.specs.declared.stop.Halt.{Halt}
 use Rattle.om_stops.specs.declared.stop.Halt.TheVariants as halts
-use Rattle.om_stops.specs.Stops.{stop_of}
 use Rattle.om_promises.specs.Commands.{Item, SaysFirst}
 use Rattle.om_work.specs.Works.{Has, HaltsIn}
 use Rattle.om_type_table.specs.declared.table.TypeTable.{TypeTable}
@@ -23,7 +23,7 @@ use Rattle.om_declared.specs.Language.{TypeOver, declared_types}
 use Rattle.om_declared.specs.Types.{type_over, IsReady}
 use Rattle.om_declared.specs.declared.types.Requested.{Requested}
 use Rattle.om_texts.specs.Texts.{Built, blank, made, refused, untyped, counted, IsUnbroken, IsSaidOf, AreTexts, building}
-use Rattle.om_build.specs.Lines.{declared_texts, IsText}
+use Rattle.om_build.specs.Lines.{declared_texts, plain_texts, IsText}
 
 -- the text of a fault, where places are told so; want of memory has none
 abbrev pub IsFaultText : TypeTable → (told : ℕ → List ℕ) → TextFault → List ℕ → Type 0
@@ -33,47 +33,51 @@ IsFaultText table told (faults.Literal fault) text =
 IsFaultText table told faults.Memory text = ⊥
 
 -- line L, before which there are k texts, stops the run so
-abbrev pub IsStopAt : ℕ → ℕ → Built → outcome.Stop → Type 0
+abbrev pub IsStopAt : ℕ → ℕ → Built → Stop → Type 0
 IsStopAt line k blank stop = ⊥
 IsStopAt line k (made bytes) stop = ⊥
 IsStopAt line k (refused refusal) stop = stop ≡ text_line line (refusal line)
 IsStopAt line k (untyped fault) stop = stop ≡ untyped_value k fault
 
--- the line is blank, or a text of a value, whose objects are these; or the run stops
-abbrev pub ReadsLine : TypeOver → List ℕ → ℕ → List Obj → Result (Option Val) Halt → Type 0
-ReadsLine t text line new (Ok None) = declared_texts t text blank
-ReadsLine t text line new (Ok (Some root)) =
+-- the text is blank, or one of a value, whose objects are these; or the run stops at the line
+abbrev pub ReadsLine : TypeOver → (told : ℕ → ℕ → List ℕ) → List ℕ → ℕ → List Obj
+    → Result (Option Val) Halt → Type 0
+ReadsLine t told text line new (Ok None) = plain_texts t told text blank
+ReadsLine t told text line new (Ok (Some root)) =
     IsValue (length new) root × IsText t text (Ok (new, root))
-ReadsLine t text line new (Err (halts.Stop stop)) =
+ReadsLine t told text line new (Err (halts.Stop stop)) =
     OrMemory (λ stop.
-    (refusal : ℕ → List ℕ) × declared_texts t text (refused refusal)
-    × (stop_of stop ≡ text_line line (refusal line))) stop
-ReadsLine t text line new (Err halts.WriteFault) = ⊥
+    (refusal : ℕ → List ℕ) × plain_texts t told text (refused refusal)
+    × (stop ≡ text_line line (refusal line))) stop
+ReadsLine t told text line new (Err halts.WriteFault) = ⊥
 
 -- what the line is comes to a stop, with its number and that of its text, and nothing is put; or
 -- out failed
-abbrev pub HaltsAtLine : TypeOver → List ℕ → ℕ → ℕ → Change ByteState → Halt → Type 0
-HaltsAtLine t text line k out (halts.Stop stop) =
-    OrMemory (λ stop.
-    (built : Built) × declared_texts t text built × IsStopAt line k built (stop_of stop)) stop
-    × Puts out []
-HaltsAtLine t text line k out halts.WriteFault =
-    (built : Built) × declared_texts t text built × (said : Said) × IsSaidOf built said
-    × PutsPart out said.text
+abbrev pub HaltsBy : (Of : Built → Type 0) → ℕ → ℕ → Change ByteState → Halt → Type 0
+HaltsBy Of line k out (halts.Stop stop) =
+    OrMemory (λ stop. (built : Built) × Of built × IsStopAt line k built stop) stop × Puts out []
+HaltsBy Of line k out halts.WriteFault =
+    (built : Built) × Of built × (said : Said) × IsSaidOf built said × PutsPart out said.text
 
 -- the bytes of the value are put; or the run stops; or out failed
-abbrev pub PutsValue : {U : Type 0} → TypeOver → List ℕ → ℕ → ℕ → Change ByteState
+abbrev pub PutsValue : {U : Type 0} → (Of : Built → Type 0) → ℕ → ℕ → Change ByteState
     → Result U Halt → Type 0
-PutsValue t text line k out (Ok unit) =
-    (bytes : List ℕ) × declared_texts t text (made bytes) × Puts out bytes
-PutsValue t text line k out (Err halt) = HaltsAtLine t text line k out halt
+PutsValue Of line k out (Ok unit) = (bytes : List ℕ) × Of (made bytes) × Puts out bytes
+PutsValue Of line k out (Err halt) = HaltsBy Of line k out halt
 
--- the line is put, as what it is at the type, and there are so many texts then
+-- what the line is is put, and there are so many texts then
+abbrev pub PutsBy : (Of : Built → Type 0) → ℕ → ℕ → Change ByteState → Result ℕ Halt → Type 0
+PutsBy Of line k out (Ok texts) =
+    (built : Built) × Of built × (said : Said) × IsSaidOf built said × Puts out said.text
+    × (texts ≡ k + counted built)
+PutsBy Of line k out (Err halt) = HaltsBy Of line k out halt
+
+-- the same of the line at the type
+abbrev pub HaltsAtLine : TypeOver → List ℕ → ℕ → ℕ → Change ByteState → Halt → Type 0
+HaltsAtLine t text line k out halt = HaltsBy (declared_texts t text) line k out halt
+
 abbrev pub PutsLine : TypeOver → List ℕ → ℕ → ℕ → Change ByteState → Result ℕ Halt → Type 0
-PutsLine t text line k out (Ok texts) =
-    (built : Built) × declared_texts t text built × (said : Said) × IsSaidOf built said
-    × Puts out said.text × (texts ≡ k + counted built)
-PutsLine t text line k out (Err halt) = HaltsAtLine t text line k out halt
+PutsLine t text line k out result = PutsBy (declared_texts t text) line k out result
 
 -- Of these bytes the lines were taken, each fine, of which this is said; and what comes after the
 -- last line feed is held.

@@ -1,9 +1,13 @@
 //! The texts of the faults of lines.
 
-ghost use Rattle.std.specs.Prelude.{◌<◌, length, All, IfOk};
+ghost use Rattle.std.specs.Prelude.{◌<◌, ◌^◌, length, All, IfOk};
 ghost use Rattle.om_lines.specs.Lines.{place_on};
+ghost use Rattle.om_decimal_texts.specs.Plain.{AreWithin};
+ghost use Rattle.om_build.specs.Lines.{told_on};
 ghost use Rattle.om_build.specs.Steps.{IsFaultText};
 
+use crate::given::given_fault;
+use om_decimal_texts::Decimal;
 use om_decl::lexer_text;
 use om_edit::literal_text;
 use om_lines::Places;
@@ -15,7 +19,7 @@ use std::alloc::Global;
 
 /// The text of a fault of the line of this number, whose places are told by line and column or not.
 /// Want of memory has none.
-pub fn line_fault_text(
+fn placed_fault_text(
     alloc: Global,
     table: &TypeTable,
     lines: bool,
@@ -31,4 +35,23 @@ pub fn line_fault_text(
         TextFault::Literal(fault) => literal_text(alloc, table, &places, fault),
         TextFault::Memory => Err(Memory),
     }
+}
+
+/// The text of a fault of the text that the line of this number stands for, with these decimals in
+/// place of doubles.
+pub fn line_fault_text(
+    alloc: Global,
+    table: &TypeTable,
+    lines: bool,
+    decimals: &[Decimal],
+    number: u64,
+    fault: TextFault,
+) -> Result<List<u8>, Memory>
+    requires stored { All (λ i. i < length table.now.store) table.now.stored }
+    requires within { AreWithin 0 decimals.now (2 ^ 63) }
+    ensures { IfOk result
+        (IsFaultText table.now (told_on lines decimals.now number) fault) }
+{
+    let given = given_fault(decimals, fault)?;
+    placed_fault_text(alloc, table, lines, number, given)
 }

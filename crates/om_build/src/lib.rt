@@ -3,6 +3,7 @@
 #![tactic(auto)]
 
 mod fault;
+mod given;
 mod guessed;
 pub mod laws;
 mod line;

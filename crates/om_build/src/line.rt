@@ -3,41 +3,55 @@
 ghost use Rattle.std.specs.Prelude.{ℕ, ◌+◌, ◌^◌, ◌<◌, List, length, Ok};
 ghost use Rattle.om_model.specs.Graph.{IsValue};
 ghost use Rattle.om_edge.specs.State.{change};
+ghost use Rattle.om_decimal_texts.specs.Plain.{decimals_in, plain_text, AreWithin};
 ghost use Rattle.om_declared.specs.Language.{TypeOver};
 ghost use Rattle.om_declared.specs.Types.{type_over, IsReady};
 ghost use Rattle.om_build.specs.Guessed.{IsRight};
-ghost use Rattle.om_build.specs.Lines.{IsText};
-ghost use Rattle.om_build.specs.Steps.{ReadsLine, PutsValue, PutsLine};
+ghost use Rattle.om_build.specs.Lines.{IsText, plain_texts, told_on};
+ghost use Rattle.om_build.specs.Steps.{ReadsLine, PutsValue, PutsBy, PutsLine};
 
 use crate::fault::line_fault_text;
 use crate::guessed::guess_line;
+use om_decimal_texts::{Decimal, put_plain_text};
 use om_declared::{Requested, check_type, put_plain};
 use om_edge::Sink;
 use om_heap::Heap;
 use om_literal_alike::tables_read_alike;
 use om_model::value::Val;
-use om_stops::stop::{Halt, Stop};
+use om_outcome::stop::Stop;
+use om_stops::stop::Halt;
 use om_text::{TextFault, read_text};
 use std::alloc::Global;
 
-/// Reads the line of this number as a value, or none where it is blank; or it stops the run.
+/// Reads the text that the line of this number stands for, with these decimals in place of doubles,
+/// as a value, or none where it is blank; or it stops the run.
 fn read_line(
     alloc: Global,
     heap: &mut Heap,
     requested: &Requested,
-    line: &[u8],
+    text: &[u8],
+    decimals: &[Decimal],
     number: u64,
 ) -> Result<Option<Val>, Halt>
-    requires { IsReady requested.now }
-    ensures { ReadsLine (type_over requested.now) line.now number heap.new result }
+    requires ready { IsReady requested.now }
+    requires within { AreWithin 0 decimals.now (2 ^ 63) }
+    ensures { ReadsLine (type_over requested.now) (told_on requested.now.lines decimals.now)
+        text.now number heap.new result }
 {
     tables_read_alike();
-    match read_text(alloc, heap, &requested.table, line) {
+    match read_text(alloc, heap, &requested.table, text) {
         Ok(value) => Ok(value),
         Err(TextFault::Memory) => Err(Halt::Stop(Stop::Memory)),
         Err(fault) => {
-            let text = line_fault_text(alloc, &requested.table, requested.lines, number, fault)?;
-            Err(Halt::Stop(Stop::Text(number, text)))
+            let told = line_fault_text(
+                alloc,
+                &requested.table,
+                requested.lines,
+                decimals,
+                number,
+                fault,
+            )?;
+            Err(Halt::Stop(Stop::Text(number, told)))
         }
     }
 }
@@ -54,32 +68,35 @@ fn put_value<K: Sink>(
 ) -> Result<(), Halt>
     requires value { IsValue (length heap.now) root }
     requires ready { IsReady requested.now }
-    ensures { (line : List ℕ) (place : ℕ)
-        → IsText (type_over requested.now) line (Ok (heap.now, root))
-        → PutsValue (type_over requested.now) line place number
+    ensures { (text : List ℕ) (told : ℕ → ℕ → List ℕ) (place : ℕ)
+        → IsText (type_over requested.now) text (Ok (heap.now, root))
+        → PutsValue (plain_texts (type_over requested.now) told text) place number
         (change (K.state out.old) (K.state out.new)) result }
 {
     check_type(alloc, heap, root, number, requested)?;
     put_plain(alloc, heap, root, number, out)
 }
 
-/// Puts a line that is read, as the line of this number, before which there are so many texts, and
-/// answers how many there are then.
+/// Puts a text that is read, as that of the line of this number, before which there are so many
+/// texts, and answers how many there are then.
 fn put_read<K: Sink>(
     alloc: Global,
     heap: &mut Heap,
     requested: &Requested,
-    line: &[u8],
+    text: &[u8],
+    decimals: &[Decimal],
     number: u64,
     texts: u64,
     out: &mut K,
 ) -> Result<u64, Halt>
     requires ready { IsReady requested.now }
+    requires within { AreWithin 0 decimals.now (2 ^ 63) }
     requires few { texts + 1 < 2 ^ 64 }
-    ensures { PutsLine (type_over requested.now) line.now number texts
+    ensures { PutsBy (plain_texts (type_over requested.now)
+        (told_on requested.now.lines decimals.now) text.now) number texts
         (change (K.state out.old) (K.state out.new)) result }
 {
-    match read_line(alloc, heap, requested, line, number)? {
+    match read_line(alloc, heap, requested, text, decimals, number)? {
         None => Ok(texts),
         Some(root) => {
             put_value(alloc, heap, root, texts, requested, out)?;
@@ -88,7 +105,7 @@ fn put_read<K: Sink>(
     }
 }
 
-/// Puts the bytes of a value that a line stands for, before which there are so many texts, and
+/// Puts the bytes of a value that a text stands for, before which there are so many texts, and
 /// answers how many there are then.
 fn put_right<K: Sink>(
     alloc: Global,
@@ -99,11 +116,70 @@ fn put_right<K: Sink>(
 ) -> Result<u64, Halt>
     requires value { IsValue (length heap.now) root }
     requires few { texts + 1 < 2 ^ 64 }
-    ensures { (t : TypeOver) (line : List ℕ) (number : ℕ) → IsRight t line heap.now root
-        → PutsLine t line number texts (change (K.state out.old) (K.state out.new)) result }
+    ensures { (t : TypeOver) (told : ℕ → ℕ → List ℕ) (text : List ℕ) (number : ℕ)
+        → IsRight t text heap.now root
+        → PutsBy (plain_texts t told text) number texts
+        (change (K.state out.old) (K.state out.new)) result }
 {
     put_plain(alloc, heap, root, texts, out)?;
     Ok(texts + 1)
+}
+
+/// Puts the text that the line of this number stands for, with these decimals in place of doubles,
+/// before which there are so many texts, and answers how many there are then.
+fn put_text<K: Sink>(
+    alloc: Global,
+    heap: &mut Heap,
+    requested: &Requested,
+    text: &[u8],
+    decimals: &[Decimal],
+    number: u64,
+    texts: u64,
+    out: &mut K,
+) -> Result<u64, Halt>
+    requires ready { IsReady requested.now }
+    requires within { AreWithin 0 decimals.now (2 ^ 63) }
+    requires few { texts + 1 < 2 ^ 64 }
+    ensures { PutsBy (plain_texts (type_over requested.now)
+        (told_on requested.now.lines decimals.now) text.now) number texts
+        (change (K.state out.old) (K.state out.new)) result }
+{
+    match guess_line(alloc, heap, requested, text)? {
+        Some(root) => put_right(alloc, heap, root, texts, out),
+        None => put_read(alloc, heap, requested, text, decimals, number, texts, out),
+    }
+}
+
+/// Puts the line of this number, in which decimals may stand for doubles, by its text without them,
+/// which takes the room of the one before.
+fn put_given<K: Sink>(
+    alloc: Global,
+    heap: &mut Heap,
+    plain: &mut Vec<u8>,
+    requested: &Requested,
+    line: &[u8],
+    number: u64,
+    texts: u64,
+    out: &mut K,
+) -> Result<u64, Halt>
+    requires ready { IsReady requested.now }
+    requires few { texts + 1 < 2 ^ 64 }
+    ensures { PutsBy (plain_texts (type_over requested.now)
+        (told_on requested.now.lines (decimals_in line.now)) (plain_text line.now)) number texts
+        (change (K.state out.old) (K.state out.new)) result }
+{
+    plain.clear();
+    let decimals = put_plain_text(alloc, plain, line)?;
+    put_text(
+        alloc,
+        heap,
+        requested,
+        plain.as_slice(),
+        decimals.as_slice(),
+        number,
+        texts,
+        out,
+    )
 }
 
 /// Puts the line of this number, before which there are so many texts, and answers how many there
@@ -111,6 +187,7 @@ fn put_right<K: Sink>(
 pub fn put_line<K: Sink>(
     alloc: Global,
     heap: &mut Heap,
+    plain: &mut Vec<u8>,
     requested: &Requested,
     line: &[u8],
     number: u64,
@@ -122,8 +199,9 @@ pub fn put_line<K: Sink>(
     ensures { PutsLine (type_over requested.now) line.now number texts
         (change (K.state out.old) (K.state out.new)) result }
 {
-    match guess_line(alloc, heap, requested, line)? {
-        Some(root) => put_right(alloc, heap, root, texts, out),
-        None => put_read(alloc, heap, requested, line, number, texts, out),
+    if requested.decimal {
+        put_given(alloc, heap, plain, requested, line, number, texts, out)
+    } else {
+        put_text(alloc, heap, requested, line, &[], number, texts, out)
     }
 }

@@ -28,12 +28,13 @@ fn keep(held: &mut Vec<u8>, bytes: &[u8]) -> Result<(), Memory>
 
 /// The texts so far: how many lines there were, and how many of them were texts; and what came
 /// after the last line feed. One line is held at a time, and the value of a text takes the heap of
-/// the one before.
+/// the one before, as its text without decimals takes the room of that one's.
 #[derive(Drop)]
 pub struct Texts<'a> {
     requested: &'a Requested,
     held: Vec<u8>,
     heap: Heap,
+    plain: Vec<u8>,
     lines: u64,
     texts: u64,
 }
@@ -50,6 +51,7 @@ impl<'a> Texts<'a> {
             requested,
             held: Vec::new(alloc),
             heap: Heap::new(alloc),
+            plain: Vec::new(alloc),
             lines: 0,
             texts: 0,
         }
@@ -72,6 +74,7 @@ impl<'a> Texts<'a> {
         self.texts = put_line(
             alloc,
             &mut self.heap,
+            &mut self.plain,
             self.requested,
             line,
             self.lines + 1,
@@ -119,6 +122,7 @@ impl Work for Texts<'_> {
         put_line(
             alloc,
             &mut self.heap,
+            &mut self.plain,
             self.requested,
             line,
             self.lines + 1,

@@ -4,7 +4,9 @@ use Rattle.std.specs.Prelude.{◌↔◌, IfSome}
 use Rattle.om_model.specs.Bytes.{AreBytes}
 use Rattle.om_outcome.specs.declared.status.Status.{Status}
 use Rattle.om_outcome.specs.declared.status.Status.TheVariants as statuses
-use Rattle.om_outcome.specs.Outcome.{InputEnd, at_end, at_fault, at_length, unasked, Taken, read_fault, too_long, stops, opened, whole, Stop, usage, bad_path, status_of, ending_of, Replies, stopped}
+use Rattle.om_outcome.specs.Outcome.{InputEnd, at_end, at_fault, at_length, unasked, Taken, stops, opened, whole, status_of, ending_of, Replies, stopped}
+use Rattle.om_outcome.specs.declared.stop.Stop.{Stop}
+use Rattle.om_outcome.specs.declared.stop.Stop.TheVariants.{Usage as usage, BadPath as bad_path, ReadFault as read_fault, TooLong as too_long}
 use Rattle.om_edge.specs.Files.{File, contents_of}
 use Rattle.om_promises.specs.Account.{MayBe}
 use Rattle.om_promises.specs.Call.{Call}

@@ -2,7 +2,8 @@
 use Rattle.std.proofs.Common.{ℕ, ◌≡◌, List, Err, inl, inr, refl, subst}
 use Rattle.om_model.specs.Bytes.{AreBytes}
 use Rattle.om_outcome.specs.declared.status.Status.{Status}
-use Rattle.om_outcome.specs.Outcome.{Request, Stop, status_of, ending_of, Said, Reply, Replies, replies}
+use Rattle.om_outcome.specs.Outcome.{Request, status_of, ending_of, Said, Reply, Replies, replies}
+use Rattle.om_outcome.specs.declared.stop.Stop.{Stop}
 use Rattle.om_promises.specs.Commands.{Fetches, Commands, HoldStop}
 use Rattle.om_promises.specs.Promises.{HoldEnd, Gives}
 use Rattle.om_causes.specs.Causes.{Tables, Show, HaveShown, AreExact}

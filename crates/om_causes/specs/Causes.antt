@@ -5,7 +5,9 @@ use Rattle.std.specs.Prelude.{ℕ, ◌^◌, ◌<◌, ◌≡◌, ◌≢◌, ◌�
 use Rattle.om_model.specs.Bytes.{AreBytes}
 use Rattle.om_outcome.specs.declared.status.Status.{Status}
 use Rattle.om_outcome.specs.declared.status.Status.TheVariants.{Usage, ReadFault, Memory, TooLong}
-use Rattle.om_outcome.specs.Outcome.{whole, opened, Request, Asks, IsUsage, Stop, bad_path, status_of, ending_of, Replies}
+use Rattle.om_outcome.specs.Outcome.{whole, opened, Request, Asks, IsUsage, status_of, ending_of, Replies}
+use Rattle.om_outcome.specs.declared.stop.Stop.{Stop}
+use Rattle.om_outcome.specs.declared.stop.Stop.TheVariants.{BadPath as bad_path}
 use Rattle.om_edge.specs.Files.{File, contents_of}
 use Rattle.om_promises.specs.Account.{FetchesFor}
 use Rattle.om_promises.specs.Call.{Call}

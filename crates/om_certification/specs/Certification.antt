@@ -5,8 +5,10 @@ use Rattle.om_model.specs.declared.refusal.ReadRefusal.{ReadRefusal}
 use Rattle.om_format.specs.Stream.{End, clean, refused, cut, IsTail}
 use Rattle.om_format.specs.Tree.{Tree}
 use Rattle.om_outcome.specs.CommandLine.{certify}
-use Rattle.om_outcome.specs.Outcome.{Request, AskedType, asked_type, own, Stop, value, Said, nothing_said, Reply, says, stops, Language, Then, ReadsTypeOf}
+use Rattle.om_outcome.specs.Outcome.{Request, AskedType, asked_type, own, Said, nothing_said, Reply, says, stops, Language, Then, ReadsTypeOf}
 use Rattle.om_outcome.specs.RefusalText.{refusal_text, truncated_text}
+use Rattle.om_outcome.specs.declared.stop.Stop.{Stop}
+use Rattle.om_outcome.specs.declared.stop.Stop.TheVariants.{Value as value}
 use Rattle.om_promises.specs.Commands.{Item, value as value_item, Fetches, Commands}
 use Rattle.om_promises.specs.Lawful.{IsOnce}
 use Rattle.om_promises.specs.LawfulLanguage.{IsGiven}

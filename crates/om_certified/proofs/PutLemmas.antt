@@ -11,7 +11,9 @@ use Rattle.om_section.specs.Laws.{texts_from}
 use Rattle.om_outcome.specs.declared.status.Status.{Status}
 use Rattle.om_outcome.specs.declared.status.Status.TheVariants as statuses
 use Rattle.om_outcome.specs.RefusalText.{refusal_text, truncated_text}
-use Rattle.om_outcome.specs.Outcome.{InputEnd, at_end, at_fault, at_length, unasked, whole, opened, Request, Asks, Stop, value, read_fault, too_long, status_of, ending_of, Said, nothing_said, says, stops, Replies, replies, stopped, all_well, texts_of, ReadsTypeOf}
+use Rattle.om_outcome.specs.Outcome.{InputEnd, at_end, at_fault, at_length, unasked, whole, opened, Request, Asks, status_of, ending_of, Said, nothing_said, says, stops, Replies, replies, stopped, all_well, texts_of, ReadsTypeOf}
+use Rattle.om_outcome.specs.declared.stop.Stop.{Stop}
+use Rattle.om_outcome.specs.declared.stop.Stop.TheVariants.{Value as value, ReadFault as read_fault, TooLong as too_long}
 use Rattle.om_command_line.proofs.RequestLemmas.{one_request}
 use Rattle.om_promises.specs.Commands.{Item, Given, Prepares, IsLast, Closes, SaysAll, Answers}
 use Rattle.om_promises.proofs.SettledLemmas.{Goes, stop_status}

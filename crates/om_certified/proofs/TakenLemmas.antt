@@ -5,7 +5,8 @@ use Rattle.std.proofs.lemmas.Bool.{le-ltb}
 use Rattle.om_model.specs.Bytes.{AreBytes}
 use Rattle.om_format.specs.Stream.{SpellAll, End, clean, refused, cut}
 use Rattle.om_format.specs.Tree.{Tree}
-use Rattle.om_outcome.specs.Outcome.{at_end, whole, nothing_said, Reply, says, stops, sections_left, Replies, Language}
+use Rattle.om_outcome.specs.Outcome.{at_end, whole, nothing_said, Reply, says, stops, Replies, Language}
+use Rattle.om_outcome.specs.declared.stop.Stop.TheVariants.{SectionsLeft as sections_left}
 use Rattle.om_promises.specs.Commands.{value, IsLast, SaysAll}
 use Rattle.om_promises.proofs.LengthLemmas.{spelled_some}
 use Rattle.om_promises.proofs.StreamLemmas.{spell_bytes}

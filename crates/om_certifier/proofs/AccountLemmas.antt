@@ -3,10 +3,11 @@ use Rattle.std.proofs.Common.{◌≡◌, ◌⊎◌, ◌<◌, ℕ, zero, suc, Boo
 use Rattle.om_outcome.specs.declared.status.Status.{Status}
 use Rattle.om_outcome.specs.declared.reading.Reading.{Reading}
 use Rattle.om_outcome.specs.CommandLine.{certify}
-use Rattle.om_outcome.specs.Outcome.{Found, Request, asked_type, own, Asks, out_of_memory}
+use Rattle.om_outcome.specs.Outcome.{Found, Request, asked_type, own, Asks}
+use Rattle.om_outcome.specs.declared.stop.Stop.{Stop}
+use Rattle.om_outcome.specs.declared.stop.Stop.TheVariants.{Memory as out_of_memory}
 use Rattle.om_edge.specs.State.{ByteState, FilesState, Change, change}
-use Rattle.om_stops.specs.declared.stop.Stop.{Stop}
-use Rattle.om_stops.specs.Stops.{stop_of, Reports}
+use Rattle.om_stops.specs.Stops.{Reports}
 use Rattle.om_promises.specs.Account.{IsWanted, FetchesIn, FetchesFor, Account}
 use Rattle.om_promises.specs.Call.{call}
 use Rattle.om_promises.specs.Commands.{Fetches, Prepares}
@@ -61,18 +62,18 @@ module _ (words : List (List ℕ)) (file type : List ℕ) (lines : Bool) (readin
 
   gives_stop :
       (stop : Stop) → GivesType file (asked_type type lines) found (Err stop)
-      → Prepares on_certified_after words all_found (Err (stop_of stop)) ⊎ (stop_of stop ≡ out_of_memory)
+      → Prepares on_certified_after words all_found (Err stop) ⊎ (stop ≡ out_of_memory)
   gives_stop stop (inl reads) =
-      inl (Ok request, asks, (asked, refl, (Err (stop_of stop), reads, refl)))
+      inl (Ok request, asks, (asked, refl, (Err stop, reads, refl)))
   gives_stop stop (inr memory) = inr memory
 
   -- there is no type
   pub no_type_account :
       (stop : Stop) → GivesType file (asked_type type lines) found (Err stop) → (input out : ByteState)
-      (err : Change ByteState) (status : Status) → Reports (stop_of stop) err status
+      (err : Change ByteState) (status : Status) → Reports stop err status
       → Account on_certified_after words (call (change input input) files (change out out) err status)
   no_type_account stop gives input out err status r =
-      stop_account on_certified_after words all_found input out files fetches err status (stop_of stop)
+      stop_account on_certified_after words all_found input out files fetches err status stop
       (gives_stop stop gives) r
 
   -- the values are certified at the type

@@ -19,13 +19,14 @@ use Rattle.om_certify.specs.Leasts.{AreLeasts}
 use Rattle.om_edge.specs.Sink.{Puts}
 use Rattle.om_edge.specs.State.{ByteState, Change, change}
 use Rattle.om_outcome.specs.Outcome as outcome
-use Rattle.om_outcome.specs.Outcome.{Said, nothing_said, out_of_memory, all_well}
+use Rattle.om_outcome.specs.Outcome.{Said, nothing_said, all_well}
 use Rattle.om_outcome.specs.RefusalText.{refusal_text, truncated_text}
+use Rattle.om_outcome.specs.declared.stop.Stop.{Stop}
+use Rattle.om_outcome.specs.declared.stop.Stop.TheVariants.{Memory as out_of_memory}
+use Rattle.om_outcome.specs.declared.stop.Stop.TheVariants as stops
 use Rattle.om_stops.specs.declared.stop.Halt.{Halt}
 use Rattle.om_stops.specs.declared.stop.Halt.TheVariants as halts
-use Rattle.om_stops.specs.declared.stop.Stop.{Stop}
-use Rattle.om_stops.specs.declared.stop.Stop.TheVariants as stops
-use Rattle.om_stops.specs.Stops.{stop_of}
+use Rattle.om_stops.specs.Stops.{IsOrMemory, IsStopOf}
 use Rattle.om_promises.specs.Account.{HoldNoStop}
 use Rattle.om_promises.specs.Commands.{Item, value as value_item, Cut, SaysFirst}
 use Rattle.om_promises.proofs.LengthLemmas.{spelled_some}
@@ -41,7 +42,7 @@ use Rattle.om_declared.specs.Types.{type_over, IsReady}
 use Rattle.om_certification.specs.Certification.{Certification, StopsHere}
 use Rattle.om_certification.proofs.ItemLemmas.{item_stays, goes_on}
 use Rattle.om_certifier.specs.Certified.{SaysSection, declared_certificates, on_certified}
-use Rattle.om_certifier.specs.Reading.{certified, IsStopOf, PutsSection, HasRead, IsValueRead, PutsNext}
+use Rattle.om_certifier.specs.Reading.{certified, PutsSection, HasRead, IsValueRead, PutsNext}
 
 -- a value stays one when bytes follow
 pub values_stay : (r : Requested) (limit : ℕ) → ItemsStay on_certified (certified r limit)
@@ -150,12 +151,14 @@ module _ (r : Requested) (leasts : List ℕ) (limit : ℕ) where
     -- a value is cut
     pub ends_cut :
         (h : Has) (truncated : Truncated) → EndsInput {U = Unit {0}} limit h.front (Err truncated)
-        → (o : ByteState) → Ends h (change o o) (Err (halts.Stop (stops.Cut count truncated.taken)))
-    ends_cut h truncated within o =
-        let is : outcome.value count (truncated_text truncated.taken)
-        ≡ outcome.value (length h.items) (truncated_text (length h.front)) =
-        ap (λ n. outcome.value n (truncated_text truncated.taken)) h.counted
-        ∙ ap (λ n. outcome.value (length h.items) (truncated_text n)) within.0 in (
+        → (o : ByteState) (stop : Stop)
+        → IsOrMemory (stops.Value count (truncated_text truncated.taken)) stop
+        → Ends h (change o o) (Err (halts.Stop stop))
+    ends_cut h truncated within o stop (inr memory) = (inr memory, puts_nothing o)
+    ends_cut h truncated within o stop (inl told) =
+        let is : stop ≡ stops.Value (length h.items) (truncated_text (length h.front)) =
+        told ∙ (ap (λ n. stops.Value n (truncated_text truncated.taken)) h.counted
+        ∙ ap (λ n. stops.Value (length h.items) (truncated_text n)) within.0) in (
           inl (
             cut (length h.front),
             (within.1, refl, h.is_front),
@@ -234,21 +237,21 @@ module _ (r : Requested) (leasts : List ℕ) (limit : ℕ) where
 
       abbrev StopsIn : Stop → Type 0
       StopsIn stop =
-          StopsHere declared_certificates a h.items (h.front ++ rest) (stop_of stop)
-          ⊎ (stop_of stop ≡ out_of_memory)
+          StopsHere declared_certificates a h.items (h.front ++ rest) stop
+          ⊎ (stop ≡ out_of_memory)
 
       -- what is refused
       pub stops_in :
           (refusal : ReadRefusal) (stop : Stop) → RefusedIn limit (h.front ++ rest) refusal
           → IsStopOf count refusal stop → StopsIn stop
-      stops_in refusal stop refused (inl (memory, is)) = inr is
+      stops_in refusal stop refused (inl memory) = inr memory
       stops_in refusal stop refused (inr (some, is)) =
           elim ((unless_memory refusal ((n : ℕ) × (n ≤ length (h.front ++ rest)) × IsRefused limit (take n (h.front ++ rest)) refusal)).1 refused) [
             | inl e ↦ absurd (some e)
             | inr tail ↦ inl (record {
               refusal = refusal;
               tail = tail;
-              is = subst (λ n. stop_of stop ≡ outcome.value n (refusal_text refusal)) h.counted is;
+              is = subst (λ n. stop ≡ stops.Value n (refusal_text refusal)) h.counted is;
             })
           ]
 

@@ -1,7 +1,5 @@
 -- What has been read of the values, and said of them, as their bytes come.
-use Rattle.std.specs.Prelude.{ℕ, ◌<◌, ◌≡◌, ◌≢◌, ◌⊎◌, Bool, false, List, [], ◌∷◌, ◌++◌, length, Result, Ok, Err}
-use Rattle.om_model.specs.declared.refusal.ReadRefusal.{ReadRefusal}
-use Rattle.om_model.specs.declared.refusal.ReadRefusal.TheVariants as refusals
+use Rattle.std.specs.Prelude.{ℕ, ◌<◌, ◌≡◌, Bool, false, List, [], ◌∷◌, ◌++◌, length, Result, Ok, Err}
 use Rattle.om_model.specs.declared.value.Obj.{Obj}
 use Rattle.om_model.specs.declared.value.Val.{Val}
 use Rattle.om_format.specs.Front.{IsFront}
@@ -11,12 +9,9 @@ use Rattle.om_type_table.specs.Made.{table_of}
 use Rattle.om_certify.specs.Leasts.{AreLeasts}
 use Rattle.om_edge.specs.Sink.{Puts, PutsPart}
 use Rattle.om_edge.specs.State.{ByteState, Change}
-use Rattle.om_outcome.specs.RefusalText.{refusal_text}
-use Rattle.om_outcome.specs.Outcome.{value, out_of_memory, Said, all_well}
+use Rattle.om_outcome.specs.Outcome.{Said, all_well}
 use Rattle.om_stops.specs.declared.stop.Halt.{Halt}
 use Rattle.om_stops.specs.declared.stop.Halt.TheVariants as halts
-use Rattle.om_stops.specs.declared.stop.Stop.{Stop}
-use Rattle.om_stops.specs.Stops.{stop_of}
 use Rattle.om_promises.specs.Commands.{Item, SaysFirst}
 use Rattle.om_work.specs.Works.{AreSaid}
 use Rattle.om_declared.specs.declared.types.Requested.{Requested}
@@ -24,6 +19,7 @@ use Rattle.om_declared.specs.Language.{TypeOver}
 use Rattle.om_declared.specs.Types.{type_over, IsReady}
 use Rattle.om_certification.specs.Certification.{Certification}
 use Rattle.om_outcome.specs.declared.reading.Reading.{Reading}
+use Rattle.om_outcome.specs.declared.stop.Stop.TheVariants.{Memory as out_of_memory}
 use Rattle.om_passing.specs.Skipping.{Passed}
 use Rattle.om_certifier.specs.Certified.{SaysSection, on_certified}
 
@@ -36,12 +32,6 @@ abbrev pub certified_after : Requested → Reading → Passed × Certification T
 certified_after r reading =
     (record { bytes = reading.skip; copied = false }, certified r reading.limit)
 
--- the stop of value k that is refused, where it is not for out of memory
-abbrev pub IsStopOf : ℕ → ReadRefusal → Stop → Type 0
-IsStopOf k refusal stop =
-    ((refusal ≡ refusals.Memory) × (stop_of stop ≡ out_of_memory))
-    ⊎ ((refusal ≢ refusals.Memory) × (stop_of stop ≡ value k (refusal_text refusal)))
-
 -- the section is put; or memory ran out, and nothing is put; or out failed
 abbrev pub PutsSection : TypeOver → ℕ → List Obj → Val → Change ByteState → Result Bool Halt
     → Type 0
@@ -49,7 +39,7 @@ PutsSection t number graph v out (Ok well) =
     (text : List ℕ)
     × SaysSection t number graph v (record { text = text; well = well }) × Puts out text
 PutsSection t number graph v out (Err (halts.Stop stop)) =
-    (stop_of stop ≡ out_of_memory) × Puts out []
+    (stop ≡ out_of_memory) × Puts out []
 PutsSection t number graph v out (Err halts.WriteFault) =
     (text : List ℕ) × (well : Bool)
     × SaysSection t number graph v (record { text = text; well = well }) × PutsPart out text
@@ -90,7 +80,7 @@ PutsNext r leasts limit reader count well taken said out (Ok unit) =
     (next : Said) × HasRead r leasts limit reader count well taken (said ++ next ∷ [])
     × Puts out next.text
 PutsNext r leasts limit reader count well taken said out (Err (halts.Stop stop)) =
-    (stop_of stop ≡ out_of_memory) × Puts out []
+    (stop ≡ out_of_memory) × Puts out []
 PutsNext r leasts limit reader count well taken said out (Err halts.WriteFault) =
     (next : Said) × AreSaid on_certified (certified r limit) taken (said ++ next ∷ [])
     × PutsPart out next.text

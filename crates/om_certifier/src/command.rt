@@ -19,9 +19,10 @@ use om_declared::{Requested, find_type};
 use om_edge::{Opener, Sink, Source};
 use om_outcome::reading::Reading;
 use om_outcome::status::Status;
+use om_outcome::stop::Stop;
 use om_passer::{Over, Passing};
 use om_passing::laws::ByWords;
-use om_stops::stop::{Stop, report_stop};
+use om_stops::stop::report_stop;
 use om_work::run_reported;
 use std::alloc::Global;
 
@@ -110,7 +111,7 @@ pub fn certify<S: Source, O: Opener, K: Sink, E: Sink>(
         (change (K.state out.old) (K.state out.new))
         (change (E.state err.old) (E.state err.new)) result) }
 {
-    match find_type(alloc, files, file, type_text, lines) {
+    match find_type(alloc, files, file, type_text, lines, false) {
         Ok(requested) => certify_over(alloc, requested, reading, input, out, err),
         Err(stop) => report_stop(alloc, err, &stop),
     }

@@ -7,31 +7,22 @@ ghost use Rattle.om_certify.specs.Leasts.{AreLeasts};
 ghost use Rattle.om_outcome.specs.Outcome.{Said};
 ghost use Rattle.om_edge.specs.State.{change};
 ghost use Rattle.om_declared.specs.Types.{type_over, IsReady};
-ghost use Rattle.om_certifier.specs.Reading.{IsStopOf, HasRead, IsValueRead, PutsSection, PutsNext, certified};
+ghost use Rattle.om_certifier.specs.Reading.{HasRead, IsValueRead, PutsSection, PutsNext, certified};
 
 use crate::line::{is_yes, value_section};
 use om_certify::Leasts;
 use om_declared::Requested;
 use om_edge::{Sink, WriteError};
 use om_heap::Heap;
-use om_model::refusal::ReadRefusal;
 use om_model::value::Val;
+use om_outcome::stop::Stop;
 use om_read::{Reader, Truncated};
 use om_section::put_cert;
-use om_stops::stop::{Halt, Stop};
+use om_stops::made::{cut_value, refused_value};
+use om_stops::stop::Halt;
 use om_work::Work;
 use std::alloc::Global;
 use std::mem;
-
-/// The stop of the value of this number.
-fn refused(number: u64, refusal: ReadRefusal) -> Stop<'static>
-    ensures { IsStopOf number refusal result }
-{
-    match refusal {
-        ReadRefusal::Memory => Stop::Memory,
-        _ => Stop::Refused(number, refusal),
-    }
-}
 
 /// A heap of more words gives its memory back before a section is put.
 const LARGE: u64 = 1 << 16;
@@ -168,14 +159,14 @@ impl Work for Certifying<'_> {
                 }
                 Ok(fed.taken)
             }
-            Err(refusal) => Err(Halt::Stop(refused(self.count, refusal))),
+            Err(refusal) => Err(Halt::Stop(refused_value(alloc, self.count, refusal))),
         }
     }
 
-    fn end<K: Sink>(&mut self, _alloc: Global, _out: &mut K) -> Result<bool, Halt> {
+    fn end<K: Sink>(&mut self, alloc: Global, _out: &mut K) -> Result<bool, Halt> {
         match self.reader.at_end() {
             Ok(()) => Ok(self.well),
-            Err(Truncated { taken }) => Err(Halt::Stop(Stop::Cut(self.count, taken))),
+            Err(Truncated { taken }) => Err(Halt::Stop(cut_value(alloc, self.count, taken))),
         }
     }
 

@@ -3,8 +3,10 @@
 use Rattle.std.proofs.Common.{◌≡◌, ◌⊎◌, ◌++◌, ◌∷◌, ℕ, suc, List, [], Ok, Err, inl, inr, ap}
 use Rattle.std.specs.Prelude.{◌↔◌}
 use Rattle.om_edge.specs.State.{FilesState, Change, change}
-use Rattle.om_outcome.specs.Outcome.{InputEnd, at_end, at_fault, at_length, unasked, Taken, Request, Asks, Stop, out_of_memory, Said, Reply, says, stops, Replies, replies}
-use Rattle.om_promises.specs.Account.{IsWanted, FetchesIn, FetchesFor, MayBe, HoldNoStop, IsPaced, IsSaidFirst, SaysOfFirst, Completes, Breaks, Account}
+use Rattle.om_outcome.specs.Outcome.{InputEnd, at_end, at_fault, at_length, unasked, Taken, Request, Asks, Said, Reply, says, stops, Replies, replies}
+use Rattle.om_outcome.specs.declared.stop.Stop.{Stop}
+use Rattle.om_outcome.specs.declared.stop.Stop.TheVariants.{Finished as finished, Memory as out_of_memory}
+use Rattle.om_promises.specs.Account.{IsWanted, FetchesIn, FetchesFor, MayBe, HoldNoStop, IsFinishedBehind, IsPaced, IsSaidFirst, SaysOfFirst, Completes, Breaks, Account}
 use Rattle.om_promises.specs.Call.{Call}
 use Rattle.om_promises.specs.Commands.{Item, Fetches, Given, Commands, Prepares, Cut, AllSay, SaysFirst, GoesOn, Closes, IsLast, Answers, RunReplies}
 use Rattle.om_promises.specs.Promises.{IsOfOutcome, Promises}
@@ -107,12 +109,33 @@ module _ {A B : Type 0} (c : Commands A) (d : Commands B) where
       goes_on = goes_on_too h.items h.rest h.goes_on;
     }
 
+    behind_too : (taken : Taken) (before said : List Said) → IsFinishedBehind c a taken before said
+        → IsFinishedBehind d b taken before said
+    behind_too taken before said h = record {
+      next = h.next;
+      said_are = h.said_are;
+      items = h.items;
+      rest = h.rest;
+      first = says_first_too taken.bytes h.items said h.rest h.first;
+      well = h.well;
+      at = (same.stops h.items h.rest (finished h.well)).0 h.at;
+      no_more = h.no_more;
+    }
+
+    said_too : (taken : Taken) (before said : List Said)
+        → (said ≡ before) ⊎ IsFinishedBehind c a taken before said
+        → (said ≡ before) ⊎ IsFinishedBehind d b taken before said
+    said_too taken before said (inl is) = inl is
+    said_too taken before said (inr h) = inr (behind_too taken before said h)
+
     paced_too : (taken : Taken) (said : List Said) → IsPaced c a taken said → IsPaced d b taken said
     paced_too taken said h = record {
       earlier = h.earlier;
       in_hand = h.in_hand;
       bytes_are = h.bytes_are;
-      holds = hold_too h.earlier said h.holds;
+      before = h.before;
+      holds = hold_too h.earlier h.before h.holds;
+      said_are = said_too taken h.before said h.said_are;
       piece = h.piece;
       asked = h.asked;
     }

@@ -1,6 +1,7 @@
 -- Two sets of lawful commands of which no request is for both are lawful as one.
 use Rattle.std.proofs.Common.{◌≡◌, ◌⊎◌, ◌<◌, ℕ, List, Result, Ok, Err, inl, inr, ap}
-use Rattle.om_outcome.specs.Outcome.{opened, whole, Request, Stop, ReadsFile}
+use Rattle.om_outcome.specs.Outcome.{opened, whole, Request, ReadsFile}
+use Rattle.om_outcome.specs.declared.stop.Stop.{Stop}
 use Rattle.om_promises.specs.Commands.{Fetches, Commands}
 use Rattle.om_promises.specs.Lawful.{IsOnce, IsInner, IsWhole, FailsAtFile, IsFound, AreLawfulAt, AreLawful, AreInTurns}
 use Rattle.om_choice.specs.Choice.{Wants, Finds, choice, IsIdleAt, AreApart}

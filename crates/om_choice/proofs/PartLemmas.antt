@@ -1,6 +1,7 @@
 -- Each of two sets of commands does the same as both, for words that ask for nothing of the other.
 use Rattle.std.proofs.Common.{◌⊎◌, ℕ, List, Result, Ok, Err, inl, inr}
-use Rattle.om_outcome.specs.Outcome.{Request, Asks, Stop}
+use Rattle.om_outcome.specs.Outcome.{Request, Asks}
+use Rattle.om_outcome.specs.declared.stop.Stop.{Stop}
 use Rattle.om_promises.specs.Call.{Call}
 use Rattle.om_promises.specs.Commands.{Fetches, Commands}
 use Rattle.om_promises.specs.Account.{Account}

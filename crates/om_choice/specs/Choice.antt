@@ -1,7 +1,8 @@
 -- Two sets of commands as one: a request is for one of them.
 use Rattle.std.specs.Prelude.{ℕ, ◌⊎◌, List, Result, Ok, Err}
 use Rattle.std.proofs.Common.{inl, inr}
-use Rattle.om_outcome.specs.Outcome.{Request, Asks, Stop, Said, Reply}
+use Rattle.om_outcome.specs.Outcome.{Request, Asks, Said, Reply}
+use Rattle.om_outcome.specs.declared.stop.Stop.{Stop}
 use Rattle.om_promises.specs.Account.{Account}
 use Rattle.om_promises.specs.Call.{Call}
 use Rattle.om_promises.specs.Commands.{Item, Fetches, Commands}

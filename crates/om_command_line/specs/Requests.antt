@@ -26,13 +26,14 @@ request_of (requests.Show file type style lines reading) =
     outcome.tell (outcome.the_text style) file.now type.now lines reading
 request_of (requests.Get file type path style lines reading) =
     outcome.get file.now type.now path.now style lines reading
-request_of (requests.Edit file type script compat lines reading) =
-    outcome.edit file.now type.now script.now compat lines reading
+request_of (requests.Edit file type script compat lines decimal reading) =
+    outcome.edit file.now type.now script.now compat lines decimal reading
 request_of (requests.Trees file type lines reading) =
     outcome.tell outcome.the_trees file.now type.now lines reading
 request_of (requests.Dump reading) = outcome.dump reading
 request_of (requests.Same reading) = outcome.compare reading
-request_of (requests.Build file type lines) = outcome.own (outcome.build file.now type.now lines)
+request_of (requests.Build file type lines decimal) =
+    outcome.own (outcome.build file.now type.now lines decimal)
 request_of (requests.Verify file type certificate lines reading) =
     outcome.own (outcome.verify file.now type.now certificate.now lines reading)
 request_of (requests.Certify file type lines reading) =
@@ -60,7 +61,8 @@ flag_in rows name = bytes_eq (word_in rows name) (codes "true")
 
 -- how texts are put
 abbrev pub style_in : List Row → Style
-style_in rows = outcome.styled_by (flag_in rows (codes "pretty"))
+style_in rows =
+    outcome.styled_by (flag_in rows (codes "pretty")) (flag_in rows (codes "decimal"))
 
 -- the number of 64 bits in a text, if there is one
 abbrev pub number_of : Option (List ℕ) → Option ℕ

@@ -54,6 +54,8 @@ const CERTIFIED: Argument<'static> = Argument::Flag("cert");
 
 const PRETTY: Argument<'static> = Argument::Flag("pretty");
 
+const DECIMAL: Argument<'static> = Argument::Flag("decimal");
+
 const LINES: Argument<'static> = Argument::Flag("lines");
 
 const FILE: Argument<'static> = Argument::Word("FILE");
@@ -72,13 +74,22 @@ const COUNT: Argument<'static> = Argument::Number("COUNT", GREATEST_COUNT);
 
 static FORMS: [Form<'static>; 11] = [
     ("check", &[CERTIFIED, ONLY, LINES, LIMIT, SKIP, FILE, TYPE]),
-    ("show", &[PRETTY, ONLY, LINES, LIMIT, SKIP, FILE, TYPE]),
-    ("get", &[PRETTY, ONLY, LINES, LIMIT, SKIP, FILE, TYPE, PATH]),
-    ("edit", &[LINES, LIMIT, SKIP, FILE, TYPE, SCRIPT, COMPAT]),
+    (
+        "show",
+        &[PRETTY, DECIMAL, ONLY, LINES, LIMIT, SKIP, FILE, TYPE],
+    ),
+    (
+        "get",
+        &[PRETTY, DECIMAL, ONLY, LINES, LIMIT, SKIP, FILE, TYPE, PATH],
+    ),
+    (
+        "edit",
+        &[DECIMAL, LINES, LIMIT, SKIP, FILE, TYPE, SCRIPT, COMPAT],
+    ),
     ("trees", &[LINES, LIMIT, SKIP, FILE, TYPE]),
     ("dump", &[ONLY, LIMIT, SKIP]),
     ("same", &[LIMIT, SKIP]),
-    ("build", &[LINES, FILE, TYPE]),
+    ("build", &[DECIMAL, LINES, FILE, TYPE]),
     ("verify", &[LINES, LIMIT, SKIP, FILE, TYPE, CERT]),
     ("gen", &[NUMBER, COUNT, TYPE]),
     ("scan", &[LIMIT]),

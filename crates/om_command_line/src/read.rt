@@ -14,7 +14,8 @@ use om_outcome::style::Style;
 use std::alloc::{AllocError, Global};
 
 /// What the words ask for: where texts are read, with whether a place in one is told by its line and
-/// column; where values are read, with how they are.
+/// column; where texts of values are, with whether decimals in them stand for doubles; where values
+/// are read, with how they are.
 #[derive(Clone, Copy)]
 pub enum Request<'a> {
     /// Whether the values of the input have the type.
@@ -49,6 +50,7 @@ pub enum Request<'a> {
         script: &'a str,
         compat: bool,
         lines: bool,
+        decimal: bool,
         reading: Reading,
     },
     /// Whether the search trees in the values of the input, which have the type, are sound.
@@ -71,6 +73,7 @@ pub enum Request<'a> {
         file: &'a str,
         type_text: &'a str,
         lines: bool,
+        decimal: bool,
     },
     /// Whether a certificate shows of each value whether it has the type.
     Verify {
@@ -137,6 +140,7 @@ fn style(arguments: &ArgMatches) -> Style
 {
     Style {
         pretty: flag(arguments, "pretty"),
+        decimal: flag(arguments, "decimal"),
     }
 }
 
@@ -244,6 +248,7 @@ fn request_by<'a>(command: &str, arguments: &ArgMatches<'a>) -> Option<Request<'
             script: word(arguments, "SCRIPT"),
             compat: flag(arguments, "compat32"),
             lines,
+            decimal: flag(arguments, "decimal"),
             reading,
         }),
         "trees" => Some(Request::Trees {
@@ -260,6 +265,7 @@ fn request_by<'a>(command: &str, arguments: &ArgMatches<'a>) -> Option<Request<'
             file,
             type_text,
             lines,
+            decimal: flag(arguments, "decimal"),
         }),
         "verify" => Some(Request::Verify {
             file,

@@ -2,7 +2,9 @@
 use Rattle.std.proofs.Common.{◌≡◌, ◌⊎◌, ℕ, Bool, List, Option, Some, Result, Ok, Err, inl, inr, refl, sym, ap, ◌∙◌, subst}
 use Rattle.std.specs.Prelude.{MatchResult}
 use Rattle.om_outcome.specs.Outcome as outcome
-use Rattle.om_outcome.specs.Outcome.{Found, opened, whole, Request, AskedType, asked_type, tell, get, edit, dump, compare, own, Stop, declarations, requested_type, script_line, Saying, the_part, Work, tells, edits, Task, task, limit_of, Language, Then, OrRefusal, ReadsFile, ReadsTypeOf, ReadsPathOf, ReadsScriptOf, TellsAt, EditsBy, FindsWork}
+use Rattle.om_outcome.specs.Outcome.{Found, opened, whole, Request, AskedType, asked_with, asked_type, tell, get, edit, dump, compare, own, Saying, the_part, Work, tells, edits, Task, task, limit_of, Language, Then, OrRefusal, ReadsFile, ReadsTypeOf, ReadsPathOf, ReadsScriptOf, TellsAt, EditsBy, FindsWork}
+use Rattle.om_outcome.specs.declared.stop.Stop.{Stop}
+use Rattle.om_outcome.specs.declared.stop.Stop.TheVariants.{Declarations as declarations, RequestedType as requested_type, Script as script_line}
 use Rattle.om_promises.specs.Commands.{Fetches}
 use Rattle.om_promises.specs.Lawful.{IsOnce, IsInner, FailsAtFile}
 use Rattle.om_promises.specs.LawfulLanguage.{IsLawful}
@@ -70,12 +72,12 @@ module _ {D T E : Type 0} (language : Language D T E) (lawful : IsLawful languag
   requested_once d text (Err r) (Err s) h k =
       ap (λ r. Err r) (lawful.same_type_refusal d text r s h k)
 
-  lines_once : (lined : Bool) (text : List ℕ) → IsOnce (language.ReadsScript lined text)
-  lines_once lined text (Ok l) (Ok m) h k = ap (λ l. Ok l) (lawful.same_script lined text l m h k)
-  lines_once lined text (Ok l) (Err r) h k = absurd (lawful.script_once lined text l r h k)
-  lines_once lined text (Err r) (Ok m) h k = absurd (lawful.script_once lined text m r k h)
-  lines_once lined text (Err r) (Err s) h k =
-      ap (λ r. Err r) (lawful.same_script_refusal lined text r s h k)
+  lines_once : (lined decimal : Bool) (text : List ℕ) → IsOnce (language.ReadsScript lined decimal text)
+  lines_once lined decimal text (Ok l) (Ok m) h k = ap (λ l. Ok l) (lawful.same_script lined decimal text l m h k)
+  lines_once lined decimal text (Ok l) (Err r) h k = absurd (lawful.script_once lined decimal text l r h k)
+  lines_once lined decimal text (Err r) (Ok m) h k = absurd (lawful.script_once lined decimal text m r k h)
+  lines_once lined decimal text (Err r) (Err s) h k =
+      ap (λ r. Err r) (lawful.same_script_refusal lined decimal text r s h k)
 
   path_once : (text : List ℕ) → IsOnce (ReadsPathOf language text)
   path_once text (Ok p) (Ok q) h k = ap (λ p. Ok p) (lawful.same_path text p q h k)
@@ -105,26 +107,26 @@ module _ {D T E : Type 0} (language : Language D T E) (lawful : IsLawful languag
       (type_once file typed) (λ type found other h k. h ∙ sym k)
 
   script_once :
-      (lined : Bool) (script : List ℕ → Found) (name : List ℕ)
-      → IsOnce (ReadsScriptOf language lined script name)
-  script_once lined script name =
+      (lined decimal : Bool) (script : List ℕ → Found) (name : List ℕ)
+      → IsOnce (ReadsScriptOf language lined decimal script name)
+  script_once lined decimal script name =
       Then_once (ReadsFile name (script name))
-      (λ text. OrRefusal (language.ReadsScript lined text)
+      (λ text. OrRefusal (language.ReadsScript lined decimal text)
       (λ refusal. script_line refusal.0 refusal.1)) (reads_once name (script name))
-      (λ text. refusal_once (language.ReadsScript lined text)
-      (λ refusal. script_line refusal.0 refusal.1) (lines_once lined text))
+      (λ text. refusal_once (language.ReadsScript lined decimal text)
+      (λ refusal. script_line refusal.0 refusal.1) (lines_once lined decimal text))
 
   edits_once :
       (files : outcome.Fetches) (typed : List ℕ × AskedType) (name : List ℕ) (compat : Bool)
       → IsOnce (EditsBy language files typed name compat)
   edits_once files typed name compat =
       Then_once (ReadsTypeOf language files.file typed)
-      (λ type. Then (ReadsScriptOf language typed.1.lines files.script name)
+      (λ type. Then (ReadsScriptOf language typed.1.lines typed.1.decimal files.script name)
       (λ script found. found ≡ Ok (edits type script compat)))
       (type_once files.file typed)
-      (λ type. Then_once (ReadsScriptOf language typed.1.lines files.script name)
+      (λ type. Then_once (ReadsScriptOf language typed.1.lines typed.1.decimal files.script name)
       (λ script found. found ≡ Ok (edits type script compat))
-      (script_once typed.1.lines files.script name) (λ script found other h k. h ∙ sym k))
+      (script_once typed.1.lines typed.1.decimal files.script name) (λ script found other h k. h ∙ sym k))
 
   work_once :
       (files : outcome.Fetches) (request : Request) → IsOnce (FindsWork language files request)
@@ -133,8 +135,8 @@ module _ {D T E : Type 0} (language : Language D T E) (lawful : IsLawful languag
       Then_once (ReadsPathOf language text)
       (λ path. TellsAt language files.file (f, asked_type t lined) (the_part path style))
       (path_once text) (λ path. tells_once files.file (f, asked_type t lined) (the_part path style)) r s h k
-  work_once files (edit f t script compat lined most) r s h k =
-      edits_once files (f, asked_type t lined) script compat r s h k
+  work_once files (edit f t script compat lined decimal most) r s h k =
+      edits_once files (f, asked_with t lined decimal) script compat r s h k
   work_once files (dump most) r s h k = h ∙ sym k
   work_once files (compare most) r s h k = h ∙ sym k
   work_once files (own request) r s h k = absurd h
@@ -173,16 +175,16 @@ module _ {D T E : Type 0} (language : Language D T E) (lawful : IsLawful languag
       (type, type_by file other typed type same reads, next)
 
   script_by :
-      (lined : Bool) (script other : List ℕ → Found) (name : List ℕ) (result : Result (List E) Stop)
-      → script name ≡ other name → ReadsScriptOf language lined script name result
-      → ReadsScriptOf language lined other name result
-  script_by lined script other name result same (text, reads, next) =
+      (lined decimal : Bool) (script other : List ℕ → Found) (name : List ℕ) (result : Result (List E) Stop)
+      → script name ≡ other name → ReadsScriptOf language lined decimal script name result
+      → ReadsScriptOf language lined decimal other name result
+  script_by lined decimal script other name result same (text, reads, next) =
       (text, subst (λ found. ReadsFile name found text) same reads, next)
 
   -- what is found by the lines of SCRIPT
-  abbrev Lines : Bool → Fetches → List ℕ → Bool → Result (Work T E) Stop → T → Type 0
-  Lines lined files name compat result type =
-      Then (ReadsScriptOf language lined (files 1) name)
+  abbrev Lines : (lined decimal : Bool) → Fetches → List ℕ → Bool → Result (Work T E) Stop → T → Type 0
+  Lines lined decimal files name compat result type =
+      Then (ReadsScriptOf language lined decimal (files 1) name)
       (λ lines found. found ≡ Ok (edits type lines compat)) result
 
   work_by :
@@ -201,19 +203,19 @@ module _ {D T E : Type 0} (language : Language D T E) (lawful : IsLawful languag
     tells_by (files 0) (others 0) (f, asked_type t lined) (the_part path style) result
         (same 0 f (inl (refl, record { has_path = (path, is_path); type = asked_type t lined; typed = refl }))) h,
   )
-  work_by (edit f t script compat lined most) files others result same (type, reads, next) =
-      (type, type_by (files 0) (others 0) (f, asked_type t lined) type wanted reads, from type reads next) where
+  work_by (edit f t script compat lined decimal most) files others result same (type, reads, next) =
+      (type, type_by (files 0) (others 0) (f, asked_with t lined decimal) type wanted reads, from type reads next) where
         wanted : files 0 f ≡ others 0 f
-        wanted = same 0 f (inl (refl, record { has_path = tt; type = asked_type t lined; typed = refl }))
+        wanted = same 0 f (inl (refl, record { has_path = tt; type = asked_with t lined decimal; typed = refl }))
 
-        from : (type : Result T Stop) → ReadsTypeOf language (files 0) (f, asked_type t lined) type
-            → MatchResult type (Lines lined files script compat result) (λ stop. result ≡ Err stop)
-            → MatchResult type (Lines lined others script compat result) (λ stop. result ≡ Err stop)
+        from : (type : Result T Stop) → ReadsTypeOf language (files 0) (f, asked_with t lined decimal) type
+            → MatchResult type (Lines lined decimal files script compat result) (λ stop. result ≡ Err stop)
+            → MatchResult type (Lines lined decimal others script compat result) (λ stop. result ≡ Err stop)
         from (Err s) reads is = is
         from (Ok type) reads (lines, read, is) =
-            let asked : WantsScript language (edit f t script compat lined most) files script =
-            record { scripted = refl; typed = (f, asked_type t lined); is_typed = refl; type = type; reads = reads } in
-            (lines, script_by lined (files 1) (others 1) script lines (same 1 script (inr (refl, asked))) read, is)
+            let asked : WantsScript language (edit f t script compat lined decimal most) files script =
+            record { scripted = refl; typed = (f, asked_with t lined decimal); is_typed = refl; type = type; reads = reads } in
+            (lines, script_by lined decimal (files 1) (others 1) script lines (same 1 script (inr (refl, asked))) read, is)
   work_by (dump most) files others result same h = h
   work_by (compare most) files others result same h = h
   work_by (own request) files others result same h = h
@@ -246,11 +248,11 @@ module _ {D T E : Type 0} (language : Language D T E) (lawful : IsLawful languag
       (λ type found. found ≡ Ok (tells saying type)) (type_read file typed)
 
   script_read :
-      (lined : Bool) (script : List ℕ → Found) (name : List ℕ) (result : Result (List E) Stop)
-      → ReadsScriptOf language lined script name result → IsRead name (script name) result
-  script_read lined script name =
+      (lined decimal : Bool) (script : List ℕ → Found) (name : List ℕ) (result : Result (List E) Stop)
+      → ReadsScriptOf language lined decimal script name result → IsRead name (script name) result
+  script_read lined decimal script name =
       then_read name (script name) (ReadsFile name (script name))
-      (λ text. OrRefusal (language.ReadsScript lined text)
+      (λ text. OrRefusal (language.ReadsScript lined decimal text)
       (λ refusal. script_line refusal.0 refusal.1)) (file_read name (script name))
 
   edits_read :
@@ -259,7 +261,7 @@ module _ {D T E : Type 0} (language : Language D T E) (lawful : IsLawful languag
       → IsRead typed.0 (files.file typed.0) result
   edits_read files typed name compat =
       then_read typed.0 (files.file typed.0) (ReadsTypeOf language files.file typed)
-      (λ type. Then (ReadsScriptOf language typed.1.lines files.script name)
+      (λ type. Then (ReadsScriptOf language typed.1.lines typed.1.decimal files.script name)
       (λ script found. found ≡ Ok (edits type script compat))) (type_read files.file typed)
 
   -- FILE of the words is the one that is wanted
@@ -284,9 +286,9 @@ module _ {D T E : Type 0} (language : Language D T E) (lawful : IsLawful languag
   file_wanted (get f t text style lined most) files result name (Ok path, is_path, h) w =
       same_file f (asked_type t lined) name files result w.type w.typed
       (tells_read (files 0) (f, asked_type t lined) (the_part path style) result h)
-  file_wanted (edit f t script compat lined most) files result name h w =
-      same_file f (asked_type t lined) name files result w.type w.typed
-      (edits_read (by_turns files) (f, asked_type t lined) script compat result h)
+  file_wanted (edit f t script compat lined decimal most) files result name h w =
+      same_file f (asked_with t lined decimal) name files result w.type w.typed
+      (edits_read (by_turns files) (f, asked_with t lined decimal) script compat result h)
   file_wanted (dump most) files result name h w = let e = w.typed in absurd (cc e)
   file_wanted (compare most) files result name h w = let e = w.typed in absurd (cc e)
   file_wanted (own request) files result name h w = absurd h
@@ -297,28 +299,28 @@ module _ {D T E : Type 0} (language : Language D T E) (lawful : IsLawful languag
       → WantsScript language request files name → IsRead name (files 1 name) result
   script_wanted (tell saying f t lined most) files result name h w = let e = w.scripted in absurd (cc e)
   script_wanted (get f t text style lined most) files result name h w = let e = w.scripted in absurd (cc e)
-  script_wanted (edit f t script compat lined most) files result name (given, reads, next) w =
-      from given (type_once (files 0) (f, asked_type t lined) (Ok w.type) given first reads) next where
-        both : ◌≡◌ {A = List ℕ × AskedType} (f, asked_type t lined) w.typed
+  script_wanted (edit f t script compat lined decimal most) files result name (given, reads, next) w =
+      from given (type_once (files 0) (f, asked_with t lined decimal) (Ok w.type) given first reads) next where
+        both : ◌≡◌ {A = List ℕ × AskedType} (f, asked_with t lined decimal) w.typed
         both =
-            let e : ◌≡◌ {A = Option (List ℕ × AskedType)} (Some (f, asked_type t lined)) (Some w.typed) =
+            let e : ◌≡◌ {A = Option (List ℕ × AskedType)} (Some (f, asked_with t lined decimal)) (Some w.typed) =
             w.is_typed in cc e
 
-        first : ReadsTypeOf language (files 0) (f, asked_type t lined) (Ok w.type)
+        first : ReadsTypeOf language (files 0) (f, asked_with t lined decimal) (Ok w.type)
         first = subst (λ p. ReadsTypeOf language (files 0) p (Ok w.type)) (sym both) w.reads
 
         same : script ≡ name
         same = let e : ◌≡◌ {A = Option (List ℕ)} (Some script) (Some name) = w.scripted in cc e
 
         from : (given : Result T Stop) → Ok w.type ≡ given
-            → MatchResult given (Lines lined files script compat result) (λ stop. result ≡ Err stop)
+            → MatchResult given (Lines lined decimal files script compat result) (λ stop. result ≡ Err stop)
             → IsRead name (files 1 name) result
         from (Err s) e next = absurd (cc e)
         from (Ok type) e next =
             subst (λ n. IsRead n (files 1 n) result) same
-            (then_read script (files 1 script) (ReadsScriptOf language lined (files 1) script)
+            (then_read script (files 1 script) (ReadsScriptOf language lined decimal (files 1) script)
             (λ lines found. found ≡ Ok (edits type lines compat))
-            (script_read lined (files 1) script) result next)
+            (script_read lined decimal (files 1) script) result next)
   script_wanted (dump most) files result name h w = let e = w.scripted in absurd (cc e)
   script_wanted (compare most) files result name h w = let e = w.scripted in absurd (cc e)
   script_wanted (own request) files result name h w = absurd h
@@ -366,12 +368,12 @@ module _ {D T E : Type 0} (language : Language D T E) (lawful : IsLawful languag
       subst (ComesOf typed.0 (file typed.0)) same (type_inside file typed s reads)
 
   script_inside :
-      (lined : Bool) (script : List ℕ → Found) (name : List ℕ) (stop : Stop)
-      → ReadsScriptOf language lined script name (Err stop) → ComesOf name (script name) stop
-  script_inside lined script name stop (Err s, fault, is) =
+      (lined decimal : Bool) (script : List ℕ → Found) (name : List ℕ) (stop : Stop)
+      → ReadsScriptOf language lined decimal script name (Err stop) → ComesOf name (script name) stop
+  script_inside lined decimal script name stop (Err s, fault, is) =
       let same : s ≡ stop = cc is in
       inr (subst (λ s. ReadsFile name (script name) (Err s)) same fault)
-  script_inside lined script name stop (Ok text, reads, (refusal, refuses, e)) =
+  script_inside lined decimal script name stop (Ok text, reads, (refusal, refuses, e)) =
       inl (subst IsInner (sym e) tt)
 
   -- the stop is none of the outside, or a file that is wanted stops the run
@@ -406,19 +408,19 @@ module _ {D T E : Type 0} (language : Language D T E) (lawful : IsLawful languag
       at_file (get f t text style lined most) files stop 0 f
       (inl (refl, record { has_path = (path, is_path); type = asked_type t lined; typed = refl }))
       (tells_inside (files 0) (f, asked_type t lined) (the_part path style) stop h)
-  work_inside (edit f t script compat lined most) files stop (Err s, reads, is) =
+  work_inside (edit f t script compat lined decimal most) files stop (Err s, reads, is) =
       let same : s ≡ stop = cc is in
-      at_file (edit f t script compat lined most) files stop 0 f
-      (inl (refl, record { has_path = tt; type = asked_type t lined; typed = refl }))
-      (subst (ComesOf f (files 0 f)) same (type_inside (files 0) (f, asked_type t lined) s reads))
-  work_inside (edit f t script compat lined most) files stop (Ok type, reads, (Ok lines, read, told)) =
+      at_file (edit f t script compat lined decimal most) files stop 0 f
+      (inl (refl, record { has_path = tt; type = asked_with t lined decimal; typed = refl }))
+      (subst (ComesOf f (files 0 f)) same (type_inside (files 0) (f, asked_with t lined decimal) s reads))
+  work_inside (edit f t script compat lined decimal most) files stop (Ok type, reads, (Ok lines, read, told)) =
       absurd (cc told)
-  work_inside (edit f t script compat lined most) files stop (Ok type, reads, (Err s, read, is)) =
+  work_inside (edit f t script compat lined decimal most) files stop (Ok type, reads, (Err s, read, is)) =
       let same : s ≡ stop = cc is in
-      let asked : WantsScript language (edit f t script compat lined most) files script =
-      record { scripted = refl; typed = (f, asked_type t lined); is_typed = refl; type = type; reads = reads } in
-      at_file (edit f t script compat lined most) files stop 1 script (inr (refl, asked))
-      (subst (ComesOf script (files 1 script)) same (script_inside lined (files 1) script s read))
+      let asked : WantsScript language (edit f t script compat lined decimal most) files script =
+      record { scripted = refl; typed = (f, asked_with t lined decimal); is_typed = refl; type = type; reads = reads } in
+      at_file (edit f t script compat lined decimal most) files stop 1 script (inr (refl, asked))
+      (subst (ComesOf script (files 1 script)) same (script_inside lined decimal (files 1) script s read))
   work_inside (dump most) files stop h = absurd (cc h)
   work_inside (compare most) files stop h = absurd (cc h)
   work_inside (own request) files stop h = absurd h

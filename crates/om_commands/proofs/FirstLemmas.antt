@@ -7,7 +7,8 @@ use Rattle.om_format.specs.Front.{IsFront}
 use Rattle.om_format.specs.Stream.{SpellAll, End, clean, refused, cut, IsTail}
 use Rattle.om_format.specs.Tree.{Tree}
 use Rattle.om_outcome.specs.Outcome as outcome
-use Rattle.om_outcome.specs.Outcome.{Stop, Said, Language, Task, SayFirst, StopsAt}
+use Rattle.om_outcome.specs.Outcome.{Said, Language, Task, SayFirst, StopsAt}
+use Rattle.om_outcome.specs.declared.stop.Stop.{Stop}
 use Rattle.om_promises.specs.Commands.{Item, value, Cut, AllSay, SaysFirst, GoesOn}
 use Rattle.om_promises.proofs.StreamLemmas.{value_or_tail, streams_once}
 use Rattle.om_commands.specs.Tasks.{items_of, IsRefused, StopsHere, commands}

@@ -1,6 +1,6 @@
 -- The type of what is to be done was read.
 use Rattle.std.proofs.Common.{◌≡◌, ℕ, Bool, List, Ok, Err, sym, subst}
-use Rattle.om_outcome.specs.Outcome.{Fetches, Request, AskedType, asked_type, tell, get, edit, dump, compare, own, Saying, the_part, Work, tells, edits, dumps, compares, Language, ReadsTypeOf, TellsAt, EditsBy, FindsWork}
+use Rattle.om_outcome.specs.Outcome.{Fetches, Request, AskedType, asked_with, asked_type, tell, get, edit, dump, compare, own, Saying, the_part, Work, tells, edits, dumps, compares, Language, ReadsTypeOf, TellsAt, EditsBy, FindsWork}
 use Rattle.om_promises.specs.LawfulLanguage.{IsGiven}
 
 -- the type of the work was read
@@ -32,7 +32,7 @@ module _ {D T E : Type 0} (language : Language D T E) (files : Fetches) where
   work_given (tell saying f u lined most) work h = tells_given f (asked_type u lined) saying work h
   work_given (get f u text style lined most) work (Err s, reads, same) = absurd (cc same)
   work_given (get f u text style lined most) work (Ok path, reads, h) = tells_given f (asked_type u lined) (the_part path style) work h
-  work_given (edit f u script compat lined most) work h = edits_given f (asked_type u lined) script compat work h
+  work_given (edit f u script compat lined decimal most) work h = edits_given f (asked_with u lined decimal) script compat work h
   work_given (dump most) work h = let is : work ≡ dumps = cc in subst (IsGivenWork language) (sym is) tt
   work_given (compare most) work h = let is : work ≡ compares = cc in subst (IsGivenWork language) (sym is) tt
   work_given (own request) work h = absurd h

@@ -6,8 +6,10 @@ use Rattle.om_format.proofs.JudgementLaws.{one_judgement_lem}
 use Rattle.om_format.specs.Stream.{SpellAll, End, clean, refused, cut, IsTail}
 use Rattle.om_format.specs.Tree.{Tree}
 use Rattle.om_outcome.specs.Outcome as outcome
-use Rattle.om_outcome.specs.Outcome.{Stop, not_two_values, value, script_line, Unedited, untyped, refused_line, too_large, unedited_stop, Said, says, Reply, stops, Language, Work, tells, edits, dumps, compares, Task, task, line_past, ends_script, comparison, AreSame, IsUnedited, Finishes}
+use Rattle.om_outcome.specs.Outcome.{Unedited, untyped, refused_line, too_large, unedited_stop, Said, says, Reply, stops, Language, Work, tells, edits, dumps, compares, Task, task, line_past, ends_script, comparison, AreSame, IsUnedited, Finishes}
 use Rattle.om_outcome.specs.RefusalText.{refusal_text, truncated_text}
+use Rattle.om_outcome.specs.declared.stop.Stop.{Stop}
+use Rattle.om_outcome.specs.declared.stop.Stop.TheVariants.{NotTwoValues as not_two_values, Value as value, Script as script_line}
 use Rattle.om_promises.specs.Commands.{Item, value as value_item}
 use Rattle.om_promises.specs.Lawful.{IsOnce, IsInner, AreLawfulAt}
 use Rattle.om_promises.specs.LawfulLanguage.{IsLawful}

@@ -6,3 +6,4 @@ pub mod FetchLemmas
 pub mod FirstLemmas
 pub mod LawfulLemmas
 pub mod TurnLemmas
+pub mod FinishedLemmas

@@ -5,7 +5,8 @@ use Rattle.om_model.specs.declared.refusal.ReadRefusal.{ReadRefusal}
 use Rattle.om_format.specs.Front.{IsRefused}
 use Rattle.om_format.specs.Stream.{refused, IsTail}
 use Rattle.om_format.specs.Tree.{Tree}
-use Rattle.om_outcome.specs.Outcome.{Stop, Language, Work, tells, edits, dumps, compares, StopsAt}
+use Rattle.om_outcome.specs.Outcome.{Language, Work, tells, edits, dumps, compares, StopsAt}
+use Rattle.om_outcome.specs.declared.stop.Stop.{Stop}
 use Rattle.om_promises.proofs.ValueLemmas.{spell_after}
 
 -- what is refused in the first bytes is refused in all

@@ -23,7 +23,7 @@ module _ {D T E : Type 0} (language : Language D T E) (lawful : IsLawful languag
       → HasPath language request
   script_path (tell saying f t lined most) name e = absurd (cc e)
   script_path (get f t text style lined most) name e = absurd (cc e)
-  script_path (edit f t script compat lined most) name e = tt
+  script_path (edit f t script compat lined decimal most) name e = tt
   script_path (dump most) name e = absurd (cc e)
   script_path (compare most) name e = absurd (cc e)
   script_path (own request) name e = absurd (cc e)

@@ -4,8 +4,10 @@ use Rattle.om_model.specs.declared.refusal.ReadRefusal.{ReadRefusal}
 use Rattle.om_format.specs.Stream.{SpellAll, End, clean, refused, cut, IsTail}
 use Rattle.om_format.specs.Tree.{Tree}
 use Rattle.om_outcome.specs.Outcome as outcome
-use Rattle.om_outcome.specs.Outcome.{Request, AskedType, typed_by, path_of, script_of, limit_of, Stop, value, Said, Reply, stops, Language, Work, tells, edits, dumps, compares, Task, task, Then, ReadsTypeOf, FindsWork}
+use Rattle.om_outcome.specs.Outcome.{Request, AskedType, typed_by, path_of, script_of, limit_of, Said, Reply, stops, Language, Work, tells, edits, dumps, compares, Task, task, Then, ReadsTypeOf, FindsWork}
 use Rattle.om_outcome.specs.RefusalText.{refusal_text, truncated_text}
+use Rattle.om_outcome.specs.declared.stop.Stop.{Stop}
+use Rattle.om_outcome.specs.declared.stop.Stop.TheVariants.{Value as value}
 use Rattle.om_promises.specs.Commands.{Item, value as value_item, Fetches, Commands}
 
 -- FILE is fetched in the first turn, and SCRIPT in the second one

@@ -9,6 +9,7 @@ use om_layout::{expand, flat_float, shape};
 use om_model::Memory;
 use om_model::list::List;
 use om_plain_table::{Row, line, lines, text};
+use om_scope::SoundEnvironment;
 use om_type_table::TypeTable;
 use om_type_table::laws::tables_are_lawful;
 use om_typeintern::{TypeFault, build};
@@ -110,6 +111,12 @@ fn put_line(out: &mut Vec<u8>, word: &[u8], text: &[u8]) -> Result<(), Memory> {
 fn written_lines(alloc: Global, decls: &[Decl], t: &Ty) -> Result<Vec<u8>, Memory>
     requires { AreSound decls.now }
 {
+    let environment = SoundEnvironment::new(alloc, decls)?;
+    lines_in(alloc, &environment, t)
+}
+
+// The same, with the places of declared names.
+fn lines_in(alloc: Global, decls: &SoundEnvironment<'_>, t: &Ty) -> Result<Vec<u8>, Memory> {
     let mut out = Vec::new(alloc);
     let whole = expand(alloc, decls, t)?;
     let nodes = whole.nodes();
@@ -118,7 +125,7 @@ fn written_lines(alloc: Global, decls: &[Decl], t: &Ty) -> Result<Vec<u8>, Memor
     if let ShapeOf::FlatFloats(_, _) = shape(alloc, decls, t)? {
         put_line(&mut out, b"lies flat", b"")?;
     }
-    for decl in decls {
+    for decl in decls.all() {
         if flat_float(alloc, decls, decl)? {
             put_line(&mut out, b"a flat record: ", decl.name.as_slice())?;
         }

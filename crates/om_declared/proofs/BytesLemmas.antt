@@ -19,11 +19,11 @@ use Rattle.om_write.specs.declared.writer32.Write32Error.{Write32Error}
 use Rattle.om_write.specs.declared.writer32.Write32Error.TheVariants as errors32
 use Rattle.om_outcome.specs.RefusalText.{compat_text}
 use Rattle.om_outcome.specs.Outcome.{too_large}
-use Rattle.om_outcome.specs.Outcome as outcome
+use Rattle.om_outcome.specs.declared.stop.Stop.{Stop}
+use Rattle.om_outcome.specs.declared.stop.Stop.TheVariants.{LargeValue as large_value, Memory as out_of_memory}
 use Rattle.om_stops.specs.declared.stop.Halt.TheVariants as halts
-use Rattle.om_stops.specs.declared.stop.Stop.TheVariants as stops
 use Rattle.om_declared.specs.Language.{bytes_for, AreBytesOf}
-use Rattle.om_stops.specs.Stops.{text_of_compat}
+use Rattle.om_stops.specs.Stops.{text_of_compat, IsOrMemory}
 use Rattle.om_promises.proofs.PutLemmas.{puts_nothing}
 use Rattle.om_declared.specs.Bytes.{PutsBytes}
 
@@ -56,7 +56,7 @@ module _ (compat : Bool) (k : ℕ) (g : List Obj) (v : Val) where
   pub plain_fault : compat ≡ false → (out : Change ByteState) → (tree : Tree) × IsTreeOf g v tree × Writes {A = Unit {0}} out (canon tree) (Err errors.Fault) → PutsBytes {U = Unit {0}} compat k g v out (Err halts.WriteFault)
   plain_fault plain out (tree, is, part) = (canon tree, canon_are tree is (λ e. let no : false ≡ true = sym plain ∙ e in absurd (cc no)), part)
 
-  pub memory_put : (a b : ByteState) → b ≡ a → PutsBytes {U = Unit {0}} compat k g v (change a b) (Err (halts.Stop stops.Memory))
+  pub memory_put : (a b : ByteState) → b ≡ a → PutsBytes {U = Unit {0}} compat k g v (change a b) (Err (halts.Stop out_of_memory))
   memory_put a b same = (inl refl, subst (λ b. Puts (change a b) []) (sym same) (puts_nothing a))
 
   pub compat_put : compat ≡ true → (out : Change ByteState) → (tree : Tree) × IsTreeOf g v tree × Writes32 {A = Unit {0}} out tree (Ok tt) → PutsBytes {U = Unit {0}} compat k g v out (Ok tt)
@@ -66,15 +66,17 @@ module _ (compat : Bool) (k : ℕ) (g : List Obj) (v : Val) where
   compat_fault asked out (tree, is, (none, part)) = (canon tree, canon_are tree is (λ e. none), part)
 
   pub compat_refused : compat ≡ true → {S : Type 0} (state : S → ByteState) (a b : S) (error : Write32Error) → (IsEarly error → b ≡ a) → (large : Compat) → error ≡ errors32.Compat large
-      → (tree : Tree) × IsTreeOf g v tree × Writes32 {A = Unit {0}} (change (state a) (state b)) tree (Err error) → PutsBytes {U = Unit {0}} compat k g v (change (state a) (state b)) (Err (halts.Stop (stops.Large k large)))
-  compat_refused asked state a b error untouched large is (tree, of, tells) =
+      → (tree : Tree) × IsTreeOf g v tree × Writes32 {A = Unit {0}} (change (state a) (state b)) tree (Err error) → (stop : Stop) → IsOrMemory (large_value k (text_of_compat large)) stop
+      → PutsBytes {U = Unit {0}} compat k g v (change (state a) (state b)) (Err (halts.Stop stop))
+  compat_refused asked state a b error untouched large is (tree, of, tells) stop told =
       let tells : IsSomeAnd (too_large_for_32 tree) (λ t. Tells t large) = subst (λ e. Writes32 {A = Unit {0}} (change (state a) (state b)) tree (Err e)) is tells in
       let same : b ≡ a = untouched (subst IsEarly (sym is) tt) in
-      at (too_large_for_32 tree) refl tells (subst (λ b. Puts (change (state a) (state b)) []) (sym same) (puts_nothing (state a))) where
-        at : (what : Option TooLargeFor32) → too_large_for_32 tree ≡ what → IsSomeAnd what (λ t. Tells t large) → Puts (change (state a) (state b)) []
-            → PutsBytes {U = Unit {0}} compat k g v (change (state a) (state b)) (Err (halts.Stop (stops.Large k large)))
-        at None e tells none = absurd tells
-        at (Some t) e tells none = (
-          inr (too_large (compat_text t), (tree, of, sym (ap (λ c. bytes_for c tree (too_large_for_32 tree)) asked ∙ ap (bytes_for true tree) e)), ap (outcome.large_value k) (sym (compat_told t large tells))),
+      at (too_large_for_32 tree) refl tells told (subst (λ b. Puts (change (state a) (state b)) []) (sym same) (puts_nothing (state a))) where
+        at : (what : Option TooLargeFor32) → too_large_for_32 tree ≡ what → IsSomeAnd what (λ t. Tells t large) → IsOrMemory (large_value k (text_of_compat large)) stop → Puts (change (state a) (state b)) []
+            → PutsBytes {U = Unit {0}} compat k g v (change (state a) (state b)) (Err (halts.Stop stop))
+        at None e tells told none = absurd tells
+        at (Some t) e tells (inr memory) none = (inl memory, none)
+        at (Some t) e tells (inl said) none = (
+          inr (too_large (compat_text t), (tree, of, sym (ap (λ c. bytes_for c tree (too_large_for_32 tree)) asked ∙ ap (bytes_for true tree) e)), said ∙ ap (large_value k) (sym (compat_told t large tells))),
           none,
         )

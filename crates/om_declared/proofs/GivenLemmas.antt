@@ -25,7 +25,7 @@ use Rattle.om_decl.specs.Read.{IsDeclared, IsTypeOf}
 use Rattle.om_decl.proofs.FileLemmas.{files_well_formed}
 use Rattle.om_decl.proofs.SoundLemmas as sounds
 use Rattle.om_declared.specs.declared.types.Requested.{Requested}
-use Rattle.om_outcome.specs.Outcome.{AskedType, asked_type}
+use Rattle.om_outcome.specs.Outcome.{AskedType, asked_type, asked_with}
 use Rattle.om_declared.specs.Language.{TypeOver, declared_types, ReachesFew, IsAccepted}
 use Rattle.om_declared.specs.Types.{IsReady}
 use Rattle.om_promises.specs.LawfulLanguage.{IsGiven}
@@ -93,9 +93,17 @@ module _ (r : Requested) (ready : IsReady r) (graph : List Obj) (v : Val) where
 
 -- ---- places
 
--- the same type, at which places are told so
+-- the same type, at which places are told so, and decimals read or not
+abbrev pub asked_at : TypeOver → (lines decimal : Bool) → TypeOver
+asked_at t lines decimal = record { decls = t.decls; type = t.type; lines = lines; decimal = decimal }
+
+pub accepted_at : (decls : List Decl) (asked : AskedType) (t : TypeOver) (lines decimal : Bool) → IsAccepted decls asked t
+    → IsAccepted decls (asked_with asked.text lines decimal) (asked_at t lines decimal)
+accepted_at decls asked t lines decimal a = record { over = a.over; written = a.written; few = a.few; lined = refl; decimaled = refl }
+
+-- without decimals
 abbrev pub lined : TypeOver → Bool → TypeOver
-lined t lines = record { decls = t.decls; type = t.type; lines = lines }
+lined t lines = asked_at t lines false
 
 pub accepted_lined : (decls : List Decl) (asked : AskedType) (t : TypeOver) (lines : Bool) → IsAccepted decls asked t → IsAccepted decls (asked_type asked.text lines) (lined t lines)
-accepted_lined decls asked t lines a = record { over = a.over; written = a.written; few = a.few; lined = refl }
+accepted_lined decls asked t lines a = accepted_at decls asked t lines false a

@@ -1,5 +1,5 @@
 -- What is read of a text is one thing, and a value has one line at a type that is read.
-use Rattle.std.proofs.Common.{◌≡◌, ℕ, Bool, List, [], ◌∷◌, ◌++◌, length, Option, Some, None, Result, Ok, Err, inl, inr, sym, ap, ◌∙◌, subst}
+use Rattle.std.proofs.Common.{◌≡◌, ℕ, Bool, true, false, List, [], ◌∷◌, ◌++◌, length, Option, Some, None, Result, Ok, Err, inl, inr, sym, ap, ◌∙◌, subst}
 use Rattle.om_model.specs.declared.value.Val.{Val}
 use Rattle.om_model.specs.declared.value.Obj.{Obj}
 use Rattle.om_types.specs.declared.decl.Decl.{Decl}
@@ -18,6 +18,7 @@ use Rattle.om_decl.specs.Read.{IsDeclared, IsTypeOf}
 use Rattle.om_decl.specs.Text.{answer_text}
 use Rattle.om_path.specs.Answer as paths
 use Rattle.om_path.specs.ScriptAnswer as scripts
+use Rattle.om_decimal_scripts.specs.Scripts.{plain_script, decimals_of, given_edits}
 use Rattle.om_path.specs.declared.edits.Script.{Script}
 use Rattle.om_path.specs.declared.edits.ScriptFault.{ScriptFault}
 use Rattle.om_path.specs.declared.edits.ScriptLine.{ScriptLine}
@@ -31,7 +32,7 @@ use Rattle.om_path.specs.declared.fault.PathFault.{PathFault}
 use Rattle.om_trees.specs.Laws.{TreeVerdictsAreOne}
 use Rattle.om_outcome.specs.Outcome.{AskedType, Said, Saying, the_verdict, the_text, the_part, the_trees, Unedited, untyped}
 use Rattle.om_declared.proofs.GivenLemmas.{given_sound}
-use Rattle.om_declared.specs.Language.{TypeOver, declared_types, ReadsPath, IsRefusal, ReachesFew, IsTooMuch, IsAccepted, IsToldOf, judged, IsTypeLine, IsBytesLine, lines_of_value, AreDone, AreBytesIn, AreBytesOf, AreBytesAfter, bytes_for, ReadsType, ReadsScript, script_refusal}
+use Rattle.om_declared.specs.Language.{TypeOver, declared_types, ReadsPath, IsRefusal, ReachesFew, IsTooMuch, IsAccepted, IsToldOf, judged, IsTypeLine, IsBytesLine, lines_of_value, AreDone, AreBytesIn, AreBytesOf, AreBytesAfter, bytes_for, ReadsType, AreEditsOf, ReadsScript, script_refusal}
 use Rattle.om_promises.specs.LawfulLanguage.{IsGiven, IsLawful}
 
 -- ---- answers
@@ -91,17 +92,24 @@ module _ (once : (text : List ℕ) → scripts.HasOneScriptAnswer text) (text : 
     back (Err fault) (Ok lines) e = absurd (cc e)
     back (Err fault) (Err other) e = let same : fault ≡ other = cc e in ap (λ f. Err f) same
 
-  lines_or_refusal : (lined : Bool) (lines : List ScriptLine) (refusal : ℕ × List ℕ) → ReadsScript lined text (Ok lines) → ReadsScript lined text (Err refusal) → ⊥
-  lines_or_refusal lined lines refusal is (fault, its, told) =
-      let k : ◌≡◌ {A = Result (List ScriptLine) ScriptFault} (Ok lines) (Err fault) = script_answers (Ok lines) (Err fault) is its in cc k
+module _ (once : (text : List ℕ) → scripts.HasOneScriptAnswer text) (text : List ℕ) where
+  -- those of a text with decimals too
+  edits_answers : (decimal : Bool) (answer other : Result (List ScriptLine) ScriptFault) → AreEditsOf decimal text answer → AreEditsOf decimal text other → answer ≡ other
+  edits_answers false answer other is its = script_answers once text answer other is its
+  edits_answers true answer other (plain, is, given) (second, its, given') =
+      given ∙ (ap (given_edits (decimals_of text)) (script_answers once (plain_script text) plain second is its) ∙ sym given')
 
-  one_lines : (lined : Bool) (lines other : List ScriptLine) → ReadsScript lined text (Ok lines) → ReadsScript lined text (Ok other) → lines ≡ other
-  one_lines lined lines other is its =
-      let k : ◌≡◌ {A = Result (List ScriptLine) ScriptFault} (Ok lines) (Ok other) = script_answers (Ok lines) (Ok other) is its in cc k
+  lines_or_refusal : (lined decimal : Bool) (lines : List ScriptLine) (refusal : ℕ × List ℕ) → ReadsScript lined decimal text (Ok lines) → ReadsScript lined decimal text (Err refusal) → ⊥
+  lines_or_refusal lined decimal lines refusal is (fault, its, told) =
+      let k : ◌≡◌ {A = Result (List ScriptLine) ScriptFault} (Ok lines) (Err fault) = edits_answers decimal (Ok lines) (Err fault) is its in cc k
 
-  one_refusal : (lined : Bool) (refusal other : ℕ × List ℕ) → ReadsScript lined text (Err refusal) → ReadsScript lined text (Err other) → refusal ≡ other
-  one_refusal lined refusal other (fault, is, told) (fault', its, told') =
-      let k : ◌≡◌ {A = Result (List ScriptLine) ScriptFault} (Err fault) (Err fault') = script_answers (Err fault) (Err fault') is its in
+  one_lines : (lined decimal : Bool) (lines other : List ScriptLine) → ReadsScript lined decimal text (Ok lines) → ReadsScript lined decimal text (Ok other) → lines ≡ other
+  one_lines lined decimal lines other is its =
+      let k : ◌≡◌ {A = Result (List ScriptLine) ScriptFault} (Ok lines) (Ok other) = edits_answers decimal (Ok lines) (Ok other) is its in cc k
+
+  one_refusal : (lined decimal : Bool) (refusal other : ℕ × List ℕ) → ReadsScript lined decimal text (Err refusal) → ReadsScript lined decimal text (Err other) → refusal ≡ other
+  one_refusal lined decimal refusal other (fault, is, told) (fault', its, told') =
+      let k : ◌≡◌ {A = Result (List ScriptLine) ScriptFault} (Err fault) (Err fault') = edits_answers decimal (Err fault) (Err fault') is its in
       let same : fault ≡ fault' = cc k in
       let both : ◌≡◌ {A = Option (ℕ × List ℕ)} (Some refusal) (Some other) = sym told ∙ (ap (script_refusal lined) same ∙ told') in cc both
 
@@ -204,13 +212,14 @@ module _ (files_once : HasOneAnswer IsFileAnswer) (types_once : (decls : List De
     type_once = λ d asked t refusal is refused. type_or_refusal d asked t refusal is refused;
     same_type = λ d asked t u one other.
         let types = same_types d asked.text t.type u.type one.written other.written in
-        ap (λ d. let t : TypeOver = record { decls = d; type = t.type; lines = t.lines } in t) (one.over ∙ sym other.over)
-        ∙ (ap (λ x. let t : TypeOver = record { decls = u.decls; type = x; lines = t.lines } in t) types
-        ∙ ap (λ l. let t : TypeOver = record { decls = u.decls; type = u.type; lines = l } in t) (one.lined ∙ sym other.lined));
+        ap (λ d. let t : TypeOver = record { decls = d; type = t.type; lines = t.lines; decimal = t.decimal } in t) (one.over ∙ sym other.over)
+        ∙ (ap (λ x. let t : TypeOver = record { decls = u.decls; type = x; lines = t.lines; decimal = t.decimal } in t) types
+        ∙ (ap (λ l. let t : TypeOver = record { decls = u.decls; type = u.type; lines = l; decimal = t.decimal } in t) (one.lined ∙ sym other.lined)
+        ∙ ap (λ b. let t : TypeOver = record { decls = u.decls; type = u.type; lines = u.lines; decimal = b } in t) (one.decimaled ∙ sym other.decimaled)));
     same_type_refusal = type_refusals;
-    script_once = λ lined text lines refusal is refused. lines_or_refusal scripts_once text lined lines refusal is refused;
-    same_script = λ lined text lines other is its. one_lines scripts_once text lined lines other is its;
-    same_script_refusal = λ lined text refusal other is its. one_refusal scripts_once text lined refusal other is its;
+    script_once = λ lined decimal text lines refusal is refused. lines_or_refusal scripts_once text lined decimal lines refusal is refused;
+    same_script = λ lined decimal text lines other is its. one_lines scripts_once text lined decimal lines other is its;
+    same_script_refusal = λ lined decimal text refusal other is its. one_refusal scripts_once text lined decimal refusal other is its;
     bytes_once = edited_once;
     path_once = λ text path is none. no_fault paths_once text path is none;
     same_path = λ text path other is its. one_path paths_once text path is other its;

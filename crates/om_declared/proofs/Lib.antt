@@ -4,3 +4,4 @@ pub mod DoneLemmas
 pub mod LanguageLemmas
 pub mod BytesLemmas
 pub mod VerdictLemmas
+pub mod ScriptLemmas

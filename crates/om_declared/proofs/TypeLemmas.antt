@@ -16,20 +16,20 @@ use Rattle.om_decl.specs.Fault.{told, IsRefused}
 use Rattle.om_decl.specs.Read.{IsTypeOf}
 use Rattle.om_decl.specs.Text.{answer_text, lexer_text, placed_text, IsTextOf}
 use Rattle.om_lines.specs.Lines.{place_in, place_on}
-use Rattle.om_outcome.specs.Outcome.{at_end, Taken, Found, AskedType, opened, missing, failed, Stop, cannot_open, declarations, requested_type, script_line, out_of_memory, fault_of}
-use Rattle.om_stops.specs.declared.stop.Stop as codes_of
-use Rattle.om_stops.specs.declared.stop.Stop.TheVariants as stops
+use Rattle.om_outcome.specs.Outcome.{at_end, Taken, Found, AskedType, opened, missing, failed, fault_of}
+use Rattle.om_outcome.specs.declared.stop.Stop.{Stop}
+use Rattle.om_outcome.specs.declared.stop.Stop.TheVariants.{CannotOpen as cannot_open, Declarations as declarations, RequestedType as requested_type, Script as script_line, Memory as out_of_memory}
 use Rattle.om_declared.specs.declared.types.Requested.{Requested}
 use Rattle.om_path.specs.Answer.{IsAnswer, UnlessMemory}
 use Rattle.om_path.specs.declared.fault.PathFault.{PathFault}
 use Rattle.om_path.specs.declared.fault.PathFault.TheVariants as path_faults
-use Rattle.om_path.specs.ScriptAnswer.{IsScriptAnswer, UnlessMemory as UnlessMemoryInScript}
+use Rattle.om_path.specs.ScriptAnswer.{UnlessMemory as UnlessMemoryInScript}
 use Rattle.om_path.specs.declared.edits.Script.{Script}
 use Rattle.om_path.specs.declared.edits.ScriptFault.{ScriptFault}
 use Rattle.om_path.specs.declared.edits.ScriptFault.TheVariants as script_faults
 use Rattle.om_declared.specs.Language.{IsRefusal, ReadsPath, ReadsScript, script_refusal}
-use Rattle.om_stops.specs.Stops.{stop_of}
-use Rattle.om_declared.specs.Types.{StopsBy, TellsRefusal, IsDeclarationsStop, IsTypeStop, IsScriptStop, GivesDeclarations, GivesRequested, GivesType, GivesScript}
+use Rattle.om_stops.specs.Stops.{IsOrMemory}
+use Rattle.om_declared.specs.Types.{StopsBy, IsDeclarationsStop, IsTypeStop, IsScriptStop, IsAnswerOf, GivesDeclarations, GivesRequested, GivesType, GivesScript}
 
 -- ---- faults
 
@@ -52,55 +52,58 @@ told_refuses (faults.FloatInGroup place) tree e = cc e
 told_refuses faults.Memory tree e = cc e
 
 -- the stop tells the text of what a fault tells
-module _ {Tree : Type 0} (lines : Bool) (text : List ℕ) (places : ℕ → List ℕ) (same : places ≡ place_in lines text) (refusal : List ℕ) (stop : codes_of.Stop) (refused : List ℕ → Stop)
-    (is : stop_of stop ≡ refused refusal) where
+module _ {Tree : Type 0} (lines : Bool) (text : List ℕ) (places : ℕ → List ℕ) (same : places ≡ place_in lines text) (refusal : List ℕ) (stop : Stop) (refused : List ℕ → Stop)
+    (is : stop ≡ refused refusal) where
   pub refusal_told : (found : Option (Answer Tree)) → IsTextOf places found refusal
-      → MatchOption found (stop_of stop ≡ out_of_memory) (λ answer. TellsRefusal (refused (answer_text (place_in lines text) answer)) stop)
+      → MatchOption found (stop ≡ out_of_memory) (λ answer. IsOrMemory (refused (answer_text (place_in lines text) answer)) stop)
   refusal_told None none = absurd none
   refusal_told (Some answer) spelled = inl (is ∙ ap refused (spelled ∙ ap (λ told. answer_text told answer) same))
 
 -- or that memory ran out
-pub memory_told : {X : Type 0} (found : Option X) (told : X → Stop) → MatchOption found (stop_of stops.Memory ≡ out_of_memory) (λ x. TellsRefusal (told x) stops.Memory)
+pub memory_told : {X : Type 0} (found : Option X) (told : X → Stop) → MatchOption found (out_of_memory ≡ out_of_memory) (λ x. IsOrMemory (told x) out_of_memory)
 memory_told None told = refl
 memory_told (Some x) told = inr refl
 
 -- ---- stops
 
 -- what the fault tells is refused, or memory ran out
-stops_by : {Tree : Type 0} (places : ℕ → List ℕ) (fault : DeclFault) (Is : Answer Tree → Type 0) (tells : List ℕ → Stop) (stop : codes_of.Stop) → IsRefused Is fault
-    → MatchOption (told {Tree = Tree} fault) (stop_of stop ≡ out_of_memory) (λ answer. TellsRefusal (tells (answer_text places answer)) stop) → StopsBy (IsRefusal places Is) tells stop
+stops_by : {Tree : Type 0} (places : ℕ → List ℕ) (fault : DeclFault) (Is : Answer Tree → Type 0) (tells : List ℕ → Stop) (stop : Stop) → IsRefused Is fault
+    → MatchOption (told {Tree = Tree} fault) (stop ≡ out_of_memory) (λ answer. IsOrMemory (tells (answer_text places answer)) stop) → StopsBy (IsRefusal places Is) tells stop
 stops_by {Tree} places fault Is tells stop refused is = at (told fault) refl refused is where
   at : (found : Option (Answer Tree)) → told fault ≡ found → MatchOption found (Unit {0}) Is
-      → MatchOption found (stop_of stop ≡ out_of_memory) (λ answer. TellsRefusal (tells (answer_text places answer)) stop) → StopsBy (IsRefusal places Is) tells stop
+      → MatchOption found (stop ≡ out_of_memory) (λ answer. IsOrMemory (tells (answer_text places answer)) stop) → StopsBy (IsRefusal places Is) tells stop
   at None e refused is = inr is
   at (Some answer) e refused (inr memory) = inr memory
   at (Some answer) e refused (inl is) =
       inl (answer_text places answer, record { answer = answer; is = refused; refuses = λ tree same. told_refuses fault tree (e ∙ ap Some same); spelled = refl }, is)
 
-pub declarations_refused : (lines : Bool) (text : List ℕ) (fault : DeclFault) (stop : codes_of.Stop) → IsRefused (IsFileAnswer text) fault → IsDeclarationsStop lines text fault stop
+pub declarations_refused : (lines : Bool) (text : List ℕ) (fault : DeclFault) (stop : Stop) → IsRefused (IsFileAnswer text) fault → IsDeclarationsStop lines text fault stop
     → GivesDeclarations lines text (Err stop)
 declarations_refused lines text fault stop refused is = stops_by (place_in lines text) fault (IsFileAnswer text) declarations stop refused is
 
-pub type_refused : (decls : List Decl) (asked : AskedType) (fault : DeclFault) (stop : codes_of.Stop) → IsRefused (IsTypeAnswer decls asked.text) fault
+pub type_refused : (decls : List Decl) (asked : AskedType) (fault : DeclFault) (stop : Stop) → IsRefused (IsTypeAnswer decls asked.text) fault
     → IsTypeStop asked.lines asked.text fault stop → GivesRequested decls asked (Err stop)
 type_refused decls asked fault stop refused is = at (stops_by (place_in asked.lines asked.text) fault (IsTypeAnswer decls asked.text) requested_type stop refused is) where
   at : StopsBy (IsRefusal (place_in asked.lines asked.text) (IsTypeAnswer decls asked.text)) requested_type stop → GivesRequested decls asked (Err stop)
   at (inl (refusal, is, same)) = inl (refusal, inl is, same)
   at (inr memory) = inr memory
 
-pub type_too_many : (decls : List Decl) (asked : AskedType) (t : Ty) → IsTypeOf decls asked.text t → ReachesTooMany decls t → GivesRequested decls asked (Err stops.TooManyTypes)
-type_too_many decls asked t written many =
-    inl (codes "TooManyTypes", inr (record { type = t; written = written; many = many; spelled = refl }), refl)
+pub type_too_many : (decls : List Decl) (asked : AskedType) (t : Ty) → IsTypeOf decls asked.text t → ReachesTooMany decls t
+    → (stop : Stop) → IsOrMemory (requested_type (codes "TooManyTypes")) stop → GivesRequested decls asked (Err stop)
+type_too_many decls asked t written many stop (inl is) =
+    inl (codes "TooManyTypes", inr (record { type = t; written = written; many = many; spelled = refl }), is)
+type_too_many decls asked t written many stop (inr memory) = inr memory
 
 -- a table is made
 pub type_given : (decls : List Decl) (asked : AskedType) (t : Ty) (table : TypeTable) → AreWellFormed decls → IsTypeOf decls asked.text t → IsSoundType decls t → IsTypeTable decls t table
-    → GivesRequested decls asked (Ok (record { decls = decls; ty = t; table = table; lines = asked.lines }))
+    → GivesRequested decls asked (Ok (record { decls = decls; ty = t; table = table; lines = asked.lines; decimal = asked.decimal }))
 type_given decls asked t table well written sound made = (
   record {
     over = refl;
     written = written;
     few = record { types = types_of table; reached = made.reached; few = few_types };
     lined = refl;
+    decimaled = refl;
   },
   record { well = well; sound = sound; made = made },
 ) where
@@ -110,28 +113,30 @@ type_given decls asked t table well written sound made = (
 -- ---- FILE and TYPE
 
 module _ (file : List ℕ) (type : AskedType) where
-  abbrev pub Gives : Found → Result Requested codes_of.Stop → Type 0
+  abbrev pub Gives : Found → Result Requested Stop → Type 0
   Gives found result = GivesType file type found result
 
-  pub reads_missing : (stop : codes_of.Stop) → stop_of stop ≡ cannot_open file → Gives missing (Err stop)
-  reads_missing stop e = inl (Err (cannot_open file), refl, ap Err e)
+  pub reads_missing : (stop : Stop) → IsOrMemory (cannot_open file) stop → Gives missing (Err stop)
+  reads_missing stop (inl e) = inl (Err (cannot_open file), refl, ap Err e)
+  reads_missing stop (inr memory) = inr memory
 
-  pub reads_failed : (stop : codes_of.Stop) → stop_of stop ≡ cannot_open file → Gives failed (Err stop)
-  reads_failed stop e = inl (Err (cannot_open file), refl, ap Err e)
+  pub reads_failed : (stop : Stop) → IsOrMemory (cannot_open file) stop → Gives failed (Err stop)
+  reads_failed stop (inl e) = inl (Err (cannot_open file), refl, ap Err e)
+  reads_failed stop (inr memory) = inr memory
 
   module _ (taken : Taken) where
-    pub reads_fault : (stop : codes_of.Stop) → fault_of taken.until ≡ Some (stop_of stop) → Gives (opened taken) (Err stop)
-    reads_fault stop e = inl (Err (stop_of stop), e, refl)
+    pub reads_fault : (stop : Stop) → fault_of taken.until ≡ Some stop → Gives (opened taken) (Err stop)
+    reads_fault stop e = inl (Err stop, e, refl)
 
     abbrev same : taken.until ≡ at_end → opened taken ≡ opened (record { bytes = taken.bytes; until = at_end })
     same e = ap (λ u. opened (record { bytes = taken.bytes; until = u })) e
 
-    pub reads_declarations : taken.until ≡ at_end → (stop : codes_of.Stop) → GivesDeclarations type.lines taken.bytes (Err stop) → Gives (opened taken) (Err stop)
+    pub reads_declarations : taken.until ≡ at_end → (stop : Stop) → GivesDeclarations type.lines taken.bytes (Err stop) → Gives (opened taken) (Err stop)
     reads_declarations e stop (inl (refusal, refuses, is)) =
         inl (Ok taken.bytes, same e, (Err (declarations refusal), (refusal, refuses, refl), ap Err is))
     reads_declarations e stop (inr memory) = inr memory
 
-    pub reads_type : taken.until ≡ at_end → (decls : List Decl) → GivesDeclarations type.lines taken.bytes (Ok decls) → (result : Result Requested codes_of.Stop) → GivesRequested decls type result
+    pub reads_type : taken.until ≡ at_end → (decls : List Decl) → GivesDeclarations type.lines taken.bytes (Ok decls) → (result : Result Requested Stop) → GivesRequested decls type result
         → Gives (opened taken) result
     reads_type e decls declared (Ok r) gives = ((Ok taken.bytes, same e, (Ok decls, declared.0, gives.0)), gives.1)
     reads_type e decls declared (Err stop) (inl (refusal, refuses, is)) = inl (Ok taken.bytes, same e, (Ok decls, declared.0, (refusal, refuses, is)))
@@ -142,6 +147,12 @@ pub given_lines : (file : List ℕ) (type : AskedType) (found : Found) (r : Requ
 given_lines file type found r ((Err stop, fault, e), ready) = absurd (cc e)
 given_lines file type found r ((Ok text, read, (Err stop, refusal, e)), ready) = absurd (cc e)
 given_lines file type found r ((Ok text, read, (Ok decls, declared, is)), ready) = is.lined
+
+-- and whether decimals are read at it
+pub given_decimal : (file : List ℕ) (type : AskedType) (found : Found) (r : Requested) → GivesType file type found (Ok r) → r.decimal ≡ type.decimal
+given_decimal file type found r ((Err stop, fault, e), ready) = absurd (cc e)
+given_decimal file type found r ((Ok text, read, (Err stop, refusal, e)), ready) = absurd (cc e)
+given_decimal file type found r ((Ok text, read, (Ok decls, declared, is)), ready) = is.decimaled
 
 -- ---- PATH
 
@@ -154,47 +165,49 @@ path_refused text path_faults.Memory some is = absurd (some refl)
 -- ---- SCRIPT
 
 -- the stop tells the line of the text that is at fault
-abbrev StopsByLine : Bool → List ℕ → codes_of.Stop → Type 0
-StopsByLine lines text stop = (refusal : ℕ × List ℕ) × ReadsScript lines text (Err refusal) × (stop_of stop ≡ script_line refusal.0 refusal.1)
+abbrev StopsByLine : (lines decimal : Bool) → List ℕ → Stop → Type 0
+StopsByLine lines decimal text stop = (refusal : ℕ × List ℕ) × ReadsScript lines decimal text (Err refusal) × (stop ≡ script_line refusal.0 refusal.1)
 
 -- a fault but for out of memory is that of a text that is no script
-lines_refused : (lines : Bool) (text : List ℕ) (fault : ScriptFault) → UnlessMemoryInScript (λ f. IsScriptAnswer text (Err f)) fault → (stop : codes_of.Stop) → IsScriptStop lines fault stop
-    → StopsByLine lines text stop ⊎ (stop_of stop ≡ out_of_memory)
-lines_refused lines text fault refused stop is = at fault refused is where
-  by_line : (fault : ScriptFault) (refusal : ℕ × List ℕ) → script_refusal lines fault ≡ Some refusal → IsScriptAnswer text (Err fault) → TellsRefusal (script_line refusal.0 refusal.1) stop
-      → StopsByLine lines text stop ⊎ (stop_of stop ≡ out_of_memory)
+lines_refused : (lines decimal : Bool) (text : List ℕ) (fault : ScriptFault) → UnlessMemoryInScript (λ f. IsAnswerOf decimal text (Err f)) fault → (stop : Stop) → IsScriptStop lines fault stop
+    → StopsByLine lines decimal text stop ⊎ (stop ≡ out_of_memory)
+lines_refused lines decimal text fault refused stop is = at fault refused is where
+  by_line : (fault : ScriptFault) (refusal : ℕ × List ℕ) → script_refusal lines fault ≡ Some refusal → IsAnswerOf decimal text (Err fault) → IsOrMemory (script_line refusal.0 refusal.1) stop
+      → StopsByLine lines decimal text stop ⊎ (stop ≡ out_of_memory)
   by_line fault refusal is answer (inl tells) = inl (refusal, (fault, answer, is), tells)
   by_line fault refusal is answer (inr memory) = inr memory
 
-  at : (fault : ScriptFault) → UnlessMemoryInScript (λ f. IsScriptAnswer text (Err f)) fault → IsScriptStop lines fault stop → StopsByLine lines text stop ⊎ (stop_of stop ≡ out_of_memory)
+  at : (fault : ScriptFault) → UnlessMemoryInScript (λ f. IsAnswerOf decimal text (Err f)) fault → IsScriptStop lines fault stop → StopsByLine lines decimal text stop ⊎ (stop ≡ out_of_memory)
   at (script_faults.Lex number fault) refused is = by_line (script_faults.Lex number fault) (number, lexer_text (place_on lines number) fault) refl refused is
   at (script_faults.Syntax number place) refused is = by_line (script_faults.Syntax number place) (number, placed_text (codes "Syntax") (place_on lines number place)) refl refused is
   at (script_faults.Later number) refused is = by_line (script_faults.Later number) (number, codes "Later") refl refused is
   at script_faults.Memory refused is = inr is
 
-module _ (lines : Bool) (name : List ℕ) where
-  abbrev pub GivesLines : Found → Result Script codes_of.Stop → Type 0
-  GivesLines found result = GivesScript lines name found result
+module _ (lines decimal : Bool) (name : List ℕ) where
+  abbrev pub GivesLines : Found → Result Script Stop → Type 0
+  GivesLines found result = GivesScript lines decimal name found result
 
-  pub script_missing : (stop : codes_of.Stop) → stop_of stop ≡ cannot_open name → GivesLines missing (Err stop)
-  script_missing stop e = inl (Err (cannot_open name), refl, ap Err e)
+  pub script_missing : (stop : Stop) → IsOrMemory (cannot_open name) stop → GivesLines missing (Err stop)
+  script_missing stop (inl e) = inl (Err (cannot_open name), refl, ap Err e)
+  script_missing stop (inr memory) = inr memory
 
-  pub script_failed : (stop : codes_of.Stop) → stop_of stop ≡ cannot_open name → GivesLines failed (Err stop)
-  script_failed stop e = inl (Err (cannot_open name), refl, ap Err e)
+  pub script_failed : (stop : Stop) → IsOrMemory (cannot_open name) stop → GivesLines failed (Err stop)
+  script_failed stop (inl e) = inl (Err (cannot_open name), refl, ap Err e)
+  script_failed stop (inr memory) = inr memory
 
   module _ (taken : Taken) where
-    pub script_fault : (stop : codes_of.Stop) → fault_of taken.until ≡ Some (stop_of stop) → GivesLines (opened taken) (Err stop)
-    script_fault stop e = inl (Err (stop_of stop), e, refl)
+    pub script_fault : (stop : Stop) → fault_of taken.until ≡ Some stop → GivesLines (opened taken) (Err stop)
+    script_fault stop e = inl (Err stop, e, refl)
 
     abbrev all_taken : taken.until ≡ at_end → opened taken ≡ opened (record { bytes = taken.bytes; until = at_end })
     all_taken e = ap (λ u. opened (record { bytes = taken.bytes; until = u })) e
 
-    pub script_read : taken.until ≡ at_end → (script : Script) → IsScriptAnswer taken.bytes (Ok script) → GivesLines (opened taken) (Ok script)
+    pub script_read : taken.until ≡ at_end → (script : Script) → IsAnswerOf decimal taken.bytes (Ok script) → GivesLines (opened taken) (Ok script)
     script_read e script is = (Ok taken.bytes, all_taken e, is)
 
-    pub script_refused : taken.until ≡ at_end → (fault : ScriptFault) → UnlessMemoryInScript (λ f. IsScriptAnswer taken.bytes (Err f)) fault → (stop : codes_of.Stop) → IsScriptStop lines fault stop
+    pub script_refused : taken.until ≡ at_end → (fault : ScriptFault) → UnlessMemoryInScript (λ f. IsAnswerOf decimal taken.bytes (Err f)) fault → (stop : Stop) → IsScriptStop lines fault stop
         → GivesLines (opened taken) (Err stop)
-    script_refused e fault refused stop is = at (lines_refused lines taken.bytes fault refused stop is) where
-      at : StopsByLine lines taken.bytes stop ⊎ (stop_of stop ≡ out_of_memory) → GivesLines (opened taken) (Err stop)
+    script_refused e fault refused stop is = at (lines_refused lines decimal taken.bytes fault refused stop is) where
+      at : StopsByLine lines decimal taken.bytes stop ⊎ (stop ≡ out_of_memory) → GivesLines (opened taken) (Err stop)
       at (inl (refusal, reads, same)) = inl (Ok taken.bytes, all_taken e, (refusal, reads, same))
       at (inr memory) = inr memory

@@ -5,17 +5,16 @@ use Rattle.om_model.specs.declared.value.Obj.{Obj}
 use Rattle.om_edge.specs.Sink.{Puts, PutsPart}
 use Rattle.om_edge.specs.State.{ByteState, Change}
 use Rattle.om_outcome.specs.Outcome.{Unedited, unedited_stop}
+use Rattle.om_outcome.specs.declared.stop.Stop.{Stop}
 use Rattle.om_stops.specs.declared.stop.Halt.{Halt}
 use Rattle.om_stops.specs.declared.stop.Halt.TheVariants as halts
-use Rattle.om_stops.specs.declared.stop.Stop.{Stop}
-use Rattle.om_stops.specs.Stops.{stop_of}
 use Rattle.om_declared.specs.Checked.{OrMemory}
 use Rattle.om_declared.specs.Language.{AreBytesOf}
 
 -- there are no bytes of value k, where this is what is answered
 abbrev pub IsUnedited : ℕ → (Result (List ℕ) Unedited → Type 0) → Stop → Type 0
 IsUnedited k Answers stop =
-    (why : Unedited) × Answers (Err why) × (stop_of stop ≡ unedited_stop k why)
+    (why : Unedited) × Answers (Err why) × (stop ≡ unedited_stop k why)
 
 -- the bytes of value k are put; or the run stops, and nothing is; or out failed
 abbrev pub PutsAnswer : {U : Type 0} → ℕ → (Result (List ℕ) Unedited → Type 0) → Change ByteState

@@ -1,5 +1,7 @@
 -- The test that a value has the type.
 use Rattle.std.specs.Prelude.{ℕ, ◌≡◌, ◌⊎◌, List, Result, Ok, Err}
+use Rattle.om_outcome.specs.declared.stop.Stop.{Stop}
+use Rattle.om_outcome.specs.declared.stop.Stop.TheVariants.{Untyped as untyped_value, Memory as out_of_memory}
 use Rattle.om_model.specs.declared.value.Val.{Val}
 use Rattle.om_model.specs.declared.value.Obj.{Obj}
 use Rattle.om_types.specs.Equal.{declared_shapes}
@@ -7,21 +9,18 @@ use Rattle.om_types.specs.TypeText.{type_text}
 use Rattle.om_types.specs.Typing.{HasType}
 use Rattle.om_types.specs.VerdictText.{IsNoLine}
 use Rattle.om_rigid.specs.Rigid.{HasEachInstance}
-use Rattle.om_outcome.specs.Outcome.{untyped_value, out_of_memory}
 use Rattle.om_stops.specs.declared.stop.Halt.{Halt}
 use Rattle.om_stops.specs.declared.stop.Halt.TheVariants as halts
-use Rattle.om_stops.specs.declared.stop.Stop.{Stop}
-use Rattle.om_stops.specs.Stops.{stop_of}
 use Rattle.om_declared.specs.declared.types.Requested.{Requested}
 
 -- the run stops, as this says, or memory ran out
 abbrev pub OrMemory : (Stop → Type 0) → Stop → Type 0
-OrMemory Stops stop = (stop_of stop ≡ out_of_memory) ⊎ Stops stop
+OrMemory Stops stop = (stop ≡ out_of_memory) ⊎ Stops stop
 
 abbrev pub IsUntypedStop : Requested → ℕ → List Obj → Val → Stop → Type 0
 IsUntypedStop r k graph v stop =
     (text : List ℕ) × IsNoLine (declared_shapes r.decls) type_text graph v r.ty text
-    × (¬ HasEachInstance r.decls graph v r.ty) × (stop_of stop ≡ untyped_value k text)
+    × (¬ HasEachInstance r.decls graph v r.ty) × (stop ≡ untyped_value k text)
 
 -- value k has the type, and each closed instance of it; or the run stops, since it has not
 abbrev pub ChecksType : {U : Type 0} → Requested → ℕ → List Obj → Val → Result U Halt → Type 0

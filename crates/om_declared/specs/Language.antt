@@ -17,6 +17,8 @@ use Rattle.om_format.specs.Canonical.{canon}
 use Rattle.om_format.specs.Compat.{TooLargeFor32, too_large_for_32}
 use Rattle.om_format.specs.Iso.{IsTreeOf}
 use Rattle.om_format.specs.Tree.{Tree, root, objects_of}
+use Rattle.om_decimal_scripts.specs.Scripts.{AreGivenEdits}
+use Rattle.om_decimal_texts.specs.Texts.{decimal_text}
 use Rattle.om_decl.specs.Answer.{Answer, accepted, IsFileAnswer, IsTypeAnswer}
 use Rattle.om_decl.specs.Read.{IsDeclared, IsTypeOf}
 use Rattle.om_decl.specs.Text.{answer_text, lexer_text, placed_text}
@@ -28,7 +30,7 @@ use Rattle.om_lines.specs.Lines.{place_in, place_on}
 use Rattle.om_path.specs.Answer.{IsAnswer}
 use Rattle.om_path.specs.declared.fault.PathFault.{PathFault}
 use Rattle.om_path.specs.declared.fault.PathFault.TheVariants as path_faults
-use Rattle.om_path.specs.ScriptAnswer.{AreEdits}
+use Rattle.om_path.specs.ScriptAnswer.{Edits, AreEdits}
 use Rattle.om_path.specs.declared.edits.ScriptFault.{ScriptFault}
 use Rattle.om_path.specs.declared.edits.ScriptFault.TheVariants as script_faults
 use Rattle.om_path.specs.declared.edits.ScriptLine.{ScriptLine}
@@ -42,18 +44,21 @@ use Rattle.om_outcome.specs.declared.style.Style.{Style}
 use Rattle.om_outcome.specs.RefusalText.{compat_text}
 use Rattle.om_outcome.specs.Outcome.{AskedType, Language, Said, Saying, the_verdict, the_text, the_part, the_trees, Unedited, untyped, refused_line, too_large, line}
 
--- a type over declarations, and whether the places of what is refused at it are told by line and
--- column
+-- a type over declarations; whether the places of what is refused at it are told by line and
+-- column; and whether decimals stand for doubles in the texts that are read at it
 pub record TypeOver : Type 0 where
   pub decls : List Decl
   pub type : Ty
   pub lines : Bool
+  pub decimal : Bool
 
 -- ---- lines
 
--- a text in this style
+-- a text in this style: with its doubles as decimals, and over lines, where that is asked for
 abbrev pub styled : Style → List ℕ → List ℕ
-styled style text = if style.pretty then pretty text else text
+styled style text =
+    let put = if style.decimal then decimal_text text else text in
+    if style.pretty then pretty put else put
 
 -- the text of a part, if there is one
 abbrev pub part_or_none : Option (List ℕ) → Said
@@ -204,6 +209,7 @@ pub record IsAccepted (decls : List Decl) (asked : AskedType) (t : TypeOver) : T
   pub written : IsTypeOf decls asked.text t.type
   pub few : ReachesFew decls t.type
   pub lined : t.lines ≡ asked.lines
+  pub decimaled : t.decimal ≡ asked.decimal
 
 abbrev pub ReadsType : List Decl → AskedType → Result TypeOver (List ℕ) → Type 0
 ReadsType decls asked (Ok t) = IsAccepted decls asked t
@@ -225,11 +231,18 @@ script_refusal lines (script_faults.Syntax number place) =
 script_refusal lines (script_faults.Later number) = Some (number, codes "Later")
 script_refusal lines script_faults.Memory = None
 
+-- the edits of a text, or its fault; with decimals those of its plain text, at the places of the
+-- lines that were given
+abbrev pub AreEditsOf : (decimal : Bool) → List ℕ → Edits → Type 0
+AreEditsOf false text all = AreEdits 1 text all
+AreEditsOf true text all = AreGivenEdits text all
+
 -- the text is a script of these lines, or has this fault
-abbrev pub ReadsScript : (lines : Bool) → List ℕ → Result (List ScriptLine) (ℕ × List ℕ) → Type 0
-ReadsScript lines text (Ok edits) = AreEdits 1 text (Ok edits)
-ReadsScript lines text (Err refusal) =
-    (fault : ScriptFault) × AreEdits 1 text (Err fault)
+abbrev pub ReadsScript : (lines decimal : Bool) → List ℕ → Result (List ScriptLine) (ℕ × List ℕ)
+    → Type 0
+ReadsScript lines decimal text (Ok edits) = AreEditsOf decimal text (Ok edits)
+ReadsScript lines decimal text (Err refusal) =
+    (fault : ScriptFault) × AreEditsOf decimal text (Err fault)
     × (script_refusal lines fault ≡ Some refusal)
 
 abbrev pub declared_types : Language (List Decl) TypeOver ScriptLine

@@ -8,22 +8,23 @@ use Rattle.om_decl.specs.declared.fault.DeclFault.{DeclFault}
 use Rattle.om_decl.specs.Fault.{told}
 use Rattle.om_decl.specs.Text.{answer_text}
 use Rattle.om_lines.specs.Lines.{place_in}
-use Rattle.om_outcome.specs.Outcome.{Found, AskedType, ReadsTypeOf, ReadsScriptOf, bad_path, declarations, requested_type, script_line, out_of_memory}
-use Rattle.om_outcome.specs.Outcome as outcome
+use Rattle.om_outcome.specs.Outcome.{Found, AskedType, ReadsTypeOf, ReadsScriptOf}
+use Rattle.om_outcome.specs.declared.stop.Stop.{Stop}
+use Rattle.om_outcome.specs.declared.stop.Stop.TheVariants.{BadPath as bad_path, Declarations as declarations, RequestedType as requested_type, Script as script_line, Memory as out_of_memory}
 use Rattle.om_edge.specs.State.{FilesState, Change}
 use Rattle.om_path.specs.declared.fault.PathFault.{PathFault}
 use Rattle.om_path.specs.declared.fault.PathFault.TheVariants as path_faults
 use Rattle.om_path.specs.declared.edits.Script.{Script}
 use Rattle.om_path.specs.declared.edits.ScriptFault.{ScriptFault}
-use Rattle.om_stops.specs.declared.stop.Stop.{Stop}
+use Rattle.om_path.specs.ScriptAnswer.{edits_in}
+use Rattle.om_stops.specs.Stops.{IsOrMemory}
 use Rattle.om_declared.specs.declared.types.Requested.{Requested}
 use Rattle.om_promises.specs.Given.{Fetched}
-use Rattle.om_declared.specs.Language.{TypeOver, declared_types, ReadsDeclarations, ReadsType, script_refusal}
-use Rattle.om_stops.specs.Stops.{stop_of}
+use Rattle.om_declared.specs.Language.{TypeOver, declared_types, ReadsDeclarations, ReadsType, AreEditsOf, script_refusal}
 
 -- the type, over its declarations
 abbrev pub type_over : Requested → TypeOver
-type_over r = record { decls = r.decls; type = r.ty; lines = r.lines }
+type_over r = record { decls = r.decls; type = r.ty; lines = r.lines; decimal = r.decimal }
 
 -- The type is sound over well-formed declarations, and the table is the type's.
 pub record IsReady (r : Requested) : Type 0 where
@@ -34,37 +35,33 @@ pub record IsReady (r : Requested) : Type 0 where
 -- ---- stops
 
 -- memory ran out, or the stop tells a refusal
-abbrev pub StopsBy : (List ℕ → Type 0) → (List ℕ → outcome.Stop) → Stop → Type 0
+abbrev pub StopsBy : (List ℕ → Type 0) → (List ℕ → Stop) → Stop → Type 0
 StopsBy Refuses told stop =
-    ((refusal : List ℕ) × Refuses refusal × (stop_of stop ≡ told refusal))
-    ⊎ (stop_of stop ≡ out_of_memory)
-
--- the stop tells this refusal, or that memory ran out
-abbrev pub TellsRefusal : outcome.Stop → Stop → Type 0
-TellsRefusal refused stop = (stop_of stop ≡ refused) ⊎ (stop_of stop ≡ out_of_memory)
+    ((refusal : List ℕ) × Refuses refusal × (stop ≡ told refusal))
+    ⊎ (stop ≡ out_of_memory)
 
 -- memory ran out, or the stop tells the text of what the fault tells of a text
 abbrev pub IsDeclarationsStop : (lines : Bool) → List ℕ → DeclFault → Stop → Type 0
 IsDeclarationsStop lines text fault stop =
-    MatchOption (told {Tree = FileTree} fault) (stop_of stop ≡ out_of_memory)
-    (λ answer. TellsRefusal (declarations (answer_text (place_in lines text) answer)) stop)
+    MatchOption (told {Tree = FileTree} fault) (stop ≡ out_of_memory)
+    (λ answer. IsOrMemory (declarations (answer_text (place_in lines text) answer)) stop)
 
 abbrev pub IsTypeStop : (lines : Bool) → List ℕ → DeclFault → Stop → Type 0
 IsTypeStop lines text fault stop =
-    MatchOption (told {Tree = Texpr} fault) (stop_of stop ≡ out_of_memory)
-    (λ answer. TellsRefusal (requested_type (answer_text (place_in lines text) answer)) stop)
+    MatchOption (told {Tree = Texpr} fault) (stop ≡ out_of_memory)
+    (λ answer. IsOrMemory (requested_type (answer_text (place_in lines text) answer)) stop)
 
 -- memory ran out, or the text is no path
 abbrev pub IsPathStop : PathFault → Stop → Type 0
 IsPathStop fault stop =
-    ((fault ≡ path_faults.Memory) × (stop_of stop ≡ out_of_memory))
-    ⊎ ((fault ≢ path_faults.Memory) × (stop_of stop ≡ bad_path))
+    ((fault ≡ path_faults.Memory) × (stop ≡ out_of_memory))
+    ⊎ ((fault ≢ path_faults.Memory) × (stop ≡ bad_path))
 
 -- memory ran out, or the stop tells the line at fault
 abbrev pub IsScriptStop : (lines : Bool) → ScriptFault → Stop → Type 0
 IsScriptStop lines fault stop =
-    MatchOption (script_refusal lines fault) (stop_of stop ≡ out_of_memory)
-    (λ refusal. TellsRefusal (script_line refusal.0 refusal.1) stop)
+    MatchOption (script_refusal lines fault) (stop ≡ out_of_memory)
+    (λ refusal. IsOrMemory (script_line refusal.0 refusal.1) stop)
 
 -- ---- what is given
 
@@ -84,21 +81,26 @@ abbrev pub GivesType : List ℕ → AskedType → Found → Result Requested Sto
 GivesType file type found (Ok r) =
     ReadsTypeOf declared_types (λ name. found) (file, type) (Ok (type_over r)) × IsReady r
 GivesType file type found (Err stop) =
-    ReadsTypeOf declared_types (λ name. found) (file, type) (Err (stop_of stop))
-    ⊎ (stop_of stop ≡ out_of_memory)
+    ReadsTypeOf declared_types (λ name. found) (file, type) (Err stop)
+    ⊎ (stop ≡ out_of_memory)
 
 abbrev pub FindsTypeIn : Change FilesState → List ℕ → AskedType → Result Requested Stop → Type 0
 FindsTypeIn files file type result =
     (found : Found) × Fetched files file found × GivesType file type found result
 
--- the lines of the script, or why there are none, but for out of memory
-abbrev pub GivesScript : (lines : Bool) → List ℕ → Found → Result Script Stop → Type 0
-GivesScript lines name found (Ok script) =
-    ReadsScriptOf declared_types lines (λ name. found) name (Ok script.lines)
-GivesScript lines name found (Err stop) =
-    ReadsScriptOf declared_types lines (λ name. found) name (Err (stop_of stop))
-    ⊎ (stop_of stop ≡ out_of_memory)
+-- the answer to the text of a script
+abbrev pub IsAnswerOf : (decimal : Bool) → List ℕ → Result Script ScriptFault → Type 0
+IsAnswerOf decimal text answer = AreEditsOf decimal text (edits_in answer)
 
-abbrev pub FindsScriptIn : Change FilesState → (lines : Bool) → List ℕ → Result Script Stop → Type 0
-FindsScriptIn files lines name result =
-    (found : Found) × Fetched files name found × GivesScript lines name found result
+-- the lines of the script, or why there are none, but for out of memory
+abbrev pub GivesScript : (lines decimal : Bool) → List ℕ → Found → Result Script Stop → Type 0
+GivesScript lines decimal name found (Ok script) =
+    ReadsScriptOf declared_types lines decimal (λ name. found) name (Ok script.lines)
+GivesScript lines decimal name found (Err stop) =
+    ReadsScriptOf declared_types lines decimal (λ name. found) name (Err stop)
+    ⊎ (stop ≡ out_of_memory)
+
+abbrev pub FindsScriptIn : Change FilesState → (lines decimal : Bool) → List ℕ
+    → Result Script Stop → Type 0
+FindsScriptIn files lines decimal name result =
+    (found : Found) × Fetched files name found × GivesScript lines decimal name found result

@@ -8,7 +8,9 @@ ghost use Rattle.om_declared.specs.Bytes.{PutsBytes};
 use om_edge::{Sink, WriteError};
 use om_heap::Heap;
 use om_model::value::Val;
-use om_stops::stop::{Halt, Stop};
+use om_outcome::stop::Stop;
+use om_stops::made::too_large_value;
+use om_stops::stop::Halt;
 use om_write::{Write32Error, write, write32};
 use std::alloc::Global;
 
@@ -47,7 +49,9 @@ fn put_compat<K: Sink>(
 {
     match write32(alloc, heap, root, out) {
         Ok(()) => Ok(()),
-        Err(Write32Error::Compat(compat)) => Err(Halt::Stop(Stop::Large(number, compat))),
+        Err(Write32Error::Compat(compat)) => {
+            Err(Halt::Stop(too_large_value(alloc, number, compat)))
+        }
         Err(Write32Error::Fault) => Err(Halt::WriteFault),
         Err(Write32Error::Memory) => Err(Halt::Stop(Stop::Memory)),
     }

@@ -1,42 +1,49 @@
 //! The type that a run asks for: its FILE, and its TYPE; its SCRIPT; and the stops of texts that
 //! are refused.
 
-ghost use Rattle.std.specs.Prelude.{ℕ, List as Seq, codes};
+ghost use Rattle.std.specs.Prelude.{ℕ, List as Seq, Ok, Err, IfOk, IfErr, codes};
 ghost use Rattle.om_types.specs.Accepted.{AreWellFormed};
-ghost use Rattle.om_outcome.specs.Outcome.{opened, asked_type, script_line};
+ghost use Rattle.om_outcome.specs.Outcome.{opened, asked_with};
+ghost use Rattle.om_outcome.specs.declared.stop.Stop.TheVariants.{Script as script_line};
 ghost use Rattle.om_edge.specs.State.{change};
+ghost use Rattle.om_path.specs.ScriptAnswer.{UnlessMemory};
 ghost use Rattle.om_declared.specs.Gathered.{taken_of};
 ghost use Rattle.om_lines.specs.Lines.{place_on};
 ghost use Rattle.om_decl.specs.Text.{lexer_text as text_of_lexer, placed_text};
-ghost use Rattle.om_declared.specs.Types.{TellsRefusal, IsDeclarationsStop, IsTypeStop, IsPathStop, IsScriptStop, GivesDeclarations, GivesRequested, GivesType, GivesScript, FindsTypeIn, FindsScriptIn};
+ghost use Rattle.om_stops.specs.Stops.{IsOrMemory};
+ghost use Rattle.om_declared.specs.Types.{IsDeclarationsStop, IsTypeStop, IsPathStop, IsScriptStop, IsAnswerOf, GivesDeclarations, GivesRequested, GivesType, GivesScript, FindsTypeIn, FindsScriptIn};
 
 use crate::fetch::{Fetch, fetch_file};
 use crate::gather::{Gathered, InputEnd};
+use om_decimal_scripts::read_given_script;
 use om_decl::{DeclFault, fault_text, lexer_text, read_decls, read_type, syntax_text};
 use om_edge::Opener;
 use om_lex::lexeme::LexFault;
 use om_lines::Places;
 use om_model::list::List;
+use om_outcome::stop::Stop;
 use om_path::{PathFault, Script, ScriptFault, read_script};
-use om_stops::stop::Stop;
+use om_stops::made::{refused_line, refused_type, unopened_file};
 use om_type_table::TypeTable;
 use om_typeintern::{TypeFault, build};
 use om_types::decl::Decl;
 use om_types::ty::Ty;
 use std::alloc::Global;
 
-/// A type over declarations, and the table that values are checked by; and whether the places of
-/// what is refused at it are told by line and column.
+/// A type over declarations, and the table that values are checked by; whether the places of what is
+/// refused at it are told by line and column; and whether decimals stand for doubles in the texts
+/// that are read at it.
 #[derive(Drop)]
 pub struct Requested {
     pub decls: List<Decl>,
     pub ty: Ty,
     pub table: TypeTable,
     pub lines: bool,
+    pub decimal: bool,
 }
 
 /// The stop of declarations that are refused.
-fn declarations_stop<'a>(alloc: Global, lines: bool, text: &[u8], fault: &DeclFault) -> Stop<'a>
+fn declarations_stop(alloc: Global, lines: bool, text: &[u8], fault: &DeclFault) -> Stop
     ensures { IsDeclarationsStop lines text.now fault.now result }
 {
     match fault_text(alloc, &Places::of_text(lines, text), fault) {
@@ -46,7 +53,7 @@ fn declarations_stop<'a>(alloc: Global, lines: bool, text: &[u8], fault: &DeclFa
 }
 
 /// The stop of a type that is refused.
-fn type_stop<'a>(alloc: Global, lines: bool, text: &[u8], fault: &DeclFault) -> Stop<'a>
+fn type_stop(alloc: Global, lines: bool, text: &[u8], fault: &DeclFault) -> Stop
     ensures { IsTypeStop lines text.now fault.now result }
 {
     match fault_text(alloc, &Places::of_text(lines, text), fault) {
@@ -56,7 +63,7 @@ fn type_stop<'a>(alloc: Global, lines: bool, text: &[u8], fault: &DeclFault) -> 
 }
 
 /// The stop of a PATH that is no path.
-pub fn path_stop(fault: PathFault) -> Stop<'static>
+pub fn path_stop(fault: PathFault) -> Stop
     ensures { IsPathStop fault result }
 {
     match fault {
@@ -66,8 +73,8 @@ pub fn path_stop(fault: PathFault) -> Stop<'static>
 }
 
 /// The stop of a line of a SCRIPT that has no lexemes.
-fn lexer_stop(alloc: Global, lines: bool, number: usize, fault: LexFault) -> Stop<'static>
-    ensures { TellsRefusal (script_line number (text_of_lexer (place_on lines number) fault))
+fn lexer_stop(alloc: Global, lines: bool, number: usize, fault: LexFault) -> Stop
+    ensures { IsOrMemory (script_line number (text_of_lexer (place_on lines number) fault))
         result }
 {
     match lexer_text(alloc, &Places::of_line(lines, number as u64), fault) {
@@ -77,8 +84,8 @@ fn lexer_stop(alloc: Global, lines: bool, number: usize, fault: LexFault) -> Sto
 }
 
 /// The stop of a line of a SCRIPT that no line of one goes on as.
-fn syntax_stop(alloc: Global, lines: bool, number: usize, place: usize) -> Stop<'static>
-    ensures { TellsRefusal
+fn syntax_stop(alloc: Global, lines: bool, number: usize, place: usize) -> Stop
+    ensures { IsOrMemory
         (script_line number (placed_text (codes "Syntax") (place_on lines number place))) result }
 {
     match syntax_text(alloc, &Places::of_line(lines, number as u64), place) {
@@ -88,19 +95,19 @@ fn syntax_stop(alloc: Global, lines: bool, number: usize, place: usize) -> Stop<
 }
 
 /// The stop of a SCRIPT that is refused.
-fn script_stop(alloc: Global, lines: bool, fault: ScriptFault) -> Stop<'static>
+fn script_stop(alloc: Global, lines: bool, fault: ScriptFault) -> Stop
     ensures { IsScriptStop lines fault result }
 {
     match fault {
         ScriptFault::Lex(number, fault) => lexer_stop(alloc, lines, number, fault),
         ScriptFault::Syntax(number, place) => syntax_stop(alloc, lines, number, place),
-        ScriptFault::Later(number) => Stop::Later(number),
+        ScriptFault::Later(number) => refused_line(alloc, number, b"Later"),
         ScriptFault::Memory => Stop::Memory,
     }
 }
 
 // Reads the declarations.
-fn read_declarations<'a>(alloc: Global, text: &[u8], lines: bool) -> Result<List<Decl>, Stop<'a>>
+fn read_declarations(alloc: Global, text: &[u8], lines: bool) -> Result<List<Decl>, Stop>
     ensures { GivesDeclarations lines text.now result }
 {
     match read_decls(alloc, text) {
@@ -110,14 +117,15 @@ fn read_declarations<'a>(alloc: Global, text: &[u8], lines: bool) -> Result<List
 }
 
 // Makes the table of a type over the declarations.
-fn read_requested<'a>(
+fn read_requested(
     alloc: Global,
     decls: List<Decl>,
     type_text: &[u8],
     lines: bool,
-) -> Result<Requested, Stop<'a>>
+    decimal: bool,
+) -> Result<Requested, Stop>
     requires { AreWellFormed decls }
-    ensures { GivesRequested decls (asked_type type_text.now lines) result }
+    ensures { GivesRequested decls (asked_with type_text.now lines decimal) result }
 {
     let ty = match read_type(alloc, decls.as_slice(), type_text) {
         Ok(ty) => ty,
@@ -129,21 +137,24 @@ fn read_requested<'a>(
             ty,
             table,
             lines,
+            decimal,
         }),
-        Err(TypeFault::TooManyTypes) => Err(Stop::TooManyTypes),
+        Err(TypeFault::TooManyTypes) => Err(refused_type(alloc, b"TooManyTypes")),
         Err(TypeFault::Memory) => Err(Stop::Memory),
     }
 }
 
 /// Reads the declarations that were gathered, and the type over them.
-pub fn read_gathered<'a>(
+pub fn read_gathered(
     alloc: Global,
     gathered: &Gathered,
     type_text: &str,
     lines: bool,
-) -> Result<Requested, Stop<'a>>
+    decimal: bool,
+) -> Result<Requested, Stop>
     ensures { (file : Seq ℕ)
-        → GivesType file (asked_type type_text.now lines) (opened (taken_of gathered.now)) result }
+        → GivesType file (asked_with type_text.now lines decimal) (opened (taken_of gathered.now))
+        result }
 {
     match gathered.until {
         InputEnd::Fault => return Err(Stop::ReadFault),
@@ -151,58 +162,80 @@ pub fn read_gathered<'a>(
         InputEnd::End => {}
     }
     match read_declarations(alloc, gathered.bytes.as_slice(), lines) {
-        Ok(decls) => read_requested(alloc, decls, type_text.as_bytes(), lines),
+        Ok(decls) => read_requested(alloc, decls, type_text.as_bytes(), lines, decimal),
         Err(stop) => Err(stop),
     }
 }
 
 /// Reads FILE and TYPE.
-pub fn find_type<'a, O: Opener>(
+pub fn find_type<O: Opener>(
     alloc: Global,
     files: &mut O,
-    file: &'a str,
+    file: &str,
     type_text: &str,
     lines: bool,
-) -> Result<Requested, Stop<'a>>
+    decimal: bool,
+) -> Result<Requested, Stop>
     ensures { FindsTypeIn (change (O.state files.old) (O.state files.new)) file.now
-        (asked_type type_text.now lines) result }
+        (asked_with type_text.now lines decimal) result }
 {
     match fetch_file(alloc, files, file) {
-        Ok(Fetch::Opened(gathered)) => read_gathered(alloc, &gathered, type_text, lines),
-        Ok(Fetch::Missing) => Err(Stop::CannotOpen(file)),
-        Ok(Fetch::Failed) => Err(Stop::CannotOpen(file)),
+        Ok(Fetch::Opened(gathered)) => read_gathered(alloc, &gathered, type_text, lines, decimal),
+        Ok(Fetch::Missing) => Err(unopened_file(alloc, file)),
+        Ok(Fetch::Failed) => Err(unopened_file(alloc, file)),
         Err(_) => Err(Stop::Memory),
     }
 }
 
+// Reads the text of a script, in which decimals may stand for doubles.
+fn read_edits(alloc: Global, text: &[u8], decimal: bool) -> Result<Script, ScriptFault>
+    ensures script { IfOk result (λ script. IsAnswerOf decimal text.now (Ok script)) }
+    ensures fault { IfErr result
+        (UnlessMemory (λ fault. IsAnswerOf decimal text.now (Err fault))) }
+{
+    if decimal {
+        read_given_script(alloc, text)
+    } else {
+        read_script(alloc, text)
+    }
+}
+
 // Reads the lines of a script that were gathered.
-fn read_lines<'a>(alloc: Global, gathered: &Gathered, lines: bool) -> Result<Script, Stop<'a>>
-    ensures { (name : Seq ℕ) → GivesScript lines name (opened (taken_of gathered.now)) result }
+fn read_lines(
+    alloc: Global,
+    gathered: &Gathered,
+    lines: bool,
+    decimal: bool,
+) -> Result<Script, Stop>
+    ensures { (name : Seq ℕ)
+        → GivesScript lines decimal name (opened (taken_of gathered.now)) result }
 {
     match gathered.until {
         InputEnd::Fault => return Err(Stop::ReadFault),
         InputEnd::Length => return Err(Stop::TooLong),
         InputEnd::End => {}
     }
-    match read_script(alloc, gathered.bytes.as_slice()) {
+    match read_edits(alloc, gathered.bytes.as_slice(), decimal) {
         Ok(script) => Ok(script),
         Err(fault) => Err(script_stop(alloc, lines, fault)),
     }
 }
 
 /// Reads SCRIPT.
-pub fn find_script<'a, O: Opener>(
+pub fn find_script<O: Opener>(
     alloc: Global,
     files: &mut O,
-    name: &'a str,
+    name: &str,
     lines: bool,
-) -> Result<Script, Stop<'a>>
-    ensures { FindsScriptIn (change (O.state files.old) (O.state files.new)) lines name.now result }
+    decimal: bool,
+) -> Result<Script, Stop>
+    ensures { FindsScriptIn (change (O.state files.old) (O.state files.new)) lines decimal name.now
+        result }
 {
     match fetch_file(alloc, files, name) {
-        Ok(Fetch::Opened(gathered)) => read_lines(alloc, &gathered, lines),
-        Ok(Fetch::Missing) => Err(Stop::CannotOpen(name)),
-        Ok(Fetch::Failed) => Err(Stop::CannotOpen(name)),
+        Ok(Fetch::Opened(gathered)) => read_lines(alloc, &gathered, lines, decimal),
+        Ok(Fetch::Missing) => Err(unopened_file(alloc, name)),
+        Ok(Fetch::Failed) => Err(unopened_file(alloc, name)),
         Err(_) => Err(Stop::Memory),
     }
 }

@@ -3,7 +3,9 @@ use Rattle.std.proofs.Common.{◌≡◌, ◌≢◌, ◌⊎◌, ℕ, List, [], Bo
 use Rattle.std.specs.Prelude.{◌↔◌, ◌&&◌, if◌then◌else◌}
 use Rattle.om_outcome.specs.declared.status.Status.{Status}
 use Rattle.om_outcome.specs.declared.status.Status.TheVariants as statuses
-use Rattle.om_outcome.specs.Outcome.{IsUsage, asked_type, Stop, usage, declarations, requested_type, out_of_memory, status_of, ending_of, Said, Reply, says, stops, Replies, replies, stopped, Language}
+use Rattle.om_outcome.specs.Outcome.{IsUsage, asked_type, status_of, ending_of, Said, Reply, says, stops, Replies, replies, stopped, Language}
+use Rattle.om_outcome.specs.declared.stop.Stop.{Stop}
+use Rattle.om_outcome.specs.declared.stop.Stop.TheVariants.{Usage as usage, Declarations as declarations, RequestedType as requested_type, Memory as out_of_memory}
 use Rattle.om_edge.specs.Sink.{Puts}
 use Rattle.om_generate.specs.Generated.{item_declarations}
 use Rattle.om_promises.specs.Account.{Completes, Breaks, Account}

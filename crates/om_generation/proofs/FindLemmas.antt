@@ -1,7 +1,8 @@
 -- TYPE is read once over the declarations of the items, as over those of a file that holds them.
 use Rattle.std.proofs.Common.{◌≡◌, ℕ, false, List, [], Some, None, Result, Ok, Err, inl, inr, refl, sym, ap, ◌∙◌, subst}
 use Rattle.om_outcome.specs.declared.status.Status.TheVariants.{Types}
-use Rattle.om_outcome.specs.Outcome.{Found, opened, whole, Request, asked_type, Stop, status_of, Language, Then, ReadsTypeOf}
+use Rattle.om_outcome.specs.Outcome.{Found, opened, whole, Request, asked_type, status_of, Language, Then, ReadsTypeOf}
+use Rattle.om_outcome.specs.declared.stop.Stop.{Stop}
 use Rattle.om_generate.specs.Generated.{item_declarations}
 use Rattle.om_promises.specs.Commands.{Fetches}
 use Rattle.om_promises.specs.Lawful.{IsOnce, IsInner}

@@ -1,7 +1,9 @@
 -- The account of a call: a stop before the value is made, and the value.
 use Rattle.std.proofs.Common.{◌≡◌, ◌⊎◌, ℕ, List, [], Ok, Err, inl, inr, refl, ◌∙◌, subst, arith}
 use Rattle.om_outcome.specs.declared.status.Status.{Status}
-use Rattle.om_outcome.specs.Outcome.{unfetched, nothing, Stop, out_of_memory, stops as stops_reply, stopped, ending_of, own, generate, Asks}
+use Rattle.om_outcome.specs.Outcome.{unfetched, nothing, stops as stops_reply, stopped, ending_of, own, generate, Asks}
+use Rattle.om_outcome.specs.declared.stop.Stop.{Stop}
+use Rattle.om_outcome.specs.declared.stop.Stop.TheVariants.{Memory as out_of_memory}
 use Rattle.om_edge.specs.State.{ByteState, FilesState, Change, change}
 use Rattle.om_promises.specs.Call.{call}
 use Rattle.om_promises.specs.Account.{FetchesFor, Account}
@@ -9,8 +11,7 @@ use Rattle.om_promises.specs.Commands.{Fetches, Given, Prepares, RunReplies}
 use Rattle.om_promises.specs.Outside.{PutsLine}
 use Rattle.om_promises.proofs.PutLemmas.{puts_nothing}
 use Rattle.om_promises.proofs.TakeLemmas.{took_nothing}
-use Rattle.om_stops.specs.declared.stop.Stop as codes
-use Rattle.om_stops.specs.Stops.{stop_of, Reports}
+use Rattle.om_stops.specs.Stops.{Reports}
 use Rattle.om_work.specs.Reported.{HasAccount}
 use Rattle.om_declared.specs.declared.types.Requested.{Requested}
 use Rattle.om_declared.specs.Language.{declared_types}
@@ -86,21 +87,21 @@ module _ (words : List (List ℕ)) (files : FilesState) where
       (asks : Asks words (own (generate number count type))) where
     -- TYPE is refused
     pub type_account :
-        (stop : codes.Stop) → GivesItemType type (Err stop)
+        (stop : Stop) → GivesItemType type (Err stop)
         → (input out : ByteState) (err : Change ByteState) (status : Status)
-        → Reports (stop_of stop) err status
+        → Reports stop err status
         → Account (generation declared_types) words
         (call (change input input) (change files files) (change out out) err status)
     type_account stop (inr memory) input out err status r =
-        stop_account input out err status (stop_of stop) (inr memory) r
+        stop_account input out err status stop (inr memory) r
     type_account stop (inl reads) input out err status r =
-        stop_account input out err status (stop_of stop) (inl (
+        stop_account input out err status stop (inl (
           Ok (own (generate number count type)),
           asks,
           (
             record { number = number; count = count; type = type },
             refl,
-            (Err (stop_of stop), reads, refl),
+            (Err stop, reads, refl),
           ),
         )) r
 

@@ -49,11 +49,11 @@ all_ranged = (
       (either_ranged h.0 (own (certify h.2.2.2.2.2.0 h.2.2.2.2.2.2.0 h.2.2.0 reading))
       (tell the_verdict h.2.2.2.2.2.0 h.2.2.2.2.2.2.0 h.2.2.0 reading) tt tt),
   (
-    λ rows request h. subst IsRanged h.2.2.2.2.2.2.2 tt,
+    λ rows request h. subst IsRanged h.2.2.2.2.2.2.2.2 tt,
     (
-      λ rows request h. subst IsRanged h.2.2.2.2.2.2.2.2 tt,
+      λ rows request h. subst IsRanged h.2.2.2.2.2.2.2.2.2 tt,
       (
-        λ rows request h. subst IsRanged h.2.2.2.2.2.2.2 tt,
+        λ rows request h. subst IsRanged h.2.2.2.2.2.2.2.2 tt,
         (
           λ rows request h. subst IsRanged h.2.2.2.2.2 tt,
           (
@@ -61,7 +61,7 @@ all_ranged = (
             (
               λ rows request h. subst IsRanged h.2.2 tt,
               (
-                λ rows request h. subst IsRanged h.2.2.2 tt,
+                λ rows request h. subst IsRanged h.2.2.2.2 tt,
                 (
                   λ rows request h. subst IsRanged h.2.2.2.2.2.2 tt,
                   (

@@ -2,11 +2,11 @@
 use Rattle.std.proofs.Common.{◌≡◌, ℕ, List, [], Bool, true, Result, Ok, Err, inr, refl, sym, subst}
 use Rattle.std.specs.Prelude.{◌&&◌}
 use Rattle.om_outcome.specs.Outcome.{Said}
+use Rattle.om_outcome.specs.declared.stop.Stop.TheVariants.{Memory as out_of_memory}
 use Rattle.om_edge.specs.Sink.{Puts, PutsPart}
 use Rattle.om_edge.specs.State.{ByteState, Change, change}
 use Rattle.om_stops.specs.declared.stop.Halt.{Halt}
 use Rattle.om_stops.specs.declared.stop.Halt.TheVariants as halts
-use Rattle.om_stops.specs.declared.stop.Stop.TheVariants as stops
 use Rattle.om_promises.specs.Account.{HoldNoStop}
 use Rattle.om_promises.proofs.PutLemmas.{puts_nothing}
 use Rattle.om_work.specs.Works.{PutsLast, EndsAt}
@@ -68,6 +68,6 @@ module _ (number count : ℕ) (r : Requested) where
   pub ends_memory :
       (out : ByteState)
       → EndsAt (generation declared_types) act (HasNothing number count r) (change out out)
-      (Err (halts.Stop stops.Memory))
+      (Err (halts.Stop out_of_memory))
   ends_memory out =
-      ends_none (change out out) (Err (halts.Stop stops.Memory)) (inr refl, puts_nothing out)
+      ends_none (change out out) (Err (halts.Stop out_of_memory)) (inr refl, puts_nothing out)

@@ -1,8 +1,8 @@
 -- TYPE over the declarations of the items is read as over a file that holds them.
 use Rattle.std.proofs.Common.{◌≡◌, ℕ, false, List, Some, None, Result, Ok, Err, inl, inr, sym, ◌∙◌, ap, subst}
-use Rattle.om_outcome.specs.Outcome.{opened, whole, Taken, asked_type, Stop, declarations, requested_type, Then, OrRefusal, ReadsTypeOf}
-use Rattle.om_stops.specs.declared.stop.Stop as codes
-use Rattle.om_stops.specs.Stops.{stop_of}
+use Rattle.om_outcome.specs.Outcome.{opened, whole, Taken, asked_type, Then, OrRefusal, ReadsTypeOf}
+use Rattle.om_outcome.specs.declared.stop.Stop.{Stop}
+use Rattle.om_outcome.specs.declared.stop.Stop.TheVariants.{Declarations as declarations, RequestedType as requested_type}
 use Rattle.om_declared.specs.declared.types.Requested.{Requested}
 use Rattle.om_declared.specs.Language.{TypeOver, declared_types}
 use Rattle.om_declared.specs.Types.{type_over, GivesType}
@@ -27,9 +27,9 @@ module _ (file type text : List ℕ) (are : text ≡ item_declarations) where
       subst (λ (t : List ℕ). ReadsOver t result) (sym bytes ∙ are) h
 
   pub item_type_given :
-      (result : Result Requested codes.Stop) → GivesType file (asked_type type false) (opened (whole text)) result
+      (result : Result Requested Stop) → GivesType file (asked_type type false) (opened (whole text)) result
       → GivesItemType type result
   item_type_given (Ok r) (reads, ready) =
       (as_items (Ok (type_over r)) reads, ready)
-  item_type_given (Err stop) (inl reads) = inl (as_items (Err (stop_of stop)) reads)
+  item_type_given (Err stop) (inl reads) = inl (as_items (Err stop) reads)
   item_type_given (Err stop) (inr memory) = inr memory

@@ -1,8 +1,7 @@
 -- What TYPE is read as over the declarations of the items.
 use Rattle.std.specs.Prelude.{ℕ, ◌≡◌, ◌⊎◌, List, Result, Ok, Err}
-use Rattle.om_outcome.specs.Outcome.{out_of_memory}
-use Rattle.om_stops.specs.declared.stop.Stop.{Stop}
-use Rattle.om_stops.specs.Stops.{stop_of}
+use Rattle.om_outcome.specs.declared.stop.Stop.{Stop}
+use Rattle.om_outcome.specs.declared.stop.Stop.TheVariants.{Memory as out_of_memory}
 use Rattle.om_declared.specs.declared.types.Requested.{Requested}
 use Rattle.om_declared.specs.Language.{declared_types}
 use Rattle.om_declared.specs.Types.{type_over, IsReady}
@@ -12,4 +11,4 @@ use Rattle.om_generation.specs.Generation.{ReadsItemType}
 abbrev pub GivesItemType : List ℕ → Result Requested Stop → Type 0
 GivesItemType text (Ok r) = ReadsItemType declared_types text (Ok (type_over r)) × IsReady r
 GivesItemType text (Err stop) =
-    ReadsItemType declared_types text (Err (stop_of stop)) ⊎ (stop_of stop ≡ out_of_memory)
+    ReadsItemType declared_types text (Err stop) ⊎ (stop ≡ out_of_memory)

@@ -5,7 +5,7 @@ ghost use Rattle.om_outcome.specs.Outcome.{Asks, own, generate};
 ghost use Rattle.om_edge.specs.State.{FilesState, change};
 ghost use Rattle.om_promises.specs.Account.{Account};
 ghost use Rattle.om_promises.specs.Call.{call};
-ghost use Rattle.om_stops.specs.Stops.{stop_of, Reports};
+ghost use Rattle.om_stops.specs.Stops.{Reports};
 ghost use Rattle.om_work.specs.Reported.{HasAccount};
 ghost use Rattle.om_declared.specs.Language.{declared_types};
 ghost use Rattle.om_declared.specs.Types.{IsReady};
@@ -17,7 +17,8 @@ use crate::types::find_item_type;
 use om_declared::Requested;
 use om_edge::{Sink, Source};
 use om_outcome::status::Status;
-use om_stops::stop::{Stop, report_stop};
+use om_outcome::stop::Stop;
+use om_stops::stop::report_stop;
 use om_work::run_reported;
 use std::alloc::Global;
 
@@ -28,8 +29,8 @@ const GREATEST_NUMBER: u64 = 2147483647;
 const GREATEST_COUNT: u64 = 1000000;
 
 // Puts the line of a stop on err, and answers the status.
-fn report<E: Sink>(alloc: Global, err: &mut E, stop: Stop<'_>) -> Status
-    ensures { Reports (stop_of stop.entry) (change (E.state err.old) (E.state err.new)) result }
+fn report<E: Sink>(alloc: Global, err: &mut E, stop: Stop) -> Status
+    ensures { Reports stop (change (E.state err.old) (E.state err.new)) result }
 {
     report_stop(alloc, err, &stop)
 }

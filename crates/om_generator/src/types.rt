@@ -7,8 +7,8 @@ ghost use Rattle.om_generator.specs.Types.{GivesItemType};
 use om_declared::{Gathered, InputEnd, Requested, read_gathered};
 use om_generate::declarations;
 use om_model::Memory;
+use om_outcome::stop::Stop;
 use om_stops::put::put;
-use om_stops::stop::Stop;
 use std::alloc::Global;
 
 /// The declarations of the items, in memory.
@@ -21,7 +21,7 @@ fn item_text(alloc: Global) -> Result<Vec<u8>, Memory>
 }
 
 /// Reads TYPE.
-pub fn find_item_type(alloc: Global, type_text: &str) -> Result<Requested, Stop<'static>>
+pub fn find_item_type(alloc: Global, type_text: &str) -> Result<Requested, Stop>
     ensures { GivesItemType type_text.now result }
 {
     let Ok(bytes) = item_text(alloc) else {
@@ -31,5 +31,5 @@ pub fn find_item_type(alloc: Global, type_text: &str) -> Result<Requested, Stop<
         bytes,
         until: InputEnd::End,
     };
-    read_gathered(alloc, &gathered, type_text, false)
+    read_gathered(alloc, &gathered, type_text, false, false)
 }

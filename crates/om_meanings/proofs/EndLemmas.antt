@@ -6,8 +6,10 @@ use Rattle.om_format.proofs.JudgementLaws.{one_judgement_lem}
 use Rattle.om_format.specs.Stream.{SpellAll, End, clean, refused, cut, IsTail}
 use Rattle.om_format.specs.Tree.{Tree}
 use Rattle.om_outcome.specs.declared.status.Status.{Status}
-use Rattle.om_outcome.specs.Outcome.{Stop, not_two_values, value, ending_of, Said, Reply, stops, Replies, replies, Language, Work, tells, edits, dumps, compares, Task, StopsAt}
+use Rattle.om_outcome.specs.Outcome.{ending_of, Said, Reply, stops, Replies, replies, Language, Work, tells, edits, dumps, compares, Task, StopsAt}
 use Rattle.om_outcome.specs.RefusalText.{truncated_text}
+use Rattle.om_outcome.specs.declared.stop.Stop.{Stop}
+use Rattle.om_outcome.specs.declared.stop.Stop.TheVariants.{NotTwoValues as not_two_values, Value as value}
 use Rattle.om_promises.specs.Commands.{GoesOn}
 use Rattle.om_promises.specs.Promises.{HoldEnd}
 use Rattle.om_promises.proofs.StreamLemmas.{value_or_tail, streams_once, spell_bytes}

@@ -5,7 +5,9 @@ use Rattle.std.specs.List.{AllByRecursion}
 use Rattle.om_format.specs.Tree.{Tree}
 use Rattle.om_outcome.specs.declared.status.Status.{Status}
 use Rattle.om_outcome.specs.declared.status.Status.TheVariants.{Well, No, Usage, Script}
-use Rattle.om_outcome.specs.Outcome.{Stop, not_two_values, status_of, ending_of, line, Said, nothing_said, Reply, says, stops, Replies, replies, all_well, Says, Language, Saying, Work, tells, edits, dumps, compares, line_past, ends_script, comparison, AreSame, Finishes}
+use Rattle.om_outcome.specs.Outcome.{status_of, ending_of, line, Said, nothing_said, Reply, says, stops, Replies, replies, all_well, Says, Language, Saying, Work, tells, edits, dumps, compares, line_past, ends_script, comparison, AreSame, Finishes}
+use Rattle.om_outcome.specs.declared.stop.Stop.{Stop}
+use Rattle.om_outcome.specs.declared.stop.Stop.TheVariants.{NotTwoValues as not_two_values}
 use Rattle.om_promises.proofs.ValueLemmas.{and_true, all_well-snoc}
 use Rattle.om_commands.specs.Tasks.{MayCome}
 use Rattle.om_meanings.specs.Values.{HoldsOfSome, AreTwo, HasLine, HasSomeLine, AreEdited, Pass, Finish}

@@ -2,7 +2,9 @@
 use Rattle.std.proofs.Common.{◌≡◌, ◌⊎◌, ℕ, List, Option, Some, Ok, Err, inl, inr, refl, sym, ap, ◌∙◌, subst}
 use Rattle.om_outcome.specs.declared.status.Status.{Status}
 use Rattle.om_outcome.specs.declared.status.Status.TheVariants.{Usage, Types, Script, ReadFault, OpenFault, TooLong}
-use Rattle.om_outcome.specs.Outcome.{InputEnd, at_end, at_fault, at_length, unasked, Found, opened, missing, failed, unfetched, Request, AskedType, asked_type, tell, get, edit, dump, compare, own, Stop, bad_path, declarations, requested_type, script_line, read_fault, too_long, status_of, fault_of, ReadsFile, ReadsTypeOf, ReadsScriptOf, Saying, the_part, TellsAt, FindsWork, Language}
+use Rattle.om_outcome.specs.Outcome.{InputEnd, at_end, at_fault, at_length, unasked, Found, opened, missing, failed, unfetched, Request, AskedType, asked_with, asked_type, tell, get, edit, dump, compare, own, status_of, fault_of, ReadsFile, ReadsTypeOf, ReadsScriptOf, Saying, the_part, TellsAt, FindsWork, Language}
+use Rattle.om_outcome.specs.declared.stop.Stop.{Stop}
+use Rattle.om_outcome.specs.declared.stop.Stop.TheVariants.{BadPath as bad_path, Declarations as declarations, RequestedType as requested_type, Script as script_line, ReadFault as read_fault, TooLong as too_long}
 use Rattle.om_promises.specs.Commands.{Fetches}
 use Rattle.om_commands.specs.Tasks.{by_turns, WantsFile, WantsScript, Wants, Finds, commands}
 use Rattle.om_causes.specs.Causes.{HaveBars}
@@ -86,7 +88,7 @@ module _ {D T E : Type 0} (language : Language D T E) where
 
     script_bar :
         (name : List ℕ) (wants : WantsScript language request files name) (stop : Stop)
-        → ReadsScriptOf language wants.typed.1.lines (files 1) name (Err stop) → BarBy stop
+        → ReadsScriptOf language wants.typed.1.lines wants.typed.1.decimal (files 1) name (Err stop) → BarBy stop
     script_bar name wants stop (Err s, fault, is) =
         let same : s ≡ stop = cc is in
         subst BarBy same (unread 1 name (inr (refl, wants)) s fault)
@@ -112,19 +114,19 @@ module _ {D T E : Type 0} (language : Language D T E) where
   work_bar (get f t text style lined most) files stop (Ok path, is_path, h) =
       tells_bar (get f t text style lined most) files f
       (record { has_path = (path, is_path); type = asked_type t lined; typed = refl }) (the_part path style) stop h
-  work_bar (edit f t script compat lined most) files stop (Err s, reads, is) =
+  work_bar (edit f t script compat lined decimal most) files stop (Err s, reads, is) =
       let same : s ≡ stop = cc is in
-      subst (BarBy (edit f t script compat lined most) files) same
-      (type_bar (edit f t script compat lined most) files f
-      (record { has_path = tt; type = asked_type t lined; typed = refl }) s reads)
-  work_bar (edit f t script compat lined most) files stop (Ok type, reads, (Ok lines, read, told)) =
+      subst (BarBy (edit f t script compat lined decimal most) files) same
+      (type_bar (edit f t script compat lined decimal most) files f
+      (record { has_path = tt; type = asked_with t lined decimal; typed = refl }) s reads)
+  work_bar (edit f t script compat lined decimal most) files stop (Ok type, reads, (Ok lines, read, told)) =
       absurd (cc told)
-  work_bar (edit f t script compat lined most) files stop (Ok type, reads, (Err s, read, is)) =
+  work_bar (edit f t script compat lined decimal most) files stop (Ok type, reads, (Err s, read, is)) =
       let same : s ≡ stop = cc is in
-      let asked : WantsScript language (edit f t script compat lined most) files script =
-      record { scripted = refl; typed = (f, asked_type t lined); is_typed = refl; type = type; reads = reads } in
-      subst (BarBy (edit f t script compat lined most) files) same
-      (script_bar (edit f t script compat lined most) files script asked s read)
+      let asked : WantsScript language (edit f t script compat lined decimal most) files script =
+      record { scripted = refl; typed = (f, asked_with t lined decimal); is_typed = refl; type = type; reads = reads } in
+      subst (BarBy (edit f t script compat lined decimal most) files) same
+      (script_bar (edit f t script compat lined decimal most) files script asked s read)
   work_bar (dump most) files stop h = absurd (cc h)
   work_bar (compare most) files stop h = absurd (cc h)
   work_bar (own request) files stop h = absurd h
@@ -161,8 +163,8 @@ module _ {D T E : Type 0} (language : Language D T E) where
     wants.has_path.1,
     (Err stop, same_typed f (asked_type t lined) name wants.type (files 0) stop wants.typed reads, refl),
   )
-  type_work (edit f t script compat lined most) files name wants stop reads =
-      (Err stop, same_typed f (asked_type t lined) name wants.type (files 0) stop wants.typed reads, refl)
+  type_work (edit f t script compat lined decimal most) files name wants stop reads =
+      (Err stop, same_typed f (asked_with t lined decimal) name wants.type (files 0) stop wants.typed reads, refl)
   type_work (dump most) files name wants stop reads = let e = wants.typed in absurd (cc e)
   type_work (compare most) files name wants stop reads = let e = wants.typed in absurd (cc e)
   type_work (own request) files name wants stop reads = let e = wants.typed in absurd (cc e)
@@ -170,25 +172,25 @@ module _ {D T E : Type 0} (language : Language D T E) where
   script_work :
       (request : Request) (files : Fetches) (name : List ℕ)
       (wants : WantsScript language request files name) (stop : Stop)
-      → ReadsScriptOf language wants.typed.1.lines (files 1) name (Err stop)
+      → ReadsScriptOf language wants.typed.1.lines wants.typed.1.decimal (files 1) name (Err stop)
       → FindsWork language (by_turns files) request (Err stop)
   script_work (tell saying f t lined most) files name wants stop read =
       let e = wants.scripted in absurd (cc e)
   script_work (get f t text style lined most) files name wants stop read =
       let e = wants.scripted in absurd (cc e)
-  script_work (edit f t script compat lined most) files name wants stop read =
+  script_work (edit f t script compat lined decimal most) files name wants stop read =
       let e : ◌≡◌ {A = Option (List ℕ)} (Some script) (Some name) = wants.scripted in
       let same : script ≡ name = cc e in
-      let k : ◌≡◌ {A = Option (List ℕ × AskedType)} (Some (f, asked_type t lined)) (Some wants.typed) =
+      let k : ◌≡◌ {A = Option (List ℕ × AskedType)} (Some (f, asked_with t lined decimal)) (Some wants.typed) =
       wants.is_typed in
-      let both : ◌≡◌ {A = List ℕ × AskedType} (f, asked_type t lined) wants.typed = cc k in
-      let lines : lined ≡ wants.typed.1.lines = ap (λ (p : List ℕ × AskedType). p.1.lines) both in (
+      let both : ◌≡◌ {A = List ℕ × AskedType} (f, asked_with t lined decimal) wants.typed = cc k in (
         Ok wants.type,
         subst (λ p. ReadsTypeOf language (files 0) p (Ok wants.type)) (sym both) wants.reads,
         (
           Err stop,
-          subst (λ n. ReadsScriptOf language lined (files 1) n (Err stop)) (sym same)
-              (subst (λ l. ReadsScriptOf language l (files 1) name (Err stop)) (sym lines) read),
+          subst (λ n. ReadsScriptOf language lined decimal (files 1) n (Err stop)) (sym same)
+              (subst (λ (p : List ℕ × AskedType). ReadsScriptOf language p.1.lines p.1.decimal (files 1) name (Err stop))
+              (sym both) read),
           refl,
         ),
       )
@@ -201,7 +203,7 @@ module _ {D T E : Type 0} (language : Language D T E) where
       → FindsWork language (by_turns files) request (Err bad_path)
   path_work (tell saying f t lined most) files none = absurd none
   path_work (get f t text style lined most) files none = (Err bad_path, (none, refl), refl)
-  path_work (edit f t script compat lined most) files none = absurd none
+  path_work (edit f t script compat lined decimal most) files none = absurd none
   path_work (dump most) files none = absurd none
   path_work (compare most) files none = absurd none
   path_work (own request) files none = absurd none

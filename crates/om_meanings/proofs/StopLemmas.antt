@@ -4,8 +4,10 @@ use Rattle.om_format.specs.Stream.{SpellAll}
 use Rattle.om_format.specs.Tree.{Tree}
 use Rattle.om_outcome.specs.declared.status.Status.{Status}
 use Rattle.om_outcome.specs.declared.status.Status.TheVariants.{No, Usage, Script, Compat}
-use Rattle.om_outcome.specs.Outcome.{Stop, not_two_values, value, status_of, Said, Language, Unedited, untyped, refused_line, too_large, unedited_stop, Work, tells, edits, dumps, compares, Task, task, StopsAt}
+use Rattle.om_outcome.specs.Outcome.{status_of, Said, Language, Unedited, untyped, refused_line, too_large, unedited_stop, Work, tells, edits, dumps, compares, Task, task, StopsAt}
 use Rattle.om_outcome.specs.RefusalText.{refusal_text}
+use Rattle.om_outcome.specs.declared.stop.Stop.{Stop}
+use Rattle.om_outcome.specs.declared.stop.Stop.TheVariants.{NotTwoValues as not_two_values, Value as value}
 use Rattle.om_promises.specs.Commands.{HoldStop}
 use Rattle.om_promises.proofs.StreamLemmas.{spell_append}
 use Rattle.om_commands.specs.Tasks.{items_of, IsRefused, commands}

@@ -3,7 +3,8 @@
 use Rattle.std.specs.Prelude.{ℕ, ◌≡◌, ◌⊎◌, List, None, IsSomeAnd, Ok, Err}
 use Rattle.om_outcome.specs.declared.status.Status.{Status}
 use Rattle.om_outcome.specs.declared.status.Status.TheVariants.{Usage, Types, Script, ReadFault, OpenFault, TooLong}
-use Rattle.om_outcome.specs.Outcome.{whole, opened, Request, AskedType, path_of, Stop, status_of, ReadsFile, Language}
+use Rattle.om_outcome.specs.Outcome.{whole, opened, Request, AskedType, path_of, status_of, ReadsFile, Language}
+use Rattle.om_outcome.specs.declared.stop.Stop.{Stop}
 use Rattle.om_promises.specs.Commands.{Fetches}
 use Rattle.om_commands.specs.Tasks.{WantsFile, WantsScript, Wants}
 
@@ -34,7 +35,8 @@ module _ {D T E : Type 0} (language : Language D T E) where
     pub text : List ℕ
     pub read : files 1 name ≡ opened (whole text)
     pub refusal : ℕ × List ℕ
-    pub refused : language.ReadsScript wants.typed.1.lines text (Err refusal)
+    pub refused :
+        language.ReadsScript wants.typed.1.lines wants.typed.1.decimal text (Err refusal)
 
   -- FILE, or SCRIPT in its turn, is not read to its end, and the stop has this status
   pub record IsUnread (request : Request) (files : Fetches) (status : Status) : Type 0 where

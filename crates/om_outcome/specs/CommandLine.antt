@@ -13,9 +13,9 @@ use Rattle.om_outcome.specs.declared.style.Style.{Style}
 
 -- ---- what is asked for
 
--- a text on one line
+-- a text on one line, with its doubles by their bits
 abbrev pub plain : Style
-plain = record { pretty = false }
+plain = record { pretty = false; decimal = false }
 
 -- all of the input is read, and each value is told of
 abbrev pub all_under : (limit : ℕ) → Reading
@@ -31,35 +31,43 @@ pub data Saying : Type 0 where
 
 -- what is asked of a command that is a set of commands of its own, beside those on values
 pub data OwnRequest : Type 0 where
-  build : (file type : List ℕ) → (lines : Bool) → OwnRequest
+  build : (file type : List ℕ) → (lines decimal : Bool) → OwnRequest
   generate : (number count : ℕ) → (type : List ℕ) → OwnRequest
   verify : (file type certificate : List ℕ) → (lines : Bool) → Reading → OwnRequest
   certify : (file type : List ℕ) → (lines : Bool) → Reading → OwnRequest
   scan : (limit : ℕ) → OwnRequest
 
 -- what is asked for: where texts are read, with whether a place in one is told by its line and
--- column; where values are read, with how they are
+-- column; where texts of values are, with whether decimals in them stand for doubles; where values
+-- are read, with how they are
 pub data Request : Type 0 where
   tell : Saying → (file type : List ℕ) → (lines : Bool) → Reading → Request
   get : (file type path : List ℕ) → Style → (lines : Bool) → Reading → Request
-  edit : (file type script : List ℕ) → (compat lines : Bool) → Reading → Request
+  edit : (file type script : List ℕ) → (compat lines decimal : Bool) → Reading → Request
   dump : Reading → Request
   compare : Reading → Request
   own : OwnRequest → Request
 
--- TYPE, and whether a place in FILE, TYPE or SCRIPT that is refused is told by line and column
+-- TYPE, whether a place in FILE, TYPE or SCRIPT that is refused is told by line and column, and
+-- whether decimals stand for doubles in the texts of values that are read
 pub record AskedType : Type 0 where
   pub text : List ℕ
   pub lines : Bool
+  pub decimal : Bool
 
+abbrev pub asked_with : List ℕ → (lines decimal : Bool) → AskedType
+asked_with text lines decimal = record { text = text; lines = lines; decimal = decimal }
+
+-- the same where no texts of values are read
 abbrev pub asked_type : List ℕ → Bool → AskedType
-asked_type text lines = record { text = text; lines = lines }
+asked_type text lines = asked_with text lines false
 
 -- FILE and TYPE, where the command reads values at them
 abbrev pub typed_by : Request → Option (List ℕ × AskedType)
 typed_by (tell saying file type lines reading) = Some (file, asked_type type lines)
 typed_by (get file type path style lines reading) = Some (file, asked_type type lines)
-typed_by (edit file type script compat lines reading) = Some (file, asked_type type lines)
+typed_by (edit file type script compat lines decimal reading) =
+    Some (file, asked_with type lines decimal)
 typed_by (dump reading) = None
 typed_by (compare reading) = None
 typed_by (own request) = None
@@ -71,14 +79,14 @@ path_of request = None
 
 -- SCRIPT, where the command has one
 abbrev pub script_of : Request → Option (List ℕ)
-script_of (edit file type script compat lines reading) = Some script
+script_of (edit file type script compat lines decimal reading) = Some script
 script_of request = None
 
 -- how values are read, where they are
 abbrev pub reading_of : Request → Reading
 reading_of (tell saying file type lines reading) = reading
 reading_of (get file type path style lines reading) = reading
-reading_of (edit file type script compat lines reading) = reading
+reading_of (edit file type script compat lines decimal reading) = reading
 reading_of (dump reading) = reading
 reading_of (compare reading) = reading
 reading_of (own (verify file type certificate lines reading)) = reading
@@ -139,7 +147,8 @@ greatest_skip = 2 ^ 48
 abbrev pub greatest_only : ℕ
 greatest_only = 2 ^ 63 - 1
 
--- `--limit N`, `--skip N`, `--only K`, `--compat32`, `--cert`, `--pretty` and `--lines`
+-- `--limit N`, `--skip N`, `--only K`, `--compat32`, `--cert`, `--pretty`, `--decimal` and
+-- `--lines`
 abbrev pub limit_option : Argument
 limit_option = option (codes "limit") greatest_limit usual_limit
 
@@ -158,12 +167,15 @@ cert_flag = flag (codes "cert")
 abbrev pub pretty_flag : Argument
 pretty_flag = flag (codes "pretty")
 
+abbrev pub decimal_flag : Argument
+decimal_flag = flag (codes "decimal")
+
 abbrev pub lines_flag : Argument
 lines_flag = flag (codes "lines")
 
--- how texts are put, where that flag is used or not
-abbrev pub styled_by : Bool → Style
-styled_by pretty = record { pretty = pretty }
+-- how texts are put, where these flags are used or not
+abbrev pub styled_by : (pretty decimal : Bool) → Style
+styled_by pretty decimal = record { pretty = pretty; decimal = decimal }
 
 -- how values are read, where these are used or not
 abbrev pub read_by : (limit skip : ℕ) → (only : Option ℕ) → Reading
@@ -195,21 +207,22 @@ forms =
     (λ cert only lines n skip file type.
     if cert then own (certify file type lines (read_by n skip only))
     else tell the_verdict file type lines (read_by n skip only))
-    ∷ row (codes "show") (pretty_flag ∷ only_option ∷ typed [])
-    (λ pretty only lines n skip file type.
-    tell (the_text (styled_by pretty)) file type lines (read_by n skip only))
-    ∷ row (codes "get") (pretty_flag ∷ only_option ∷ typed (wanted (codes "PATH") ∷ []))
-    (λ pretty only lines n skip file type path.
-    get file type path (styled_by pretty) lines (read_by n skip only))
-    ∷ row (codes "edit") (typed (wanted (codes "SCRIPT") ∷ compat_flag ∷ []))
-    (λ lines n skip file type script compat.
-    edit file type script compat lines (read_by n skip None))
+    ∷ row (codes "show") (pretty_flag ∷ decimal_flag ∷ only_option ∷ typed [])
+    (λ pretty decimal only lines n skip file type.
+    tell (the_text (styled_by pretty decimal)) file type lines (read_by n skip only))
+    ∷ row (codes "get")
+    (pretty_flag ∷ decimal_flag ∷ only_option ∷ typed (wanted (codes "PATH") ∷ []))
+    (λ pretty decimal only lines n skip file type path.
+    get file type path (styled_by pretty decimal) lines (read_by n skip only))
+    ∷ row (codes "edit") (decimal_flag ∷ typed (wanted (codes "SCRIPT") ∷ compat_flag ∷ []))
+    (λ decimal lines n skip file type script compat.
+    edit file type script compat lines decimal (read_by n skip None))
     ∷ row (codes "trees") (typed [])
     (λ lines n skip file type. tell the_trees file type lines (read_by n skip None))
     ∷ row (codes "dump") (only_option ∷ valued []) (λ only n skip. dump (read_by n skip only))
     ∷ row (codes "same") (valued []) (λ n skip. compare (read_by n skip None))
-    ∷ row (codes "build") (lines_flag ∷ file_and_type [])
-    (λ lines file type. own (build file type lines))
+    ∷ row (codes "build") (decimal_flag ∷ lines_flag ∷ file_and_type [])
+    (λ decimal lines file type. own (build file type lines decimal))
     ∷ row (codes "verify") (typed (wanted (codes "CERT") ∷ []))
     (λ lines n skip file type certificate.
     own (verify file type certificate lines (read_by n skip None)))

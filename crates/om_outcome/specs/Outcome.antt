@@ -4,7 +4,9 @@
 use Rattle.std.specs.Prelude.{ℕ, ◌<◌, ◌≡◌, ◌≢◌, ◌↔◌, ◌⊎◌, Bool, true, false, IsTrue, ◌&&◌, not, nat_lt, if◌then◌else◌, List, [], ◌∷◌, ◌++◌, length, find, Option, Some, None, Result, Ok, Err, MatchResult, codes, decimal}
 use Rattle.om_outcome.specs.declared.status.Status.{Status}
 use Rattle.om_outcome.specs.declared.status.Status.TheVariants as statuses
-pub use Rattle.om_outcome.specs.CommandLine.{Saying, plain, all_under, the_verdict, the_text, the_part, the_trees, Request, tell, get, edit, dump, compare, own, OwnRequest, build, generate, verify, Asks, IsUsage, AskedType, asked_type, typed_by, path_of, script_of, reading_of, limit_of}
+use Rattle.om_outcome.specs.declared.stop.Stop.{Stop}
+use Rattle.om_outcome.specs.declared.stop.Stop.TheVariants.{Usage as usage, BadPath as bad_path, NotTwoValues as not_two_values, CannotOpen as cannot_open, Declarations as declarations, RequestedType as requested_type, Value as value, Script as script_line, Text as text_line, Untyped as untyped_value, LargeValue as large_value, Certificate as certificate_line, Uncertified as uncertified_value, SectionsLeft as sections_left, Short as short_input, Finished as finished, ReadFault as read_fault, TooLong as too_long, Memory as out_of_memory}
+pub use Rattle.om_outcome.specs.CommandLine.{Saying, plain, all_under, the_verdict, the_text, the_part, the_trees, Request, tell, get, edit, dump, compare, own, OwnRequest, build, generate, verify, Asks, IsUsage, AskedType, asked_with, asked_type, typed_by, path_of, script_of, reading_of, limit_of}
 use Rattle.om_outcome.specs.RefusalText.{refusal_text, truncated_text}
 use Rattle.om_format.specs.Iso.{Iso}
 use Rattle.om_format.specs.Tree.{Tree, root, objects_of}
@@ -52,28 +54,7 @@ pub record Given : Type 0 where
   pub files : Fetches
   pub input : Taken
 
--- ---- why a run stops
-
--- `short_input`: there are so many bytes, fewer than are to be passed over
-pub data Stop : Type 0 where
-  usage : Stop
-  bad_path : Stop
-  not_two_values : Stop
-  cannot_open : List ℕ → Stop
-  declarations : List ℕ → Stop
-  requested_type : List ℕ → Stop
-  value : ℕ → List ℕ → Stop
-  script_line : ℕ → List ℕ → Stop
-  text_line : ℕ → List ℕ → Stop
-  untyped_value : ℕ → List ℕ → Stop
-  large_value : ℕ → List ℕ → Stop
-  certificate_line : ℕ → Stop
-  uncertified_value : ℕ → List ℕ → Stop
-  sections_left : Stop
-  short_input : ℕ → Stop
-  read_fault : Stop
-  too_long : Stop
-  out_of_memory : Stop
+-- ---- why a run stops: the stops of the code
 
 abbrev pub status_of : Stop → Status
 status_of usage = statuses.Usage
@@ -91,6 +72,7 @@ status_of (certificate_line number) = statuses.Certificate
 status_of (uncertified_value number reason) = statuses.Certificate
 status_of sections_left = statuses.Certificate
 status_of (short_input taken) = statuses.Value
+status_of (finished well) = if well then statuses.Well else statuses.No
 status_of read_fault = statuses.ReadFault
 status_of too_long = statuses.TooLong
 status_of out_of_memory = statuses.Memory
@@ -117,6 +99,7 @@ stop_text (certificate_line number) =
 stop_text (uncertified_value number reason) = value_text number reason
 stop_text sections_left = codes "sections left"
 stop_text (short_input taken) = codes "skip: " ++ truncated_text taken
+stop_text (finished well) = []
 stop_text read_fault = codes "read fault"
 stop_text too_long = codes "input too long"
 stop_text out_of_memory = codes "out of memory"
@@ -130,6 +113,11 @@ line text = text ++ 10 ∷ []
 -- the line on err
 abbrev pub err_line : List ℕ → List ℕ
 err_line text = codes "omarshal: " ++ line text
+
+-- that of a stop; a run that is finished has none
+abbrev pub stop_line : Stop → List ℕ
+stop_line (finished well) = []
+stop_line stop = err_line (stop_text stop)
 
 -- what is put on out and on err, and the status
 pub record Ending : Type 0 where
@@ -181,8 +169,8 @@ abbrev pub all_well : List Said → Bool
 all_well [] = true
 all_well (said ∷ rest) = said.well && all_well rest
 
--- The texts are on out. A stop has its line and its status; without one the run ends well, or with
--- a no.
+-- The texts are on out. A stop has its line and its status; without one, and where all was said
+-- that was asked for, the run ends well, or with a no.
 abbrev pub ending_of : Replies → Ending
 ending_of all = ends all.last where
   ends : Reply → Ending
@@ -196,7 +184,7 @@ ending_of all = ends all.last where
       }
   ends (stops stop) =
       record
-      { out = texts_of (all_said all); err = err_line (stop_text stop); status = status_of stop }
+      { out = texts_of (all_said all); err = stop_line stop; status = status_of stop }
 
 -- ---- stages
 
@@ -252,11 +240,12 @@ pub data Unedited : Type 0 where
 -- what a script makes of a value at a type that comes after these, its bytes, where a reader on 32
 -- bits can hold it if that is asked for, or why there are none; and the lines of a value as it is.
 -- A refusal tells its place in a text by line and column, where that is asked for; a type keeps
--- whether it is, for what is refused at it.
+-- whether it is, for what is refused at it. Decimals stand for doubles in a SCRIPT where that is
+-- asked for.
 pub record Language (D T E : Type 0) : Type 1 where
   pub ReadsDeclarations : (lines : Bool) → List ℕ → Result D (List ℕ) → Type 0
   pub ReadsType : D → AskedType → Result T (List ℕ) → Type 0
-  pub ReadsScript : (lines : Bool) → List ℕ → Result (List E) (ℕ × List ℕ) → Type 0
+  pub ReadsScript : (lines decimal : Bool) → List ℕ → Result (List E) (ℕ × List ℕ) → Type 0
   pub ReadsPath : List ℕ → Option (List ℕ) → Type 0
   pub line_number : E → ℕ
   pub line_value : E → ℕ
@@ -279,11 +268,12 @@ ReadsPathOf language text (Ok path) = language.ReadsPath text (Some path)
 ReadsPathOf language text (Err stop) = language.ReadsPath text None × (stop ≡ bad_path)
 
 -- SCRIPT is opened and read, then its lines
-abbrev pub ReadsScriptOf : {D T E : Type 0} → Language D T E → (lines : Bool) → (List ℕ → Found)
-    → List ℕ → Result (List E) Stop → Type 0
-ReadsScriptOf language lines script name =
+abbrev pub ReadsScriptOf : {D T E : Type 0} → Language D T E → (lines decimal : Bool)
+    → (List ℕ → Found) → List ℕ → Result (List E) Stop → Type 0
+ReadsScriptOf language lines decimal script name =
     Then (ReadsFile name (script name)) (λ text.
-    OrRefusal (language.ReadsScript lines text) (λ refusal. script_line refusal.0 refusal.1))
+    OrRefusal (language.ReadsScript lines decimal text)
+    (λ refusal. script_line refusal.0 refusal.1))
 
 -- what is done with each value, where the words, the files and the type are read
 pub data Work (T E : Type 0) : Type 0 where
@@ -303,7 +293,7 @@ abbrev pub EditsBy : {D T E : Type 0} → Language D T E → Fetches → List �
     → Bool → Result (Work T E) Stop → Type 0
 EditsBy language files typed script_name compat result =
     Then (ReadsTypeOf language files.file typed) (λ type.
-    Then (ReadsScriptOf language typed.1.lines files.script script_name)
+    Then (ReadsScriptOf language typed.1.lines typed.1.decimal files.script script_name)
     (λ script found. found ≡ Ok (edits type script compat))) result
 
 -- PATH comes before FILE, and SCRIPT after TYPE; `dump` and `same` have none of these. A command
@@ -316,8 +306,8 @@ FindsWork language files (get name type_text path_text style lines reading) resu
     Then (ReadsPathOf language path_text)
     (λ path. TellsAt language files.file (name, asked_type type_text lines) (the_part path style))
     result
-FindsWork language files (edit name type_text script_name compat lines reading) result =
-    EditsBy language files (name, asked_type type_text lines) script_name compat result
+FindsWork language files (edit name type_text script_name compat lines decimal reading) result =
+    EditsBy language files (name, asked_with type_text lines decimal) script_name compat result
 FindsWork language files (dump reading) result = result ≡ Ok dumps
 FindsWork language files (compare reading) result = result ≡ Ok compares
 FindsWork language files (own request) result = ⊥

@@ -4,4 +4,5 @@
 
 pub mod reading;
 pub mod status;
+pub mod stop;
 pub mod style;

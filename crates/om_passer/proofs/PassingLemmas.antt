@@ -1,13 +1,12 @@
 -- What a command has that passes over the first bytes of its input.
 use Rattle.std.proofs.Common.{◌≡◌, ◌+◌, ◌-◌, ◌<◌, ◌≤◌, ℕ, zero, suc, Bool, true, false, List, [], ◌∷◌, ◌++◌, Result, Ok, Err, inl, inr, refl, sym, ap, ◌∙◌, subst, length, take, drop, get_or, length-append, append_assoc, append-nil, arith}
 use Rattle.std.specs.Prelude.{IsErrAnd}
-use Rattle.om_outcome.specs.Outcome.{Request, short_input, Said, says, stops, texts_of, all_well}
+use Rattle.om_outcome.specs.Outcome.{Request, Said, says, stops, texts_of, all_well}
+use Rattle.om_outcome.specs.declared.stop.Stop.TheVariants.{Short as short_input, Finished as finished}
 use Rattle.om_edge.specs.Sink.{Puts, PutsPart}
 use Rattle.om_edge.specs.State.{ByteState, Change, change}
 use Rattle.om_stops.specs.declared.stop.Halt.{Halt}
 use Rattle.om_stops.specs.declared.stop.Halt.TheVariants as halts
-use Rattle.om_stops.specs.declared.stop.Stop.TheVariants as codes
-use Rattle.om_stops.specs.Stops.{stop_of}
 use Rattle.om_promises.specs.Account.{HoldNoStop}
 use Rattle.om_promises.specs.Commands.{Item, text as text_item, Commands, SaysFirst}
 use Rattle.om_promises.proofs.PutLemmas.{puts_nothing}
@@ -15,7 +14,7 @@ use Rattle.om_passing.specs.Skipping.{Passed, passed_said, bytes_said, skipping}
 use Rattle.om_passing.proofs.PassedLemmas.{drop_first, byte_items, bytes_well, bytes_said_more, byte_count, join_cut, join_say, within_cut, within_say, within_more, goes_on_after, goes_on_within}
 use Rattle.om_passing.proofs.SkippingLemmas.{byte_stays}
 use Rattle.om_passing.proofs.TableLemmas.{all_well_append}
-use Rattle.om_work.specs.Works.{Has, ItemsStay, HaltsIn, Feeds, PutsLast, EndsAt}
+use Rattle.om_work.specs.Works.{Has, ItemsStay, HaltsIn, FinishesIn, Halts, Feeds, PutsLast, EndsAt}
 use Rattle.om_passer.specs.Passing.{HasPassed}
 
 -- bytes begin with their first
@@ -66,7 +65,7 @@ module _ {A : Type 0} (passed_by : Request → Passed) (c : Commands A) (p : Pas
     hold_after passed rest told size holds,
     inl (
       few_after passed holds.items size,
-      subst (λ i. c.Stops a i (holds.rest ++ in_hand) (stop_of stop)) (sym (items_after passed holds.items size)) at,
+      subst (λ i. c.Stops a i (holds.rest ++ in_hand) stop) (sym (items_after passed holds.items size)) at,
     ),
     put,
   )
@@ -87,6 +86,34 @@ module _ {A : Type 0} (passed_by : Request → Passed) (c : Commands A) (p : Pas
     part,
   )
 
+  finishes_after : (in_hand : List ℕ) (out : Change ByteState) (passed rest : List ℕ) (told : List Said) → length passed ≡ p.bytes
+      → (halt : Halt) → FinishesIn c a rest in_hand told out halt
+      → FinishesIn after (p, a) (passed ++ rest) in_hand (bytes_said p.copied passed ++ told) out halt
+  finishes_after in_hand out passed rest told size halt f = record {
+    holds = hold_after passed rest told size f.holds;
+    next = f.next;
+    items = byte_items passed ++ f.items;
+    rest = f.rest;
+    first = subst (λ b. SaysFirst after (p, a) b (byte_items passed ++ f.items) ((bytes_said p.copied passed ++ told) ++ f.next ∷ []) f.rest)
+        (sym (append_assoc passed rest in_hand))
+        (subst (λ s. SaysFirst after (p, a) (passed ++ (rest ++ in_hand)) (byte_items passed ++ f.items) s f.rest)
+        (sym (append_assoc (bytes_said p.copied passed) told (f.next ∷ [])))
+        (first_after passed (rest ++ in_hand) f.items (told ++ f.next ∷ []) f.rest size f.first));
+    well = f.well;
+    at = (
+      few_after passed f.items size,
+      subst (λ i. c.Stops a i f.rest (finished f.well)) (sym (items_after passed f.items size)) f.at,
+    );
+    is = f.is;
+    put = f.put;
+  }
+
+  halts_so_after : (in_hand : List ℕ) (out : Change ByteState) (passed rest : List ℕ) (told : List Said) → length passed ≡ p.bytes
+      → (halt : Halt) → Halts c a rest in_hand told out halt
+      → Halts after (p, a) (passed ++ rest) in_hand (bytes_said p.copied passed ++ told) out halt
+  halts_so_after in_hand out passed rest told size halt (inl h) = inl (halts_after in_hand out passed rest told size halt h)
+  halts_so_after in_hand out passed rest told size halt (inr f) = inr (finishes_after in_hand out passed rest told size halt f)
+
   last_after : (out : Change ByteState) (passed : List ℕ) (items : List Item) (told : List Said) (rest : List ℕ)
       → length passed ≡ p.bytes → (result : Result Bool Halt) → PutsLast c a told items rest out result
       → PutsLast after (p, a) (bytes_said p.copied passed ++ told) (byte_items passed ++ items) rest out result
@@ -98,7 +125,7 @@ module _ {A : Type 0} (passed_by : Request → Passed) (c : Commands A) (p : Pas
     put,
   )
   last_after out passed items told rest size (Err (halts.Stop stop)) (inl ends, put) = (
-    inl (inr (few_after passed items size, subst (λ i. c.Ends a i rest (stops (stop_of stop))) (sym (items_after passed items size)) ends)),
+    inl (inr (few_after passed items size, subst (λ i. c.Ends a i rest (stops stop)) (sym (items_after passed items size)) ends)),
     put,
   )
   last_after out passed items told rest size (Err (halts.Stop stop)) (inr memory, put) = (inr memory, put)
@@ -178,9 +205,9 @@ module _ {A : Type 0} (passed_by : Request → Passed) (c : Commands A) (p : Pas
             put,
           )
     fed new in_hand out (Err halt) f = λ bytes said h.
-        subst (λ b. HaltsIn after (p, a) b in_hand said out halt) (sym h.bytes_are)
-        (subst (λ s. HaltsIn after (p, a) (h.passed ++ h.rest) in_hand s out halt) (sym h.said_are)
-        (halts_after in_hand out h.passed h.rest h.told (size_of bytes said h) halt (f h.rest h.told h.there)))
+        subst (λ b. Halts after (p, a) b in_hand said out halt) (sym h.bytes_are)
+        (subst (λ s. Halts after (p, a) (h.passed ++ h.rest) in_hand s out halt) (sym h.said_are)
+        (halts_so_after in_hand out h.passed h.rest h.told (size_of bytes said h) halt (f h.rest h.told h.there)))
 
     -- the same where none is left to be passed over
     pub fed_at : (left : ℕ) → left ≡ 0 → (new : Has) (in_hand : List ℕ) (out : Change ByteState) (result : Result ℕ Halt)
@@ -277,7 +304,7 @@ module _ {A : Type 0} (passed_by : Request → Passed) (c : Commands A) (p : Pas
         subst (λ k. EndsAt after (p, a) (There k) out result) (sym none) (ended out result ends)
 
     pub ended_short : (left : ℕ) (out : ByteState) → 0 < left
-        → EndsAt after (p, a) (There left) (change out out) (Err (halts.Stop (codes.Short (p.bytes - left))))
+        → EndsAt after (p, a) (There left) (change out out) (Err (halts.Stop (short_input (p.bytes - left))))
     ended_short left out some bytes said h =
         let only = only_bytes left bytes said some h in
         let less = within left bytes said some h in
@@ -286,9 +313,9 @@ module _ {A : Type 0} (passed_by : Request → Passed) (c : Commands A) (p : Pas
         let taken : p.bytes - left ≡ length (byte_items h.passed) = omega (arith, counted, count) in
         let few : length (byte_items h.passed) < p.bytes = omega (arith, count, less) in
         subst (λ b. (holds : HoldNoStop after (p, a) b said)
-        × PutsLast after (p, a) said holds.items holds.rest (change out out) (Err (halts.Stop (codes.Short (p.bytes - left))))) (sym only.0)
+        × PutsLast after (p, a) said holds.items holds.rest (change out out) (Err (halts.Stop (short_input (p.bytes - left))))) (sym only.0)
         (subst (λ s. (holds : HoldNoStop after (p, a) h.passed s)
-        × PutsLast after (p, a) s holds.items holds.rest (change out out) (Err (halts.Stop (codes.Short (p.bytes - left))))) (sym only.1) (
+        × PutsLast after (p, a) s holds.items holds.rest (change out out) (Err (halts.Stop (short_input (p.bytes - left))))) (sym only.1) (
           hold_within h.passed less,
           (inl (inl (few, ap (λ k. stops (short_input k)) taken)), puts_nothing out),
         ))
@@ -317,7 +344,7 @@ pub feeds_fault : {A : Type 0} (c : Commands A) (a : A) (before new : Has) (in_h
     → Feeds c a before new in_hand out result
 feeds_fault c a before new in_hand out (Ok n) err halt = absurd err
 feeds_fault c a before new in_hand out (Err h) err halt =
-    λ bytes said there. subst (λ h. HaltsIn c a bytes in_hand said out h) (sym err) (halt bytes said there)
+    λ bytes said there. inl (subst (λ h. HaltsIn c a bytes in_hand said out h) (sym err) (halt bytes said there))
 
 -- what is put of a byte
 pub puts_byte : (copied : Bool) (b : ℕ) (out : Change ByteState) → copied ≡ true → Puts out (b ∷ [])

@@ -5,8 +5,9 @@ ghost use Rattle.om_outcome.specs.Outcome.{Said};
 ghost use Rattle.om_passer.specs.Passing.{passed_of, HasPassed};
 
 use om_edge::{Sink, put_all};
+use om_outcome::stop::Stop;
 use om_passing::laws::PassesOver;
-use om_stops::stop::{Halt, Stop};
+use om_stops::stop::Halt;
 use om_work::Work;
 use std::alloc::Global;
 use std::marker::PhantomData;

@@ -1,7 +1,8 @@
 -- Where nothing is passed over, the commands do what they did.
 use Rattle.std.proofs.Common.{◌≡◌, ◌⊎◌, ◌≤◌, ℕ, List, Ok, inl, inr, refl, sym, ◌∙◌, ap, subst, length, drop, arith}
 use Rattle.std.specs.Prelude.{◌↔◌}
-use Rattle.om_outcome.specs.Outcome.{Request, Asks, Stop, Said, Reply}
+use Rattle.om_outcome.specs.Outcome.{Request, Asks, Said, Reply}
+use Rattle.om_outcome.specs.declared.stop.Stop.{Stop}
 use Rattle.om_promises.specs.Account.{Account}
 use Rattle.om_promises.specs.Call.{Call}
 use Rattle.om_promises.specs.Commands.{Item, Fetches, Commands}

@@ -4,7 +4,8 @@ use Rattle.std.proofs.Common.{◌≡◌, ◌⊎◌, ◌+◌, ◌<◌, ◌≤◌,
 use Rattle.std.proofs.Math.Seq.{drop-append_seam}
 use Rattle.std.proofs.lemmas.List.{drop-append-le}
 use Rattle.std.specs.Prelude.{◌&&◌}
-use Rattle.om_outcome.specs.Outcome.{Request, Stop, Said, all_well}
+use Rattle.om_outcome.specs.Outcome.{Request, Said, all_well}
+use Rattle.om_outcome.specs.declared.stop.Stop.{Stop}
 use Rattle.om_promises.specs.Commands.{Item, value as value_item, text as text_item, Commands, Cut, AllSay, GoesOn}
 use Rattle.om_passing.specs.Skipping.{Passed, passed_said, bytes_said, skipping}
 

@@ -1,7 +1,9 @@
 -- Lawful commands are lawful after bytes that are passed over.
 use Rattle.std.proofs.Common.{◌≡◌, ◌⊎◌, ◌<◌, ◌≤◌, ℕ, List, [], ◌∷◌, ◌++◌, Result, Ok, Err, inl, inr, refl, sym, ap, ◌∙◌, subst, length, drop, arith}
 use Rattle.om_model.specs.Bytes.{AreBytes}
-use Rattle.om_outcome.specs.Outcome.{opened, whole, Request, ReadsFile, Stop, short_input, Said, Reply, stops}
+use Rattle.om_outcome.specs.Outcome.{opened, whole, Request, ReadsFile, Said, Reply, stops}
+use Rattle.om_outcome.specs.declared.stop.Stop.{Stop}
+use Rattle.om_outcome.specs.declared.stop.Stop.TheVariants.{Short as short_input}
 use Rattle.om_promises.specs.Commands.{Item, text as text_item, Fetches, Commands}
 use Rattle.om_promises.specs.Lawful.{IsOnce, IsInner, IsWhole, FailsAtFile, IsFound, AreLawfulAt, AreLawful, AreInTurns}
 use Rattle.om_choice.specs.Choice.{IsIdleAt, AreApart}

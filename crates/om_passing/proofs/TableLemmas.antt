@@ -6,7 +6,9 @@ use Rattle.std.specs.Prelude.{◌&&◌, ◌↔◌, if◌then◌else◌}
 use Rattle.om_model.specs.Bytes.{AreBytes}
 use Rattle.om_outcome.specs.declared.status.Status.{Status}
 use Rattle.om_outcome.specs.declared.status.Status.TheVariants as statuses
-use Rattle.om_outcome.specs.Outcome.{Request, Stop, short_input, status_of, Said, all_well, Reply, says, stops, Replies, replies, ending_of}
+use Rattle.om_outcome.specs.Outcome.{Request, status_of, Said, all_well, Reply, says, stops, Replies, replies, ending_of}
+use Rattle.om_outcome.specs.declared.stop.Stop.{Stop}
+use Rattle.om_outcome.specs.declared.stop.Stop.TheVariants.{Short as short_input}
 use Rattle.om_promises.specs.Commands.{Item, text as text_item, Commands, Cut, SaysFirst, GoesOn, HoldStop}
 use Rattle.om_promises.specs.Promises.{HoldEnd}
 use Rattle.om_causes.specs.Causes.{Tables, HaveStops, HaveEnds, AreExact}

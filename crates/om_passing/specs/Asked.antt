@@ -5,7 +5,7 @@ use Rattle.om_outcome.specs.Outcome.{Request, edit}
 use Rattle.om_passing.specs.Skipping.{Passed}
 
 abbrev pub copied_by : Request → Bool
-copied_by (edit file type script compat lines reading) = true
+copied_by (edit file type script compat lines decimal reading) = true
 copied_by request = false
 
 abbrev pub passed_by : Request → Passed

@@ -2,7 +2,9 @@
 -- own, of which nothing is said, or the byte itself; after them the command begins. How many they
 -- are is asked for by the words: so a set of commands is written without a thought of it.
 use Rattle.std.specs.Prelude.{ℕ, ◌<◌, ◌≤◌, ◌≡◌, ◌⊎◌, Bool, true, false, List, [], ◌∷◌, length, drop, Result, Ok, Err}
-use Rattle.om_outcome.specs.Outcome.{Request, Asks, Stop, short_input, Said, nothing_said, Reply, stops}
+use Rattle.om_outcome.specs.Outcome.{Request, Asks, Said, nothing_said, Reply, stops}
+use Rattle.om_outcome.specs.declared.stop.Stop.{Stop}
+use Rattle.om_outcome.specs.declared.stop.Stop.TheVariants.{Short as short_input}
 use Rattle.om_promises.specs.Account.{Account}
 use Rattle.om_promises.specs.Call.{Call}
 use Rattle.om_promises.specs.Commands.{Item, value as value_item, text as text_item, Fetches, Commands}

@@ -1,6 +1,7 @@
 -- What was taken of the input, and what is said of it, where one item alone is told of.
-use Rattle.std.specs.Prelude.{ℕ, suc, ◌≤◌, ◌≡◌, ◌⊎◌, Bool, List, [], ◌++◌, length, Option, Some, None, Result, Ok, Err}
-use Rattle.om_outcome.specs.Outcome.{Said, Reply, stops, out_of_memory}
+use Rattle.std.specs.Prelude.{ℕ, ◌≤◌, ◌≡◌, ◌⊎◌, Bool, List, length, Option, Some, None, Result, Ok, Err}
+use Rattle.om_outcome.specs.Outcome.{Said, Reply, stops}
+use Rattle.om_outcome.specs.declared.stop.Stop.TheVariants.{Memory as out_of_memory}
 use Rattle.om_edge.specs.State.{ByteState, change}
 use Rattle.om_picking.specs.Picking.{missing}
 use Rattle.om_picking.specs.Told.{said_of_one}
@@ -8,30 +9,24 @@ use Rattle.om_promises.specs.Account.{HoldNoStop}
 use Rattle.om_promises.specs.Commands.{Commands}
 use Rattle.om_stops.specs.declared.stop.Halt.{Halt}
 use Rattle.om_stops.specs.declared.stop.Halt.TheVariants as halts
-use Rattle.om_stops.specs.Stops.{stop_of}
 use Rattle.om_work.specs.Works.{Has, Feeds}
 
 abbrev pub said_by : Option ℕ → List Said → List Said
 said_by None told = told
 said_by (Some k) told = said_of_one k told
 
--- they are those up to the item that is told of; once it is there other bytes may follow
-abbrev pub AreUpTo : Option ℕ → List Said → List ℕ → Type 0
-AreUpTo None told later = later ≡ []
-AreUpTo (Some k) told later =
-    (length told ≤ suc k) × (length told ≤ k → later ≡ [])
+-- the item that is told of is not there yet
+abbrev pub AreUpTo : Option ℕ → List Said → Type 0
+AreUpTo None told = Unit {0}
+AreUpTo (Some k) told = length told ≤ k
 
--- The command took these bytes and would say this of their items; what came after the item that is
--- told of was taken without it.
+-- the command took these bytes and would say this of their items
 pub record HasPicked (picked : Option ℕ) (has : Has) (bytes : List ℕ) (said : List Said)
     : Type 0 where
-  pub taken : List ℕ
-  pub later : List ℕ
   pub told : List Said
-  pub bytes_are : bytes ≡ taken ++ later
   pub said_are : said ≡ said_by picked told
-  pub up_to : AreUpTo picked told later
-  pub there : has taken told
+  pub up_to : AreUpTo picked told
+  pub there : has bytes told
 
 -- a sink that takes all, and tells nothing
 abbrev pub nowhere : ByteState
@@ -53,6 +48,6 @@ module _ {A : Type 0} (c : Commands A) (a : A) where
       (bytes : List ℕ) (said : List Said) → has bytes said
       → (holds : HoldNoStop c a bytes said)
       × (((reply : Reply) × c.Ends a holds.items holds.rest reply
-      × (stops (stop_of stop) ≡ missing (length holds.items) reply))
-      ⊎ (stop_of stop ≡ out_of_memory))
+      × (stops stop ≡ missing (length holds.items) reply))
+      ⊎ (stop ≡ out_of_memory))
   EndsBefore has (Err halts.WriteFault) = ⊥

@@ -2,15 +2,17 @@
 
 ghost use Rattle.std.specs.Prelude.{◌≡◌, ◌<◌, ◌+◌, ◌^◌, List, [], ℕ, Option, Some, length};
 ghost use Rattle.om_outcome.specs.Outcome.{Said};
-ghost use Rattle.om_edge.specs.State.{ByteState, change};
+ghost use Rattle.om_edge.specs.State.{change};
 ghost use Rattle.om_picker.specs.Picked.{nowhere, HasPicked, FeedsUnsaid, EndsBefore};
 ghost use Rattle.om_picking.specs.Picking.{picking};
-ghost use Rattle.om_work.specs.Works.{Feeds, EndsAt};
+ghost use Rattle.om_work.specs.Works.{Feeds};
 
 use crate::Counts;
 use om_edge::{Failed, Sink};
+use om_outcome::stop::Stop;
 use om_picking::laws::PicksOne;
-use om_stops::stop::{Halt, Stop};
+use om_stops::made::cut_value;
+use om_stops::stop::Halt;
 use om_work::Work;
 use std::alloc::Global;
 use std::marker::PhantomData;
@@ -27,7 +29,7 @@ impl Sink for Nowhere {
     }
 }
 
-/// A command that tells of the item of this number alone, if there is one; else of each.
+/// A command that tells of the item of this number alone, if one is asked for; else of each.
 #[derive(Drop)]
 pub struct Picking<P, W> {
     pub work: W,
@@ -78,10 +80,42 @@ fn end_before<W: Counts>(alloc: Global, work: &mut W) -> Result<bool, Halt>
     let count = work.count();
     let mut sink = Nowhere {};
     match work.end(alloc, &mut sink) {
-        Ok(_) => Err(Halt::Stop(Stop::Cut(count, 0))),
+        Ok(_) => Err(Halt::Stop(cut_value(alloc, count, 0))),
         Err(Halt::Stop(stop)) => Err(Halt::Stop(stop)),
         Err(Halt::WriteFault) => Err(Halt::Stop(Stop::Memory)),
     }
+}
+
+/// Takes some bytes in hand of the item that is told of, which is the next one: with its last byte
+/// the run is finished.
+fn feed_last<P: PicksOne, W: Counts, K: Sink>(
+    alloc: Global,
+    work: &mut W,
+    number: u64,
+    in_hand: &[u8],
+    out: &mut K,
+) -> Result<usize, Halt>
+    requires some { 0 < length in_hand.now }
+    requires has { (bytes : List ℕ) × (said : List Said)
+        × HasPicked (Some number) (W.has work.old) bytes said
+        × (length bytes + length in_hand.now < 2 ^ 63) }
+    requires last { (bytes : List ℕ) (told : List Said) → W.has work.old bytes told
+        → length told ≡ number }
+    ensures kept { W.act work.new ≡ W.act work.old }
+    ensures feeds { W.commands.Reads (W.act work.old)
+        → Feeds (picking P.picked_by W.commands) (Some number, W.act work.old)
+        (HasPicked (Some number) (W.has work.old)) (HasPicked (Some number) (W.has work.new))
+        in_hand.now (change (K.state out.old) (K.state out.new)) result }
+{
+    work.laws();
+    work.never_finishes();
+    let taken = work.feed(alloc, in_hand, out)?;
+    let count = work.count();
+    if number < count {
+        work.laws();
+        return Err(Halt::Stop(Stop::Finished(work.last_well())));
+    }
+    Ok(taken)
 }
 
 /// Takes some bytes in hand, where the item of this number alone is told of.
@@ -103,29 +137,11 @@ fn feed_one<P: PicksOne, W: Counts, K: Sink>(
         in_hand.now (change (K.state out.old) (K.state out.new)) result }
 {
     let count = work.count();
-    if number < count {
-        return Ok(in_hand.len());
-    }
     if count < number {
+        work.never_finishes();
         return feed_unsaid(alloc, work, in_hand);
     }
-    work.feed(alloc, in_hand, out)
-}
-
-/// No more bytes come, where the item of this number alone is told of: nothing more is put.
-fn end_one<P: PicksOne, W: Counts>(alloc: Global, work: &mut W, number: u64) -> Result<bool, Halt>
-    requires { (bytes : List ℕ) × (said : List Said)
-        × HasPicked (Some number) (W.has work.old) bytes said × (length bytes < 2 ^ 48) }
-    ensures { (o : ByteState) → EndsAt (picking P.picked_by W.commands)
-        (Some number, W.act work.old) (HasPicked (Some number) (W.has work.old)) (change o o)
-        result }
-{
-    work.laws();
-    let count = work.count();
-    if number < count {
-        return Ok(work.last_well());
-    }
-    end_before(alloc, work)
+    feed_last::<P, W, K>(alloc, work, number, in_hand, out)
 }
 
 impl<P: PicksOne, W: Counts> Work for Picking<P, W> {
@@ -151,7 +167,7 @@ impl<P: PicksOne, W: Counts> Work for Picking<P, W> {
     fn end<K: Sink>(&mut self, alloc: Global, out: &mut K) -> Result<bool, Halt> {
         match self.picked {
             None => self.work.end(alloc, out),
-            Some(number) => end_one::<P, W>(alloc, &mut self.work, number),
+            Some(_) => end_before(alloc, &mut self.work),
         }
     }
 

@@ -1,18 +1,20 @@
 -- The tables of commands that tell of one item alone are exact, where those of the commands are.
-use Rattle.std.proofs.Common.{◌≡◌, ◌⊎◌, ℕ, suc, List, [], ◌∷◌, ◌++◌, Option, Some, None, inl, inr, refl, sym, ap, ◌∙◌, subst, length, length-append, arith}
+use Rattle.std.proofs.Common.{◌≡◌, ◌⊎◌, ℕ, List, [], ◌∷◌, ◌++◌, Option, Some, None, inl, inr, refl, sym, ap, ◌∙◌, subst, length, length-append, arith}
 use Rattle.std.specs.Prelude.{if◌then◌else◌}
 use Rattle.om_outcome.specs.declared.status.Status.{Status}
 use Rattle.om_outcome.specs.declared.status.Status.TheVariants as statuses
-use Rattle.om_outcome.specs.Outcome.{Request, Stop, status_of, Said, nothing_said, Reply, says, stops, Replies, replies, ending_of}
+use Rattle.om_outcome.specs.Outcome.{Request, status_of, Said, Reply, says, stops, Replies, replies, ending_of}
+use Rattle.om_outcome.specs.declared.stop.Stop.{Stop}
+use Rattle.om_outcome.specs.declared.stop.Stop.TheVariants.{Finished as finished}
 use Rattle.om_promises.specs.Commands.{Commands, AllSay, HoldStop}
 use Rattle.om_promises.specs.Promises.{HoldEnd}
 use Rattle.om_causes.specs.Causes.{Tables, HaveStops, HaveEnds, AreExact}
 use Rattle.om_choice.proofs.AlikeLemmas.{IsAlike, is_alike_back, says_first_too, goes_on_too}
-use Rattle.om_picking.specs.Picking.{missing, picking}
+use Rattle.om_picking.specs.Picking.{missing, StopsBy, picking}
 use Rattle.om_picking.specs.Told.{said_of_one}
 use Rattle.om_picking.specs.Tables.{StopUpTo, HaveItem, EndBefore, picking_tables}
 use Rattle.om_picking.proofs.EachLemmas.{alike_each}
-use Rattle.om_picking.proofs.ToldLemmas.{say_count, first_of_one, cut_back, would, last_of, one_well}
+use Rattle.om_picking.proofs.ToldLemmas.{told_count, say_front, say_then, is_told, on_up_to, say_count, first_of_one, cut_back, would}
 
 -- ---- each item
 
@@ -45,26 +47,21 @@ missing_alike : (said : List Said) (n : ℕ) (reply : Reply)
 missing_alike said n (says s) = refl
 missing_alike said n (stops stop) = refl
 
--- and without one it is that of the item that is told of
-item_status : (k : ℕ) (told before : List Said) (last : Said) → told ≡ before ++ last ∷ []
-    → length before ≡ k
-    → (ending_of (replies (said_of_one k told) (says nothing_said))).status
-    ≡ (if last.well then statuses.Well else statuses.No)
-item_status k told before last is size =
-    ap (λ w. if w then statuses.Well else statuses.No) (one_well k told before last is size)
-
 module _ {A : Type 0} (picked_by : Request → Option ℕ) (c : Commands A) (a : A) (k : ℕ) where
   abbrev one : Commands (Option ℕ × A)
   one = picking picked_by c
 
   -- ---- a stop
 
+  abbrev Stopped : List ℕ → Status → Type 0
+  Stopped bytes status = StopUpTo c k a bytes status ⊎ HaveItem c k a bytes status
+
   stop_there : (bytes : List ℕ) (stop : Stop) (status : Status) → status_of stop ≡ status
-      → HoldStop one (Some k, a) bytes stop → StopUpTo c k a bytes status
-  stop_there bytes stop status is h =
-      let few = h.at.0 in
+      → (h : HoldStop one (Some k, a) bytes stop) → StopsBy c (Some k) a h.items h.rest stop
+      → Stopped bytes status
+  stop_there bytes stop status is h (inl (few, at)) =
       let t = would picked_by c a k k [] h.items h.said (omega arith) (omega (arith, few)) h.first.all_say in
-      record {
+      inl (record {
         stop = stop;
         is = is;
         holds = record {
@@ -75,10 +72,30 @@ module _ {A : Type 0} (picked_by : Request → Option ℕ) (c : Commands A) (a :
             cut = cut_back picked_by c a k [] bytes h.items h.rest h.first.cut;
             all_say = t.1;
           };
-          at = h.at.1;
+          at = at;
         };
         few = few;
-      }
+      })
+  stop_there bytes stop status is h (inr (well, told, stop_is)) =
+      let size = told_count c k a h.items well told in
+      let t = would picked_by c a k k [] h.items h.said (omega arith) (omega (arith, size)) h.first.all_say in
+      let f = say_front c a [] told.earlier told.item t.0
+      (subst (λ i. AllSay c a [] i t.0) told.items_are t.1) in
+      let count = say_count c a [] told.earlier f.0 f.1 in
+      inr (record {
+        items = h.items;
+        earlier = f.0;
+        said = told.said;
+        rest = h.rest;
+        first = record {
+          cut = cut_back picked_by c a k [] bytes h.items h.rest h.first.cut;
+          all_say = subst (λ i. AllSay c a [] i (f.0 ++ told.said ∷ [])) (sym told.items_are)
+              (say_then c a [] told.earlier told.item f.0 told.said f.1 told.says);
+        };
+        number = sym count ∙ told.number;
+        is = ap (λ w. if w then statuses.Well else statuses.No) told.well_is
+            ∙ (sym (ap status_of stop_is) ∙ is);
+      })
 
   stop_back : (bytes : List ℕ) (status : Status) (s : StopUpTo c k a bytes status)
       → HoldStop one (Some k, a) bytes s.stop
@@ -91,7 +108,24 @@ module _ {A : Type 0} (picked_by : Request → Option ℕ) (c : Commands A) (a :
         rest = h.rest;
         first = first_of_one picked_by c a k bytes h.items h.said h.rest
             (omega (arith, few, count)) h.first;
-        at = (few, h.at);
+        at = inl (few, h.at);
+      }
+
+  item_back : (bytes : List ℕ) (status : Status) (i : HaveItem c k a bytes status)
+      → HoldStop one (Some k, a) bytes (finished i.said.well)
+  item_back bytes status i =
+      let size = length-append i.earlier (i.said ∷ []) in
+      let number = i.number in record {
+        items = i.items;
+        said = said_of_one k (i.earlier ++ i.said ∷ []);
+        rest = i.rest;
+        first = first_of_one picked_by c a k bytes i.items (i.earlier ++ i.said ∷ []) i.rest
+            (omega (arith, size, number)) i.first;
+        at = inr (
+          i.said.well,
+          is_told c a k i.items i.earlier i.said number i.first.all_say,
+          refl,
+        );
       }
 
   -- ---- an end
@@ -103,10 +137,10 @@ module _ {A : Type 0} (picked_by : Request → Option ℕ) (c : Commands A) (a :
   end_there : (bytes : List ℕ) (said : List Said) (last : Reply) (status : Status)
       → (ending_of (replies said last)).status ≡ status
       → (h : HoldEnd one (Some k, a) bytes said last) → one.Ends (Some k, a) h.items h.rest last
-      → EndBefore c k a bytes status ⊎ HaveItem c k a bytes status
-  end_there bytes said last status is h (inl (few, reply, ends, last_is)) =
+      → EndBefore c k a bytes status
+  end_there bytes said last status is h (few, reply, ends, last_is) =
       let t = would picked_by c a k k [] h.items said (omega arith) (omega (arith, few)) h.first.all_say in
-      inl (record {
+      record {
         said = t.0;
         reply = reply;
         holds = record {
@@ -117,7 +151,7 @@ module _ {A : Type 0} (picked_by : Request → Option ℕ) (c : Commands A) (a :
             all_say = t.1;
           };
           goes_on = record {
-            no_stop = λ stop at. h.goes_on.no_stop stop (few, at);
+            no_stop = λ stop at. h.goes_on.no_stop stop (inl (few, at));
             no_item = λ item more first. h.goes_on.no_item item more (few, first);
           };
           ends = ends;
@@ -125,25 +159,7 @@ module _ {A : Type 0} (picked_by : Request → Option ℕ) (c : Commands A) (a :
         few = few;
         is = sym (missing_alike said (length h.items) reply)
             ∙ (sym (ap (λ l. (ending_of (replies said l)).status) last_is) ∙ is);
-      })
-  end_there bytes said last status is h (inr (size, last_is)) =
-      let t = would picked_by c a k k [] h.items said (omega arith) (omega (arith, size)) h.first.all_say in
-      let count = say_count c a [] h.items t.0 t.1 in
-      let l = last_of k t.0 (omega (arith, count, size)) in
-      inr (record {
-        items = h.items;
-        earlier = l.0;
-        said = l.1;
-        rest = h.rest;
-        first = record {
-          cut = cut_back picked_by c a k [] bytes h.items h.rest h.first.cut;
-          all_say = subst (λ told. AllSay c a [] h.items told) l.2 t.1;
-        };
-        number = l.3;
-        is = sym (item_status k t.0 l.0 l.1 l.2 l.3)
-            ∙ (sym (ap (λ s. (ending_of (replies s (says nothing_said))).status) t.2)
-            ∙ (sym (ap (λ l. (ending_of (replies said l)).status) last_is) ∙ is));
-      })
+      }
 
   before_back : (bytes : List ℕ) (status : Status) (e : EndBefore c k a bytes status)
       → Ended bytes (said_of_one k e.said) (missing (length e.holds.items) e.reply) status
@@ -157,33 +173,8 @@ module _ {A : Type 0} (picked_by : Request → Option ℕ) (c : Commands A) (a :
           rest = h.rest;
           first = first_of_one picked_by c a k bytes h.items e.said h.rest
               (omega (arith, few, count)) h.first;
-          goes_on = record {
-            no_stop = λ stop at. h.goes_on.no_stop stop at.1;
-            no_item = λ item more first. h.goes_on.no_item item more first.1;
-          };
-          ends = inl (few, e.reply, h.ends, refl);
-        },
-      )
-
-  item_back : (bytes : List ℕ) (status : Status) (i : HaveItem c k a bytes status)
-      → Ended bytes (said_of_one k (i.earlier ++ i.said ∷ [])) (says nothing_said) status
-  item_back bytes status i =
-      let told : List Said = i.earlier ++ i.said ∷ [] in
-      let count = say_count c a [] i.items told i.first.all_say in
-      let size = length-append i.earlier (i.said ∷ []) in
-      let number = i.number in
-      let all : length i.items ≡ suc k = omega (arith, count, size, number) in (
-        item_status k told i.earlier i.said refl i.number ∙ i.is,
-        record {
-          items = i.items;
-          rest = i.rest;
-          first = first_of_one picked_by c a k bytes i.items told i.rest
-              (omega (arith, size, number)) i.first;
-          goes_on = record {
-            no_stop = λ stop at. let few = at.0 in omega (arith, few, all);
-            no_item = λ item more first. let few = first.0 in omega (arith, few, all);
-          };
-          ends = inr (all, refl);
+          goes_on = on_up_to picked_by c a k h.items h.rest few h.goes_on;
+          ends = (few, e.reply, h.ends, refl);
         },
       )
 
@@ -212,11 +203,12 @@ module _ {A : Type 0} (picked_by : Request → Option ℕ) (c : Commands A) (tab
   have_stops of_c (Some k, a) bytes status = (there, back) where
     there : (stop : Stop) × (status_of stop ≡ status) × HoldStop told (Some k, a) bytes stop
         → shown.StopWith (Some k, a) bytes status
-    there (stop, is, h) = stop_there picked_by c a k bytes stop status is h
+    there (stop, is, h) = stop_there picked_by c a k bytes stop status is h h.at
 
     back : shown.StopWith (Some k, a) bytes status
         → (stop : Stop) × (status_of stop ≡ status) × HoldStop told (Some k, a) bytes stop
-    back s = (s.stop, s.is, stop_back picked_by c a k bytes status s)
+    back (inl s) = (s.stop, s.is, stop_back picked_by c a k bytes status s)
+    back (inr i) = (finished i.said.well, i.is, item_back picked_by c a k bytes status i)
 
   have_ends : HaveEnds c tables → HaveEnds told shown
   have_ends of_c (None, a) bytes status are_bytes = (there, back) where
@@ -244,12 +236,9 @@ module _ {A : Type 0} (picked_by : Request → Option ℕ) (c : Commands A) (tab
     back : shown.EndWith (Some k, a) bytes status
         → (all : Replies) × ((ending_of all).status ≡ status)
         × HoldEnd told (Some k, a) bytes all.said all.last
-    back (inl e) =
+    back e =
         let b = before_back picked_by c a k bytes status e in
         (replies (said_of_one k e.said) (missing (length e.holds.items) e.reply), b.0, b.1)
-    back (inr i) =
-        let b = item_back picked_by c a k bytes status i in
-        (replies (said_of_one k (i.earlier ++ i.said ∷ [])) (says nothing_said), b.0, b.1)
 
   pub exact : AreExact c tables → AreExact told shown
   exact of_c = record {

@@ -1,10 +1,9 @@
 -- What is said where one item alone is told of, and what would be said without that.
-use Rattle.std.proofs.Common.{◌≡◌, ◌+◌, ◌<◌, ◌≤◌, ℕ, zero, suc, true, List, [], ◌∷◌, ◌++◌, Option, Some, inl, inr, refl, ap, ◌∙◌, length, length-append, arith}
-use Rattle.std.specs.Prelude.{◌&&◌}
-use Rattle.om_outcome.specs.Outcome.{Request, Said, nothing_said, all_well}
-use Rattle.om_promises.specs.Commands.{Item, Commands, Cut, AllSay, SaysFirst}
-use Rattle.om_promises.proofs.ValueLemmas.{and_true, all_well-snoc}
-use Rattle.om_picking.specs.Picking.{picking}
+use Rattle.std.proofs.Common.{◌≡◌, ◌+◌, ◌<◌, ◌≤◌, ℕ, zero, suc, Bool, List, [], ◌∷◌, ◌++◌, Option, Some, inl, inr, refl, sym, ap, ◌∙◌, subst, length, length-append, append_assoc, append-nil, arith}
+use Rattle.om_outcome.specs.Outcome.{Request, Said, nothing_said}
+use Rattle.om_promises.specs.Commands.{Item, Commands, Cut, AllSay, SaysFirst, GoesOn}
+use Rattle.om_outcome.specs.declared.stop.Stop.{Stop}
+use Rattle.om_picking.specs.Picking.{IsTold, StopsBy, picking}
 use Rattle.om_picking.specs.Told.{said_of_one}
 
 -- one item more, before the one that is told of, and that one
@@ -24,7 +23,74 @@ said_at zero (s ∷ told) said size = absurd (omega (arith, size))
 said_at (suc k) (s ∷ told) said size =
     ap (λ rest. nothing_said ∷ rest) (said_at k told said (omega (arith, size)))
 
+module _ {A : Type 0} (c : Commands A) (k : ℕ) (a : A) where
+  -- the item that is told of is there
+  pub told_count : (items : List Item) (well : Bool) → IsTold c k a items well
+      → length items ≡ suc k
+  told_count items well told =
+      let size = ap length told.items_are ∙ length-append told.earlier (told.item ∷ []) in
+      let number = told.number in omega (arith, size, number)
+
+  pub told_past : (items : List Item) (well : Bool) → IsTold c k a items well → length items ≤ k → ⊥
+  told_past items well told few =
+      let count = told_count items well told in omega (arith, count, few)
+
 module _ {A : Type 0} (c : Commands A) (a : A) where
+  -- what is said of items is said of those before the last one, and of that one
+  pub say_front : (before items : List Item) (item : Item) (told : List Said)
+      → AllSay c a before (items ++ item ∷ []) told
+      → (earlier : List Said) × AllSay c a before items earlier
+  say_front before [] item told say = ([], tt)
+  say_front before (i ∷ items) item [] say = absurd say
+  say_front before (i ∷ items) item (s ∷ told) (here, say) =
+      let next = say_front (before ++ i ∷ []) items item told say in (s ∷ next.0, (here, next.1))
+
+  pub say_then : (before items : List Item) (item : Item) (earlier : List Said) (said : Said)
+      → AllSay c a before items earlier → c.Says a (before ++ items) item said
+      → AllSay c a before (items ++ item ∷ []) (earlier ++ said ∷ [])
+  say_then before [] item [] said say last =
+      (subst (λ b. c.Says a b item said) (append-nil before) last, tt)
+  say_then before [] item (s ∷ earlier) said say last = absurd say
+  say_then before (i ∷ items) item [] said say last = absurd say
+  say_then before (i ∷ items) item (s ∷ earlier) said (here, say) last = (
+    here,
+    say_then (before ++ i ∷ []) items item earlier said say
+        (subst (λ b. c.Says a b item said) (sym (append_assoc before (i ∷ []) items)) last),
+  )
+
+  pub say_last : (before items : List Item) (told : List Said) (last : Said)
+      → AllSay c a before items (told ++ last ∷ [])
+      → (earlier : List Item) × (item : Item) × (items ≡ earlier ++ item ∷ [])
+      × (length earlier ≡ length told) × c.Says a (before ++ earlier) item last
+  say_last before [] [] last say = absurd say
+  say_last before [] (s ∷ told) last say = absurd say
+  say_last before (i ∷ []) [] last (here, say) =
+      ([], i, refl, refl, subst (λ b. c.Says a b i last) (sym (append-nil before)) here)
+  say_last before (i ∷ j ∷ items) [] last (here, say) = absurd say
+  say_last before (i ∷ items) (s ∷ told) last (here, say) =
+      let n = say_last (before ++ i ∷ []) items told last say in
+      let size = n.3 in (
+        i ∷ n.0,
+        n.1,
+        ap (λ rest. i ∷ rest) n.2,
+        omega (arith, size),
+        subst (λ b. c.Says a b n.1 last) (append_assoc before (i ∷ []) n.0) n.4,
+      )
+
+  -- so the last item is the one that is told of
+  pub is_told : (k : ℕ) (items : List Item) (told : List Said) (last : Said) → length told ≡ k
+      → AllSay c a [] items (told ++ last ∷ []) → IsTold c k a items last.well
+  is_told k items told last size say =
+      let n = say_last [] items told last say in record {
+        earlier = n.0;
+        item = n.1;
+        items_are = n.2;
+        number = n.3 ∙ size;
+        said = last;
+        says = n.4;
+        well_is = refl;
+      }
+
   -- as many items as said
   pub say_count : (before items : List Item) (told : List Said) → AllSay c a before items told
       → length items ≡ length told
@@ -77,6 +143,17 @@ module _ {A : Type 0} (picked_by : Request → Option ℕ) (c : Commands A) (a :
           all_say = say_of_one k [] items told (omega arith) few first.all_say;
         }
 
+    -- up to that item nothing more stops the run, and no more is an item
+    pub on_up_to : (items : List Item) (rest : List ℕ) → length items ≤ k → GoesOn c a items rest
+        → GoesOn one (Some k, a) items rest
+    on_up_to items rest few on = record {
+      no_stop = λ stop at. by stop at;
+      no_item = λ item more first. on.no_item item more first.1;
+    } where
+      by : (stop : Stop) → StopsBy c (Some k) a items rest stop → ⊥
+      by stop (inl (few, at)) = on.no_stop stop at
+      by stop (inr (well, told, is)) = told_past c k a items well told few
+
     -- ---- and back
 
     pub cut_back : (before : List Item) (bytes : List ℕ) (items : List Item) (rest : List ℕ)
@@ -113,34 +190,3 @@ module _ {A : Type 0} (picked_by : Request → Option ℕ) (c : Commands A) (a :
         )
     would (suc left) before (item ∷ items) (s ∷ said) size few (inr (at, says), say) =
         absurd (omega (arith, size, at))
-
--- of the items before the one that is told of nothing is wrong
-pub before_well : (k : ℕ) (told : List Said) → length told ≤ k
-    → all_well (said_of_one k told) ≡ true
-before_well k [] few = refl
-before_well zero (s ∷ told) few = absurd (omega (arith, few))
-before_well (suc k) (s ∷ told) few = before_well k told (omega (arith, few))
-
--- a list of some items has a last one
-pub last_of : (k : ℕ) (told : List Said) → length told ≡ suc k
-    → (before : List Said) × (last : Said) × (told ≡ before ++ last ∷ []) × (length before ≡ k)
-last_of k [] size = absurd (omega (arith, size))
-last_of zero (s ∷ []) size = ([], s, refl, refl)
-last_of zero (s ∷ t ∷ told) size = absurd (omega (arith, size))
-last_of (suc k) (s ∷ told) size =
-    let next = last_of k told (omega (arith, size)) in
-    let count = next.3 in
-    (s ∷ next.0, next.1, ap (λ rest. s ∷ rest) next.2, omega (arith, count))
-
--- so what is wrong is wrong with the one that is told of
-pub one_well : (k : ℕ) (told before : List Said) (last : Said) → told ≡ before ++ last ∷ []
-    → length before ≡ k → all_well (said_of_one k told ++ nothing_said ∷ []) ≡ last.well
-one_well k told before last is size =
-    let few : length before ≤ k = omega (arith, size) in
-    let parts : said_of_one k told ≡ said_of_one k before ++ last ∷ [] =
-    ap (said_of_one k) is ∙ said_at k before last size in
-    all_well-snoc (said_of_one k told) nothing_said
-    ∙ (and_true (all_well (said_of_one k told))
-    ∙ (ap all_well parts
-    ∙ (all_well-snoc (said_of_one k before) last
-    ∙ ap (λ w. w && last.well) (before_well k before few))))

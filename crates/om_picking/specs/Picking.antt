@@ -1,10 +1,12 @@
 -- Commands that tell of one item of their input alone. The items before it are taken as ever, and
--- nothing is said of them; what comes after it is taken, whatever it is, and nothing is looked at.
--- Which one it is is asked for by the words: so a set of commands is written without a thought of
--- it.
-use Rattle.std.specs.Prelude.{ℕ, suc, ◌<◌, ◌≤◌, ◌≡◌, ◌⊎◌, List, length, Option, Some, None, Result, Ok, Err}
-use Rattle.om_outcome.specs.Outcome.{Request, Asks, Stop, value, Said, nothing_said, Reply, says, stops}
+-- nothing is said of them; with its last byte the run is finished, whatever follows, and no more is
+-- asked for. Which one it is is asked for by the words: so a set of commands is written without a
+-- thought of it.
+use Rattle.std.specs.Prelude.{ℕ, ◌<◌, ◌≤◌, ◌≡◌, ◌⊎◌, ◌∷◌, ◌++◌, Bool, List, [], length, Option, Some, None, Result, Ok, Err}
+use Rattle.om_outcome.specs.Outcome.{Request, Asks, Said, nothing_said, Reply, says, stops}
 use Rattle.om_outcome.specs.RefusalText.{truncated_text}
+use Rattle.om_outcome.specs.declared.stop.Stop.{Stop}
+use Rattle.om_outcome.specs.declared.stop.Stop.TheVariants.{Value as value, Finished as finished}
 use Rattle.om_promises.specs.Account.{Account}
 use Rattle.om_promises.specs.Call.{Call}
 use Rattle.om_promises.specs.Commands.{Item, Fetches, Commands}
@@ -30,19 +32,30 @@ module _ {A : Type 0} (c : Commands A) where
       ((length items < k) × (told : Said) × c.Says a items item told × (said ≡ nothing_said))
       ⊎ ((length items ≡ k) × c.Says a items item said)
 
-  -- up to it the run stops where that of the command does, and after it nowhere
+  -- the last of these items is the one that is told of, and whether nothing is wrong with it
+  pub record IsTold (k : ℕ) (a : A) (items : List Item) (well : Bool) : Type 0 where
+    pub earlier : List Item
+    pub item : Item
+    pub items_are : items ≡ earlier ++ item ∷ []
+    pub number : length earlier ≡ k
+    pub said : Said
+    pub says : c.Says a earlier item said
+    pub well_is : said.well ≡ well
+
+  -- up to it the run stops where that of the command does, and behind it it is finished, whatever
+  -- bytes come
   abbrev pub StopsBy : Option ℕ → A → List Item → List ℕ → Stop → Type 0
   StopsBy None a items bytes stop = c.Stops a items bytes stop
-  StopsBy (Some k) a items bytes stop = (length items ≤ k) × c.Stops a items bytes stop
+  StopsBy (Some k) a items bytes stop =
+      ((length items ≤ k) × c.Stops a items bytes stop)
+      ⊎ ((well : Bool) × IsTold k a items well × (stop ≡ finished well))
 
-  -- where the input ends before it, or within it, that is told; after it nothing more is said,
-  -- whatever bytes came
+  -- where the input ends before it, or within it, that is told
   abbrev pub EndsBy : Option ℕ → A → List Item → List ℕ → Reply → Type 0
   EndsBy None a items bytes last = c.Ends a items bytes last
   EndsBy (Some k) a items bytes last =
-      ((length items ≤ k) × (reply : Reply) × c.Ends a items bytes reply
-      × (last ≡ missing (length items) reply))
-      ⊎ ((length items ≡ suc k) × (last ≡ says nothing_said))
+      (length items ≤ k) × (reply : Reply) × c.Ends a items bytes reply
+      × (last ≡ missing (length items) reply)
 
 -- for each request that the words ask for, each item is told of
 abbrev pub PickNothing : (Request → Option ℕ) → List (List ℕ) → Type 0

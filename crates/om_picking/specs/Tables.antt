@@ -4,7 +4,8 @@
 use Rattle.std.specs.Prelude.{ℕ, ◌≤◌, ◌≡◌, ◌⊎◌, List, [], ◌∷◌, ◌++◌, length, Option, Some, None, if◌then◌else◌}
 use Rattle.om_outcome.specs.declared.status.Status.{Status}
 use Rattle.om_outcome.specs.declared.status.Status.TheVariants.{Well, No}
-use Rattle.om_outcome.specs.Outcome.{Stop, status_of, Said, Reply, replies, ending_of}
+use Rattle.om_outcome.specs.Outcome.{status_of, Said, Reply, replies, ending_of}
+use Rattle.om_outcome.specs.declared.stop.Stop.{Stop}
 use Rattle.om_promises.specs.Commands.{Item, Commands, SaysFirst, HoldStop}
 use Rattle.om_promises.specs.Promises.{HoldEnd}
 use Rattle.om_causes.specs.Causes.{Tables}
@@ -39,12 +40,11 @@ module _ {A : Type 0} (c : Commands A) (k : ℕ) (a : A) (bytes : List ℕ) (sta
 module _ {A : Type 0} (c : Commands A) (tables : Tables A) where
   abbrev pub StopBy : Option ℕ → A → List ℕ → Status → Type 0
   StopBy None a bytes status = tables.StopWith a bytes status
-  StopBy (Some k) a bytes status = StopUpTo c k a bytes status
+  StopBy (Some k) a bytes status = StopUpTo c k a bytes status ⊎ HaveItem c k a bytes status
 
   abbrev pub EndBy : Option ℕ → A → List ℕ → Status → Type 0
   EndBy None a bytes status = tables.EndWith a bytes status
-  EndBy (Some k) a bytes status =
-      EndBefore c k a bytes status ⊎ HaveItem c k a bytes status
+  EndBy (Some k) a bytes status = EndBefore c k a bytes status
 
   abbrev pub picking_tables : Tables (Option ℕ × A)
   picking_tables = record {

@@ -1,7 +1,8 @@
 -- The example's commands are lawful.
 use Rattle.std.proofs.Common.{◌≡◌, ◌⊎◌, ◌<◌, ℕ, Bool, true, false, List, [], ◌∷◌, ◌++◌, None, Some, Result, Ok, Err, inl, inr, refl, sym, ap, ◌∙◌, subst, length, length-append, arith}
 use Rattle.std.specs.Prelude.{MatchResult}
-use Rattle.om_outcome.specs.Outcome.{Found, opened, missing, failed, unfetched, whole, Request, Stop, stops, fault_of, ReadsFile}
+use Rattle.om_outcome.specs.Outcome.{Found, opened, missing, failed, unfetched, whole, Request, stops, fault_of, ReadsFile}
+use Rattle.om_outcome.specs.declared.stop.Stop.{Stop}
 use Rattle.om_promises.specs.Commands.{text, Fetches}
 use Rattle.om_promises.specs.Example.{example_name, has_bytes, well_said, IsLine, IsFine, last_said, example, SaysUnread, SaysRest}
 use Rattle.om_promises.specs.Lawful.{IsOnce, IsInner, IsWhole, FailsAtFile, AreLawfulAt, AreLawful, AreInTurns}

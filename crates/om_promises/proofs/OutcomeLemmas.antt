@@ -4,7 +4,9 @@ use Rattle.std.specs.Prelude.{MatchResult}
 use Rattle.om_model.specs.Bytes.{AreBytes}
 use Rattle.om_outcome.specs.declared.status.Status.{Status}
 use Rattle.om_outcome.specs.declared.status.Status.TheVariants as statuses
-use Rattle.om_outcome.specs.Outcome.{InputEnd, at_end, at_fault, at_length, unasked, whole, Stop, out_of_memory, ending_of, ReadsFile, stops, Replies, replies, stopped}
+use Rattle.om_outcome.specs.Outcome.{InputEnd, at_end, at_fault, at_length, unasked, whole, ending_of, ReadsFile, stops, Replies, replies, stopped}
+use Rattle.om_outcome.specs.declared.stop.Stop.{Stop}
+use Rattle.om_outcome.specs.declared.stop.Stop.TheVariants.{Memory as out_of_memory}
 use Rattle.om_edge.specs.Files.{File, contents_of}
 use Rattle.om_promises.specs.Account.{IsWanted, MayBe, Completes, Breaks, Account}
 use Rattle.om_promises.specs.Call.{Call}

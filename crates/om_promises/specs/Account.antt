@@ -1,8 +1,9 @@
 -- The account of a call by commands in the general form: what the outside gave, what is said of
 -- that, and how much of it was put.
-use Rattle.std.specs.Prelude.{ℕ, suc, ◌<◌, ◌≤◌, ◌≡◌, ◌⊎◌, List, [], ◌∷◌, ◌++◌, length, Ok}
+use Rattle.std.specs.Prelude.{ℕ, suc, ◌<◌, ◌≤◌, ◌≡◌, ◌⊎◌, Bool, List, [], ◌∷◌, ◌++◌, length, Ok}
 use Rattle.om_outcome.specs.declared.status.Status.TheVariants.{WriteFault}
-use Rattle.om_outcome.specs.Outcome.{Taken, unasked, nothing, unfetched, Request, Asks, out_of_memory, ending_of, Said, says, stops, Reply, replies, texts_of}
+use Rattle.om_outcome.specs.Outcome.{Taken, unasked, nothing, unfetched, Request, Asks, ending_of, Said, says, stops, Reply, replies, texts_of}
+use Rattle.om_outcome.specs.declared.stop.Stop.TheVariants.{Finished as finished, Memory as out_of_memory}
 use Rattle.om_edge.specs.Sink.{Puts}
 use Rattle.om_edge.specs.State.{FilesState, Change, change}
 use Rattle.om_promises.specs.Call.{Call}
@@ -18,14 +19,28 @@ module _ {A : Type 0} (c : Commands A) where
     pub first : SaysFirst c a bytes items said rest
     pub goes_on : GoesOn c a items rest
 
+  -- after what was said before one item more ends, and behind it the run is finished, whatever
+  -- bytes follow: no more was asked for
+  pub record IsFinishedBehind (a : A) (taken : Taken) (before said : List Said) : Type 0 where
+    pub next : Said
+    pub said_are : said ≡ before ++ next ∷ []
+    pub items : List Item
+    pub rest : List ℕ
+    pub first : SaysFirst c a taken.bytes items said rest
+    pub well : Bool
+    pub at : c.Stops a items rest (finished well)
+    pub no_more : taken.until ≡ unasked
+
   -- No piece more is taken once something stops the run: what was taken but for some last bytes, a
-  -- piece at most, holds no stop, and this is said of its items. All of it holds none where more
-  -- was asked for.
+  -- piece at most, holds no stop, and this is said of its items, and of one more where the run is
+  -- finished behind that. All of it holds none where more was asked for.
   pub record IsPaced (a : A) (taken : Taken) (said : List Said) : Type 0 where
     pub earlier : List ℕ
     pub in_hand : List ℕ
     pub bytes_are : taken.bytes ≡ earlier ++ in_hand
-    pub holds : HoldNoStop a earlier said
+    pub before : List Said
+    pub holds : HoldNoStop a earlier before
+    pub said_are : (said ≡ before) ⊎ IsFinishedBehind a taken before said
     pub piece : length in_hand ≤ piece_limit
     pub asked : (taken.until ≡ unasked) ⊎ (in_hand ≡ [])
 

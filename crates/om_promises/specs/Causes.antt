@@ -3,7 +3,9 @@
 use Rattle.std.specs.Prelude.{ℕ, ◌+◌, ◌^◌, ◌<◌, ◌≤◌, ◌≡◌, ◌≢◌, ◌⊎◌, List, [], ◌∷◌, ◌++◌, length, take, Some, None, IsSomeAnd, IfSome, Ok, Err}
 use Rattle.om_outcome.specs.declared.status.Status.{Status}
 use Rattle.om_outcome.specs.declared.status.Status.TheVariants.{Well, ReadFault, WriteFault, OpenFault, Memory, TooLong}
-use Rattle.om_outcome.specs.Outcome.{Taken, nothing, whole, opened, Stop, stops, out_of_memory, status_of, stop_text, err_line, ending_of, Said, Replies, all_said, texts_of}
+use Rattle.om_outcome.specs.Outcome.{Taken, nothing, whole, opened, stops, status_of, stop_line, ending_of, Said, Replies, all_said, texts_of}
+use Rattle.om_outcome.specs.declared.stop.Stop.{Stop}
+use Rattle.om_outcome.specs.declared.stop.Stop.TheVariants.{Memory as out_of_memory}
 use Rattle.om_edge.specs.Files.{File, contents_of}
 use Rattle.om_edge.specs.Sink.{Puts, PutsPart}
 use Rattle.om_edge.specs.State.{FilesState, Change}
@@ -154,7 +156,7 @@ module _ {A : Type 0} (c : Commands A) (words : List (List ℕ)) where
   IfMemory call = (input : List ℕ) (files : List File) → IsWellRead call input files
       → call.status ≡ Memory
       → (said : List Said) × IsFrontOfOutcome input files said × Puts call.out (texts_of said)
-      × Puts call.err (err_line (stop_text out_of_memory))
+      × Puts call.err (stop_line out_of_memory)
 
   -- 7 by out: it has the first texts of the outcome, and of the next one a part, and err has
   -- nothing

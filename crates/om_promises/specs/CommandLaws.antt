@@ -1,7 +1,8 @@
 -- What holds of commands that are lawful.
 use Rattle.std.specs.Prelude.{ℕ, List, take}
 use Rattle.om_model.specs.Bytes.{AreBytes}
-use Rattle.om_outcome.specs.Outcome.{Stop, Said}
+use Rattle.om_outcome.specs.Outcome.{Said}
+use Rattle.om_outcome.specs.declared.stop.Stop.{Stop}
 use Rattle.om_promises.specs.Account.{Account}
 use Rattle.om_promises.specs.Call.{Call}
 use Rattle.om_promises.specs.Commands.{Item, Given, Commands, SaysFirst, GoesOn, HoldStop, RunReplies}

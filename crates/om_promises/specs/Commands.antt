@@ -2,7 +2,9 @@
 -- of the items of its input.
 use Rattle.std.specs.Prelude.{ℕ, ◌≡◌, ◌⊎◌, List, [], ◌∷◌, ◌++◌, Option, None, Result, MatchResult}
 use Rattle.om_format.specs.Tree.{Tree}
-use Rattle.om_outcome.specs.Outcome.{InputEnd, at_end, at_fault, at_length, unasked, Taken, whole, Found, found_of, Request, Stop, read_fault, too_long, fault_of, Said, Reply, stops, Replies, stopped, Then, ReadsWords}
+use Rattle.om_outcome.specs.Outcome.{InputEnd, at_end, at_fault, at_length, unasked, Taken, whole, Found, found_of, Request, fault_of, Said, Reply, stops, Replies, stopped, Then, ReadsWords}
+use Rattle.om_outcome.specs.declared.stop.Stop.{Stop}
+use Rattle.om_outcome.specs.declared.stop.Stop.TheVariants.{ReadFault as read_fault, TooLong as too_long}
 
 -- what an input is cut into
 pub data Item : Type 0 where

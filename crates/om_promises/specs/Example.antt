@@ -2,7 +2,9 @@
 -- and a line is said. Else each line of the input is said again, up to one that begins with a byte
 -- 255, which is refused; and what comes after the last line feed is said at the end.
 use Rattle.std.specs.Prelude.{ℕ, ◌≡◌, ◌≢◌, Bool, true, false, IsTrue, List, [], ◌∷◌, ◌++◌, length, Ok, codes}
-use Rattle.om_outcome.specs.Outcome.{Stop, value, Said, Reply, says, replies, Taken, whole, Then, ReadsFile}
+use Rattle.om_outcome.specs.Outcome.{Said, Reply, says, replies, Taken, whole, Then, ReadsFile}
+use Rattle.om_outcome.specs.declared.stop.Stop.{Stop}
+use Rattle.om_outcome.specs.declared.stop.Stop.TheVariants.{Value as value}
 use Rattle.om_promises.specs.Commands.{Item, text, Commands, Answers}
 
 -- the file's name

@@ -2,7 +2,9 @@
 -- bytes follow.
 use Rattle.std.specs.Prelude.{ℕ, ◌<◌, ◌≡◌, ◌⊎◌, List, ◌++◌, length, Result, Ok, Err}
 use Rattle.om_model.specs.Bytes.{AreBytes}
-use Rattle.om_outcome.specs.Outcome.{Found, opened, missing, whole, Request, Stop, usage, bad_path, not_two_values, cannot_open, declarations, requested_type, value, script_line, text_line, untyped_value, large_value, certificate_line, uncertified_value, sections_left, short_input, read_fault, too_long, out_of_memory, ReadsFile, Said, stops}
+use Rattle.om_outcome.specs.Outcome.{Found, opened, missing, whole, Request, ReadsFile, Said, stops}
+use Rattle.om_outcome.specs.declared.stop.Stop.{Stop}
+use Rattle.om_outcome.specs.declared.stop.Stop.TheVariants.{Usage as usage, BadPath as bad_path, NotTwoValues as not_two_values, CannotOpen as cannot_open, Declarations as declarations, RequestedType as requested_type, Value as value, Script as script_line, Text as text_line, Untyped as untyped_value, LargeValue as large_value, Certificate as certificate_line, Uncertified as uncertified_value, SectionsLeft as sections_left, Short as short_input, Finished as finished, ReadFault as read_fault, TooLong as too_long, Memory as out_of_memory}
 use Rattle.om_promises.specs.Commands.{Item, Fetches, Commands}
 
 -- at most one answer
@@ -27,6 +29,7 @@ IsInner (certificate_line number) = Unit {0}
 IsInner (uncertified_value number reason) = Unit {0}
 IsInner sections_left = Unit {0}
 IsInner (short_input taken) = Unit {0}
+IsInner (finished well) = Unit {0}
 IsInner read_fault = ⊥
 IsInner too_long = ⊥
 IsInner out_of_memory = ⊥

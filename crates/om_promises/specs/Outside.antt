@@ -3,7 +3,8 @@
 use Rattle.std.specs.Prelude.{ℕ, ◌^◌, ◌<◌, ◌≤◌, ◌≡◌, ◌⊎◌, List, length, Some, None, IsSomeAnd}
 use Rattle.om_outcome.specs.declared.status.Status.{Status}
 use Rattle.om_outcome.specs.declared.status.Status.TheVariants.{ReadFault, WriteFault, OpenFault, Memory}
-use Rattle.om_outcome.specs.Outcome.{InputEnd, fault_of, Stop, status_of, stop_text, Ending, err_line}
+use Rattle.om_outcome.specs.Outcome.{InputEnd, fault_of, status_of, stop_line, Ending}
+use Rattle.om_outcome.specs.declared.stop.Stop.{Stop}
 use Rattle.om_edge.specs.Faults.{RoseOrLast, last_count}
 use Rattle.om_edge.specs.Files.{File, contents_of}
 use Rattle.om_edge.specs.Sink.{Puts, PutsPart}
@@ -100,4 +101,4 @@ pub record TellsFault (until : InputEnd) (call : Call) : Type 0 where
   pub stop : Stop
   pub is_fault : fault_of until ≡ Some stop
   pub status : call.status ≡ status_of stop
-  pub err : Puts call.err (err_line (stop_text stop))
+  pub err : Puts call.err (stop_line stop)

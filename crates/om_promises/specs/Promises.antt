@@ -2,7 +2,8 @@
 use Rattle.std.specs.Prelude.{ℕ, ◌^◌, ◌<◌, ◌≡◌, ◌≢◌, ◌⊎◌, List, length, take, Some, IfSome, Ok, Err}
 use Rattle.om_outcome.specs.declared.status.Status.{Status}
 use Rattle.om_outcome.specs.declared.status.Status.TheVariants.{Usage, ReadFault, Memory, TooLong}
-use Rattle.om_outcome.specs.Outcome.{found_of, Request, Asks, IsUsage, Stop, status_of, ending_of, Said, Reply, Replies}
+use Rattle.om_outcome.specs.Outcome.{found_of, Request, Asks, IsUsage, status_of, ending_of, Said, Reply, Replies}
+use Rattle.om_outcome.specs.declared.stop.Stop.{Stop}
 use Rattle.om_edge.specs.Files.{File, contents_of}
 use Rattle.om_edge.specs.Sink.{Puts}
 use Rattle.om_promises.specs.Account.{MayBe, FetchesFor, Account}

@@ -8,9 +8,9 @@ use Rattle.om_read.specs.Reader.{Leads}
 use Rattle.om_edge.specs.Sink.{Puts, PutsPart}
 use Rattle.om_edge.specs.State.{ByteState, Change, change}
 use Rattle.om_outcome.specs.Outcome.{Request, Said}
+use Rattle.om_outcome.specs.declared.stop.Stop.TheVariants.{Memory as out_of_memory}
 use Rattle.om_stops.specs.declared.stop.Halt.{Halt}
 use Rattle.om_stops.specs.declared.stop.Halt.TheVariants as halts
-use Rattle.om_stops.specs.declared.stop.Stop.TheVariants as stops
 use Rattle.om_promises.specs.Account.{HoldNoStop}
 use Rattle.om_promises.specs.Commands.{Item, text, Cut, SaysFirst}
 use Rattle.om_promises.proofs.PutLemmas.{puts_nothing}
@@ -217,7 +217,7 @@ module _ (limit_by : Request → Option ℕ) (limit : ℕ) where
   pub memory_next :
       {U : Type 0} (held : List ℕ) (reader : Reader) (at : ℕ) (bytes : List ℕ) (said : List Said)
       (o : ByteState) (result : Result U Halt)
-      → IsErrAnd result (λ e. e ≡ halts.Stop stops.Memory)
+      → IsErrAnd result (λ e. e ≡ halts.Stop out_of_memory)
       → PutsNext limit_by limit held reader at bytes said (change o o) result
   memory_next held reader at bytes said o (Ok u) is = absurd is
   memory_next held reader at bytes said o (Err e) is =
@@ -240,7 +240,7 @@ module _ (limit_by : Request → Option ℕ) (limit : ℕ) where
     abbrev Halts : Change ByteState → Halt → Type 0
     Halts out halt = HaltsIn (searching limit_by) limit bytes in_hand said out halt
 
-    pub memory_halts : (o : ByteState) → Halts (change o o) (halts.Stop stops.Memory)
+    pub memory_halts : (o : ByteState) → Halts (change o o) (halts.Stop out_of_memory)
     memory_halts o = (holds held reader at bytes said h, inr refl, puts_nothing o)
 
     -- at the stretch that ends there
@@ -301,7 +301,7 @@ module _ (limit_by : Request → Option ℕ) (limit : ℕ) where
 
     pub ends_memory :
         (o : ByteState) → PutsLast (searching limit_by) limit said h.items held (change o o)
-        (Err (halts.Stop stops.Memory))
+        (Err (halts.Stop out_of_memory))
     ends_memory o = (inr refl, puts_nothing o)
 
   -- ---- limits that are the same

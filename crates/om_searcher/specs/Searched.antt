@@ -5,10 +5,10 @@ use Rattle.om_read.specs.declared.reader.Reader.{Reader}
 use Rattle.om_read.specs.Reader.{Leads}
 use Rattle.om_edge.specs.Sink.{Puts, PutsPart}
 use Rattle.om_edge.specs.State.{ByteState, Change}
-use Rattle.om_outcome.specs.Outcome.{Request, out_of_memory, Said}
+use Rattle.om_outcome.specs.Outcome.{Request, Said}
+use Rattle.om_outcome.specs.declared.stop.Stop.TheVariants.{Memory as out_of_memory}
 use Rattle.om_stops.specs.declared.stop.Halt.{Halt}
 use Rattle.om_stops.specs.declared.stop.Halt.TheVariants as halts
-use Rattle.om_stops.specs.Stops.{stop_of}
 use Rattle.om_promises.specs.Commands.{Item, SaysFirst}
 use Rattle.om_work.specs.Works.{AreSaid}
 use Rattle.om_searching.specs.Searching.{bytes_in, searching}
@@ -57,7 +57,7 @@ PutsNext limit_by limit held reader at bytes said out (Ok unit) =
     (next : Said) × HasSearched limit_by limit held reader at bytes (said ++ next ∷ [])
     × Puts out next.text
 PutsNext limit_by limit held reader at bytes said out (Err (halts.Stop stop)) =
-    (stop_of stop ≡ out_of_memory) × Puts out []
+    (stop ≡ out_of_memory) × Puts out []
 PutsNext limit_by limit held reader at bytes said out (Err halts.WriteFault) =
     (next : Said) × AreSaid (searching limit_by) limit bytes (said ++ next ∷ [])
     × PutsPart out next.text

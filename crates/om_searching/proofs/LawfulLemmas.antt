@@ -1,7 +1,8 @@
 -- The command is lawful: the input has its stretches, and each its lines, in one way.
 use Rattle.std.proofs.Common.{◌≡◌, ◌⊎◌, inl, inr, ◌<◌, ℕ, List, [], ◌∷◌, ◌++◌, length, Option, Some, None, Ok, Err, refl, sym, ap, ◌∙◌, subst, append_assoc, length-append, arith}
 use Rattle.om_format.specs.Front.{IsFront}
-use Rattle.om_outcome.specs.Outcome.{Request, Stop, says, stops}
+use Rattle.om_outcome.specs.Outcome.{Request, says, stops}
+use Rattle.om_outcome.specs.declared.stop.Stop.{Stop}
 use Rattle.om_choice.specs.Choice.{IsIdleAt}
 use Rattle.om_sighting.specs.Parts.{Part, bytes_of, part_bytes, AreRefused, IsStretch}
 use Rattle.om_sighting.proofs.FrontLemmas.{part_some, stretch_no_front}

@@ -3,7 +3,8 @@
 -- places are said, and at the end those of the bytes that are left, where a value that is cut is
 -- none.
 use Rattle.std.specs.Prelude.{ℕ, ◌+◌, ◌≡◌, true, List, [], ◌∷◌, ◌++◌, length, Option, Some, Result, Ok}
-use Rattle.om_outcome.specs.Outcome.{Request, Stop, Said, Reply, says, stops}
+use Rattle.om_outcome.specs.Outcome.{Request, Said, Reply, says, stops}
+use Rattle.om_outcome.specs.declared.stop.Stop.{Stop}
 use Rattle.om_sighting.specs.Parts.{Part, bytes_of, BeginNoValue, AreParts, IsStretch}
 use Rattle.om_sighting.specs.Places.{places_of, lines_of}
 use Rattle.om_promises.specs.Commands.{Item, value, text, Fetches, Commands}

@@ -1,12 +1,13 @@
 -- The account of a call, from what each stage gave.
-use Rattle.std.proofs.Common.{◌≡◌, ◌⊎◌, ℕ, zero, suc, Bool, true, List, Option, Ok, Err, inl, inr, refl, sym, ap, subst, arith}
+use Rattle.std.proofs.Common.{◌≡◌, ◌⊎◌, ℕ, zero, suc, Bool, true, List, Option, Result, Ok, Err, inl, inr, refl, sym, ap, subst}
 use Rattle.om_outcome.specs.declared.status.Status.{Status}
 use Rattle.std.specs.Borrow.{Bor}
-use Rattle.om_outcome.specs.Outcome.{Found, unfetched, AskedType, asked_type, Stop, bad_path, out_of_memory, Request, get, edit, dump, compare, Asks, ReadsTypeOf, ReadsScriptOf, dumps, compares}
+use Rattle.om_outcome.specs.Outcome.{Found, unfetched, AskedType, asked_with, Request, get, edit, dump, compare, Asks, ReadsTypeOf, ReadsScriptOf, dumps, compares}
 use Rattle.om_outcome.specs.declared.reading.Reading.{Reading}
 use Rattle.om_outcome.specs.declared.style.Style.{Style}
+use Rattle.om_outcome.specs.declared.stop.Stop.{Stop}
+use Rattle.om_outcome.specs.declared.stop.Stop.TheVariants.{BadPath as bad_path, Memory as out_of_memory}
 use Rattle.om_edge.specs.State.{ByteState, FilesState, Change, change}
-use Rattle.om_stops.specs.declared.stop.Stop as codes
 use Rattle.om_path.specs.Answer.{IsAnswer, UnlessMemory}
 use Rattle.om_path.specs.ScriptAnswer.{AreEdits, AreInTime}
 use Rattle.om_path.specs.declared.edits.Script.{Script}
@@ -22,27 +23,24 @@ use Rattle.om_session.specs.declared.verdict.Saying.{Saying}
 use Rattle.om_session.specs.declared.verdict.Speech.TheVariants as speeches
 use Rattle.om_promises.specs.Given.{Fetched}
 use Rattle.om_declared.specs.Language.{declared_types}
-use Rattle.om_stops.specs.Stops.{stop_of, Reports}
+use Rattle.om_stops.specs.Stops.{Reports}
 use Rattle.om_passing.specs.Asked.{passed_by}
 use Rattle.om_passing.specs.Skipping.{Passed}
 use Rattle.om_passing.proofs.FetchLemmas.{fetches_after}
 use Rattle.om_picking.specs.Asked.{picked_by}
 use Rattle.om_picking.proofs.FetchLemmas.{fetches_picked}
 use Rattle.om_session.specs.All.{on_values, on_values_picked, on_values_after}
+use Rattle.om_session.proofs.PartLemmas.{values_in_turns}
 use Rattle.om_session.specs.Telling.{passed_in, AsksToTell, AsksToEdit}
 use Rattle.om_declared.specs.Types.{type_over, IsPathStop, GivesType, GivesScript}
 use Rattle.om_session.specs.Values.{task_of}
 use Rattle.om_session.specs.Verdict.{saying_of}
-use Rattle.om_declared.proofs.TypeLemmas.{given_lines, path_refused}
+use Rattle.om_declared.proofs.ScriptLemmas.{script_in_time}
+use Rattle.om_declared.proofs.TypeLemmas.{given_decimal, given_lines, path_refused}
 use Rattle.om_commands.specs.Tasks.{by_turns, WantsFile, WantsScript}
 use Rattle.om_work.specs.Reported.{HasAccount}
 use Rattle.om_commands.proofs.FetchLemmas.{wants_file, wants_script, new_fetches}
-use Rattle.om_work.proofs.StopLemmas.{WantsInTurns, nothing_found, none_fetched as nothing_fetched, stop_account}
-
--- FILE and SCRIPT are wanted in two turns
-pub values_in_turns : WantsInTurns 2 on_values_after
-values_in_turns request files turn name (inl (first, wants)) = omega (arith, first)
-values_in_turns request files turn name (inr (second, wants)) = omega (arith, second)
+use Rattle.om_work.proofs.StopLemmas.{nothing_found, none_fetched as nothing_fetched, stop_account}
 
 -- ---- the values
 
@@ -63,12 +61,12 @@ none_fetched words = nothing_fetched on_values_after words 2 values_in_turns
 
 -- PATH is no path, or memory ran out for it
 pub path_account : (words : List (List ℕ)) (name type text : List ℕ) (style : Style) (lines : Bool) (reading : Reading) → Asks words (get name type text style lines reading)
-    → (fault : PathFault) → UnlessMemory (λ f. IsAnswer text (Err f)) fault → (stop : codes.Stop) → IsPathStop fault stop
+    → (fault : PathFault) → UnlessMemory (λ f. IsAnswer text (Err f)) fault → (stop : Stop) → IsPathStop fault stop
     → (input out : ByteState) (files : FilesState) (err : Change ByteState) (status : Status)
-    → Reports (stop_of stop) err status → Account on_values_after words (call (change input input) (change files files) (change out out) err status)
+    → Reports stop err status → Account on_values_after words (call (change input input) (change files files) (change out out) err status)
 path_account words name type text style lines reading asks fault refused stop is input out files err status r =
-    stop_account on_values_after words nothing_found input out (change files files) (none_fetched words files) err status (stop_of stop) (why is) r where
-      why : IsPathStop fault stop → Prepares on_values_after words nothing_found (Err (stop_of stop)) ⊎ (stop_of stop ≡ out_of_memory)
+    stop_account on_values_after words nothing_found input out (change files files) (none_fetched words files) err status stop (why is) r where
+      why : IsPathStop fault stop → Prepares on_values_after words nothing_found (Err stop) ⊎ (stop ≡ out_of_memory)
       why (inl (memory, is)) = inr is
       why (inr (some, is)) =
           inl (subst (λ s. Prepares on_values_after words nothing_found (Err s)) (sym is)
@@ -97,15 +95,15 @@ module _ (words : List (List ℕ)) (name : List ℕ) (type : AskedType) (saying 
   prepared_err : (s : Stop) → ReadsTypeOf declared_types (λ name. found) (name, type) (Err s) → Prepares on_values_after words all_found (Err s)
   prepared_err s reads = (Ok asks.request, asks.asks, (Err s, asks.finds (by_turns all_found) (Err s) (Err s, reads, refl), refl))
 
-  gives_err : (stop : codes.Stop) → GivesType name type found (Err stop) → Prepares on_values_after words all_found (Err (stop_of stop)) ⊎ (stop_of stop ≡ out_of_memory)
+  gives_err : (stop : Stop) → GivesType name type found (Err stop) → Prepares on_values_after words all_found (Err stop) ⊎ (stop ≡ out_of_memory)
   gives_err stop (inl reads) = inl (prepared_err _ reads)
   gives_err stop (inr memory) = inr memory
 
   -- there is no type
-  pub type_account : (stop : codes.Stop) → GivesType name type found (Err stop) → (input out : ByteState) (err : Change ByteState) (status : Status)
-      → Reports (stop_of stop) err status → Account on_values_after words (call (change input input) files (change out out) err status)
+  pub type_account : (stop : Stop) → GivesType name type found (Err stop) → (input out : ByteState) (err : Change ByteState) (status : Status)
+      → Reports stop err status → Account on_values_after words (call (change input input) files (change out out) err status)
   type_account stop gives input out err status r =
-      stop_account on_values_after words all_found input out files fetches err status (stop_of stop) (gives_err stop gives) r
+      stop_account on_values_after words all_found input out files fetches err status stop (gives_err stop gives) r
 
   -- this is told of the values at the type
   pub told_account : (t : Bor Requested) → GivesType name type found (Ok t.now) → (input out err : Change ByteState) (status : Status)
@@ -115,28 +113,28 @@ module _ (words : List (List ℕ)) (name : List ℕ) (type : AskedType) (saying 
 -- ---- SCRIPT
 
 -- FILE or TYPE is not read
-module _ (words : List (List ℕ)) (file type script : List ℕ) (compat lines : Bool) (reading : Reading) (asks : Asks words (edit file type script compat lines reading)) (files : Change FilesState) (found : Found)
+module _ (words : List (List ℕ)) (file type script : List ℕ) (compat lines decimal : Bool) (reading : Reading) (asks : Asks words (edit file type script compat lines decimal reading)) (files : Change FilesState) (found : Found)
     (fetched : Fetched files file found) where
   abbrev file_found : Fetches
   file_found = two_found found unfetched
 
-  file_wanted : WantsFile declared_types (edit file type script compat lines reading) file
-  file_wanted = record { has_path = tt; type = asked_type type lines; typed = refl }
+  file_wanted : WantsFile declared_types (edit file type script compat lines decimal reading) file
+  file_wanted = record { has_path = tt; type = asked_with type lines decimal; typed = refl }
 
   file_fetches : FetchesFor on_values_after words files file_found
   file_fetches =
       fetches_after passed_by on_values_picked words file_found files
       (fetches_picked picked_by on_values words file_found files
       (new_fetches declared_types words file_found files.before files.after files.after
-      (inl (file, wants_file declared_types words file_found (edit file type script compat lines reading) asks file file_wanted, fetched)) (inr (refl, λ name is. refl))))
+      (inl (file, wants_file declared_types words file_found (edit file type script compat lines decimal reading) asks file file_wanted, fetched)) (inr (refl, λ name is. refl))))
 
-  file_gives : (stop : codes.Stop) → GivesType file (asked_type type lines) found (Err stop) → Prepares on_values_after words file_found (Err (stop_of stop)) ⊎ (stop_of stop ≡ out_of_memory)
-  file_gives stop (inl reads) = inl (Ok (edit file type script compat lines reading), asks, (Err (stop_of stop), (Err (stop_of stop), reads, refl), refl))
+  file_gives : (stop : Stop) → GivesType file (asked_with type lines decimal) found (Err stop) → Prepares on_values_after words file_found (Err stop) ⊎ (stop ≡ out_of_memory)
+  file_gives stop (inl reads) = inl (Ok (edit file type script compat lines decimal reading), asks, (Err stop, (Err stop, reads, refl), refl))
   file_gives stop (inr memory) = inr memory
 
-  pub file_account : (stop : codes.Stop) → GivesType file (asked_type type lines) found (Err stop) → (input out : ByteState) (err : Change ByteState) (status : Status)
-      → Reports (stop_of stop) err status → Account on_values_after words (call (change input input) files (change out out) err status)
-  file_account stop gives input out err status r = stop_account on_values_after words file_found input out files file_fetches err status (stop_of stop) (file_gives stop gives) r
+  pub file_account : (stop : Stop) → GivesType file (asked_with type lines decimal) found (Err stop) → (input out : ByteState) (err : Change ByteState) (status : Status)
+      → Reports stop err status → Account on_values_after words (call (change input input) files (change out out) err status)
+  file_account stop gives input out err status r = stop_account on_values_after words file_found input out files file_fetches err status stop (file_gives stop gives) r
 
 -- they are, and SCRIPT comes next
 module _ (words : List (List ℕ)) (r : Bor Requested) (script : List ℕ) (compat : Bool) (reading : Reading) (a b c : FilesState) (asks : AsksToEdit words r.now script compat reading (change a b))
@@ -145,15 +143,15 @@ module _ (words : List (List ℕ)) (r : Bor Requested) (script : List ℕ) (comp
   both_found = two_found asks.found found
 
   abbrev request : Request
-  request = edit asks.file asks.type script compat asks.lines reading
+  request = edit asks.file asks.type script compat asks.lines asks.decimal reading
 
   edit_wanted : WantsFile declared_types request asks.file
-  edit_wanted = record { has_path = tt; type = asked_type asks.type asks.lines; typed = refl }
+  edit_wanted = record { has_path = tt; type = asked_with asks.type asks.lines asks.decimal; typed = refl }
 
   script_wanted : WantsScript declared_types request both_found script
   script_wanted = record {
     scripted = refl;
-    typed = (asks.file, asked_type asks.type asks.lines);
+    typed = (asks.file, asked_with asks.type asks.lines asks.decimal);
     is_typed = refl;
     type = type_over r.now;
     reads = asks.gives.0;
@@ -167,27 +165,31 @@ module _ (words : List (List ℕ)) (r : Bor Requested) (script : List ℕ) (comp
       (inl (asks.file, wants_file declared_types words both_found request asks.asks asks.file edit_wanted, asks.fetched))
       (inl (script, wants_script declared_types words both_found request asks.asks script script_wanted, fetched))))
 
-  -- places in SCRIPT are told as those in FILE and TYPE
-  same_lines : r.now.lines ≡ asks.lines
-  same_lines = given_lines asks.file (asked_type asks.type asks.lines) asks.found r.now asks.gives
+  -- places in SCRIPT are told as those in FILE and TYPE, and decimals are read as it was asked
+  as_asked : (result : Result (List ScriptLine) Stop) → ReadsScriptOf declared_types r.now.lines r.now.decimal (λ name. found) script result
+      → ReadsScriptOf declared_types asks.lines asks.decimal (λ name. found) script result
+  as_asked result reads =
+      let asked = asked_with asks.type asks.lines asks.decimal in
+      subst (λ d. ReadsScriptOf declared_types asks.lines d (λ name. found) script result) (given_decimal asks.file asked asks.found r.now asks.gives)
+      (subst (λ l. ReadsScriptOf declared_types l r.now.decimal (λ name. found) script result) (given_lines asks.file asked asks.found r.now asks.gives) reads)
 
-  script_gives : (stop : codes.Stop) → GivesScript r.now.lines script found (Err stop) → Prepares on_values_after words both_found (Err (stop_of stop)) ⊎ (stop_of stop ≡ out_of_memory)
+  script_gives : (stop : Stop) → GivesScript r.now.lines r.now.decimal script found (Err stop) → Prepares on_values_after words both_found (Err stop) ⊎ (stop ≡ out_of_memory)
   script_gives stop (inl reads) =
-      let told = subst (λ l. ReadsScriptOf declared_types l (λ name. found) script (Err (stop_of stop))) same_lines reads in
-      inl (Ok request, asks.asks, (Err (stop_of stop), (Ok (type_over r.now), asks.gives.0, (Err (stop_of stop), told, refl)), refl))
+      let told = as_asked (Err stop) reads in
+      inl (Ok request, asks.asks, (Err stop, (Ok (type_over r.now), asks.gives.0, (Err stop, told, refl)), refl))
   script_gives stop (inr memory) = inr memory
 
-  pub script_account : (stop : codes.Stop) → GivesScript r.now.lines script found (Err stop) → (input out : ByteState) (err : Change ByteState) (status : Status)
-      → Reports (stop_of stop) err status → Account on_values_after words (call (change input input) (change a c) (change out out) err status)
+  pub script_account : (stop : Stop) → GivesScript r.now.lines r.now.decimal script found (Err stop) → (input out : ByteState) (err : Change ByteState) (status : Status)
+      → Reports stop err status → Account on_values_after words (call (change input input) (change a c) (change out out) err status)
   script_account stop gives input out err status reports =
-      stop_account on_values_after words both_found input out (change a c) both_fetched err status (stop_of stop) (script_gives stop gives) reports
+      stop_account on_values_after words both_found input out (change a c) both_fetched err status stop (script_gives stop gives) reports
 
   -- the values are edited
-  pub edits_account : (s : Bor Script) → GivesScript r.now.lines script found (Ok s.now) → (input out err : Change ByteState) (status : Status)
+  pub edits_account : (s : Bor Script) → GivesScript r.now.lines r.now.decimal script found (Ok s.now) → (input out err : Change ByteState) (status : Status)
       → DoesJob (jobs.Edit (record { requested = r; script = s; compat = compat }) reading.limit) (record { bytes = reading.skip; copied = true }) reading.only input out err status → Account on_values_after words (call input (change a c) out err status)
   edits_account s gives input out err status does =
       let job = jobs.Edit (record { requested = r; script = s; compat = compat }) reading.limit in
-      let read = subst (λ l. ReadsScriptOf declared_types l (λ name. found) script (Ok s.now.lines)) same_lines gives in
+      let read = as_asked (Ok s.now.lines) gives in
       does words both_found (change a c) both_fetched
       (Ok request, asks.asks, (refl, (refl, (Ok (task_of job).work, (Ok (type_over r.now), asks.gives.0, (Ok s.now.lines, read, refl)), refl))))
 
@@ -203,6 +205,6 @@ module _ (words : List (List ℕ)) (reading : Reading) (files : FilesState) (inp
 -- ---- the lines
 
 -- the lines that a file gives copy from values before their own
-pub given_in_time : ((text : List ℕ) (lines : List ScriptLine) → AreEdits 1 text (Ok lines) → AreInTime lines) → (lines : Bool) (name : List ℕ) (found : Found) (script : Script) → GivesScript lines name found (Ok script) → AreInTime script.lines
-given_in_time law lines name found script (Ok text, read, is) = law text script.lines is
-given_in_time law lines name found script (Err stop, read, is) = absurd (cc is)
+pub given_in_time : ((text : List ℕ) (lines : List ScriptLine) → AreEdits 1 text (Ok lines) → AreInTime lines) → (lines decimal : Bool) (name : List ℕ) (found : Found) (script : Script) → GivesScript lines decimal name found (Ok script) → AreInTime script.lines
+given_in_time law lines decimal name found script (Ok text, read, is) = script_in_time law lines decimal text script.lines is
+given_in_time law lines decimal name found script (Err stop, read, is) = absurd (cc is)

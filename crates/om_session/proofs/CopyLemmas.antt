@@ -9,7 +9,8 @@ use Rattle.om_format.specs.Canonical.{canon}
 use Rattle.om_format.specs.Compat.{TooLargeFor32, too_large_for_32}
 use Rattle.om_format.specs.Stream.{SpellAll, clean}
 use Rattle.om_format.specs.Tree.{Tree, root, objects_of}
-use Rattle.om_outcome.specs.Outcome.{all_under, asked_type, edit, Stop, Said, nothing_said, says, Replies, replies, all_well, ending_of, edits, Task, task, AllSay, StopsAt, fetches_of, whole}
+use Rattle.om_outcome.specs.Outcome.{all_under, asked_with, edit, Said, nothing_said, says, Replies, replies, all_well, ending_of, edits, Task, task, AllSay, StopsAt, fetches_of, whole}
+use Rattle.om_outcome.specs.declared.stop.Stop.{Stop}
 use Rattle.om_edge.specs.Files.{File, contents_of}
 use Rattle.om_edge.specs.Sink.{Puts}
 use Rattle.om_edit.specs.Grafts.{Other}
@@ -114,7 +115,7 @@ module _ (once : HaveOneOutcome (commands declared_types)) (words : List (List â
   its_outcome input files are_bytes is = (
     Ok (its_task is.type_is is.compat is.limit),
     (
-      Ok (edit is.file is.type is.script is.compat is.lines (all_under is.limit)),
+      Ok (edit is.file is.type is.script is.compat is.lines is.decimal (all_under is.limit)),
       is.asks,
       (
         Ok (edits is.type_is [] is.compat),
@@ -124,14 +125,14 @@ module _ (once : HaveOneOutcome (commands declared_types)) (words : List (List â
     ),
     subst (Î» b. Answers (commands declared_types) (its_task is.type_is is.compat is.limit) (whole b) (said_all is.trees))
         (sym is.bytes)
-        (reply is.type_is is.compat is.limit (type_given declared_types (fetches_of (contents_of files)) is.file (asked_type is.type is.lines) is.type_is is.typed) is.trees is.canonical (subst AreBytes is.bytes are_bytes)),
+        (reply is.type_is is.compat is.limit (type_given declared_types (fetches_of (contents_of files)) is.file (asked_with is.type is.lines is.decimal) is.type_is is.typed) is.trees is.canonical (subst AreBytes is.bytes are_bytes)),
   )
 
   -- where the words ask to edit, what all commands promise is promised by those on values
   pub leaves_canonical : IsPart on_values_after IsOfValues â†’ Promises all_commands words call
       â†’ LeavesCanonical words call
   leaves_canonical part all input files honest some is =
-      let request = edit is.file is.type is.script is.compat is.lines (all_under is.limit) in
+      let request = edit is.file is.type is.script is.compat is.lines is.decimal (all_under is.limit) in
       let p = values_at_once part words call request is.asks tt refl refl all in
       let are_bytes : AreBytes input = rw honest.well_read.input_told at tells in
       let o = p.headline input files honest some in

@@ -1,6 +1,6 @@
 -- Values that are edited: the type, the lines, and the bytes.
 use Rattle.std.proofs.Common.{◌≡◌, ◌∙◌, ◌==◌, ◌≢◌, ◌<◌, ℕ, Bool, true, false, cond, List, [], ◌∷◌, length, Option, None, Some, Result, Ok, Err, inl, inr, refl, sym, ap, subst, lt-ltb, eq-eqb}
-use Rattle.std.specs.Prelude.{filter, IsErrAnd, OnOk, option_map, nat_lt, if◌then◌else◌}
+use Rattle.std.specs.Prelude.{filter, IsErrAnd, OnOk, option_map, nat_lt, if◌then◌else◌, codes}
 use Rattle.om_model.specs.declared.value.Val.{Val}
 use Rattle.om_model.specs.declared.value.Obj.{Obj}
 use Rattle.om_model.specs.Graph.{IsValue}
@@ -26,15 +26,15 @@ use Rattle.om_path.specs.declared.edits.ScriptLine.{ScriptLine}
 use Rattle.om_read.specs.declared.value.Value.{Value}
 use Rattle.om_outcome.specs.Outcome.{Unedited, untyped, refused_line, line_past, says, nothing_said, ends_script}
 use Rattle.om_outcome.specs.Outcome as outcome
+use Rattle.om_outcome.specs.declared.stop.Stop.{Stop}
+use Rattle.om_outcome.specs.declared.stop.Stop.TheVariants.{Script as script_line}
 use Rattle.om_session.specs.declared.edit.Edits.{Edits}
 use Rattle.om_stops.specs.declared.stop.Halt.{Halt}
 use Rattle.om_stops.specs.declared.stop.Halt.TheVariants as halts
-use Rattle.om_stops.specs.declared.stop.Stop.{Stop}
-use Rattle.om_stops.specs.declared.stop.Stop.TheVariants as stops
+use Rattle.om_stops.specs.Stops.{IsOrMemory}
 use Rattle.om_declared.specs.declared.types.Requested.{Requested}
 use Rattle.om_session.specs.Edits.{Edit, EditsOn, IsReasonStop, IsRefusedLine, EditsLine, EditsAll, EditsLines, PutsEdited, AnswersOf, IsPast}
 use Rattle.om_declared.specs.Language.{declared_types, AreBytesOf, lines_of_value}
-use Rattle.om_stops.specs.Stops.{stop_of}
 use Rattle.om_declared.specs.Types.{IsReady}
 use Rattle.om_session.specs.Values.{EndsScript}
 use Rattle.om_promises.proofs.PutLemmas.{puts_nothing}
@@ -65,7 +65,7 @@ module _ (r : Requested) (others : List Other) (k : ℕ) (line : ScriptLine) whe
         goes_on = λ rest all edits. own_line rest all (Ok edited, is, subst (λ (e : List Obj × Val). Edit r others (lines_of_value k rest) e.0 e.1 all) same edits);
       }
 
-    pub line_refused : (reason : Reason ℕ) (stop : Stop) → stop_of stop ≡ outcome.script_line line.number (reason_text (text_at r.table) (place_on r.lines line.number) reason) → IsLineAnswerIn r.table others line.action old.heap old.root (Err reason)
+    pub line_refused : (reason : Reason ℕ) (stop : Stop) → stop ≡ script_line line.number (reason_text (text_at r.table) (place_on r.lines line.number) reason) → IsLineAnswerIn r.table others line.action old.heap old.root (Err reason)
         → IsRefusedLine r others k line old stop
     line_refused reason stop told is = at (alike r.decls r.ty r.table ready.made others line.action old.heap old.root (Err reason) is) where
       at : (other : Answer Ty) × IsDeclaredLine r.decls r.ty others line.action old.heap old.root other × SayTheSame r.table (Err reason) other → IsRefusedLine r others k line old stop
@@ -73,7 +73,7 @@ module _ (r : Requested) (others : List Other) (k : ℕ) (line : ScriptLine) whe
       at (Err other, is, same) = (
         other,
         (λ rest. own_line rest (Err (line.number, other)) (Err other, is, refl)),
-        told ∙ ap (λ t. outcome.script_line line.number t) (same (place_on r.lines line.number)),
+        told ∙ ap (λ t. script_line line.number t) (same (place_on r.lines line.number)),
       )
 
     -- a line is refused for the reason that is told
@@ -101,11 +101,11 @@ type_told refusal fault is = (ill_typed fault, ap reason_of is)
 
 -- the reason of a refusal that is not for out of memory is told
 pub reason_stop : (r : Requested) (number : ℕ) (refusal : EditRefusal) (text : List ℕ) → (reason : Reason ℕ) × (reason_of refusal ≡ Some reason) → text ≡ reason_or_none (text_at r.table) (place_on r.lines number) (reason_of refusal)
-    → IsReasonStop r number (reason_of refusal) (stops.Script number text)
+    → IsReasonStop r number (reason_of refusal) (script_line number text)
 reason_stop r number refusal text (reason, is) spelled = at (reason_of refusal) is spelled where
-  at : (told : Option (Reason ℕ)) → told ≡ Some reason → text ≡ reason_or_none (text_at r.table) (place_on r.lines number) told → IsReasonStop r number told (stops.Script number text)
+  at : (told : Option (Reason ℕ)) → told ≡ Some reason → text ≡ reason_or_none (text_at r.table) (place_on r.lines number) told → IsReasonStop r number told (script_line number text)
   at None is spelled = absurd (cc is)
-  at (Some other) is spelled = ap (λ t. outcome.script_line number t) spelled
+  at (Some other) is spelled = ap (λ t. script_line number t) spelled
 
 -- what the lines so far made goes on to what all make
 pub record EditedSoFar (r : Requested) (others : List Other) (k : ℕ) (lines rest : List ScriptLine) (old value : Value) : Type 0 where
@@ -209,12 +209,14 @@ module _ (e : Edits) (trees : List Tree) (well : Bool) (n : ℕ) (counted : n �
     at None same none = sym (ap (ends_script declared_types) same)
     at (Some line) same none = let no : ◌≡◌ {A = Option ℕ} None (Some line.number) = none ∙ ap (option_map (λ line. line.number)) same in absurd (cc no)
 
-  pub script_past : (number : ℕ) → IsPast lines n (Some number) → EndsScript e trees well (Err (halts.Stop (stops.NoValue number)))
-  script_past number is = at (line_past declared_types e.script.now.lines (length trees)) refl (past_is (Some number) is) where
-    at : (line : Option ScriptLine) → line_past declared_types e.script.now.lines (length trees) ≡ line → Some number ≡ option_map (λ line. line.number) (line_past declared_types e.script.now.lines (length trees))
-        → outcome.stops (stop_of (stops.NoValue number)) ≡ ends_script declared_types (line_past declared_types e.script.now.lines (length trees))
-    at None same none = let no : ◌≡◌ {A = Option ℕ} (Some number) None = none ∙ ap (option_map (λ line. line.number)) same in absurd (cc no)
-    at (Some line) same some =
-        let told : ◌≡◌ {A = Option ℕ} (Some number) (Some line.number) = some ∙ ap (option_map (λ line. line.number)) same in
-        let is : number ≡ line.number = cc told in
-        ap (λ m. outcome.stops (stop_of (stops.NoValue m))) is ∙ sym (ap (ends_script declared_types) same)
+  pub script_past : (number : ℕ) → IsPast lines n (Some number) → (stop : Stop) → IsOrMemory (script_line number (codes "NoValue")) stop → EndsScript e trees well (Err (halts.Stop stop))
+  script_past number is stop (inr memory) = inr memory
+  script_past number is stop (inl told) =
+      inl (ap (λ s. outcome.stops s) told ∙ at (line_past declared_types e.script.now.lines (length trees)) refl (past_is (Some number) is)) where
+        at : (line : Option ScriptLine) → line_past declared_types e.script.now.lines (length trees) ≡ line → Some number ≡ option_map (λ line. line.number) (line_past declared_types e.script.now.lines (length trees))
+            → outcome.stops (script_line number (codes "NoValue")) ≡ ends_script declared_types (line_past declared_types e.script.now.lines (length trees))
+        at None same none = let no : ◌≡◌ {A = Option ℕ} (Some number) None = none ∙ ap (option_map (λ line. line.number)) same in absurd (cc no)
+        at (Some line) same some =
+            let told : ◌≡◌ {A = Option ℕ} (Some number) (Some line.number) = some ∙ ap (option_map (λ line. line.number)) same in
+            let is : number ≡ line.number = cc told in
+            ap (λ m. outcome.stops (script_line m (codes "NoValue"))) is ∙ sym (ap (ends_script declared_types) same)

@@ -33,13 +33,15 @@ use Rattle.om_glance.specs.Glance.{IsTypedNext, Glances}
 use Rattle.om_outcome.specs.RefusalText.{truncated_text}
 use Rattle.om_outcome.specs.Outcome as outcome
 use Rattle.om_outcome.specs.Outcome.{Said, Says, SayFirst, Unedited, line, all_well}
+use Rattle.om_outcome.specs.declared.stop.Stop.{Stop}
+use Rattle.om_outcome.specs.declared.stop.Stop.TheVariants.{Value as value}
 use Rattle.om_commands.specs.Tasks.{items_of, commands}
 use Rattle.om_commands.proofs.FirstLemmas.{says_first, front_end, goes_on}
 use Rattle.om_promises.specs.Account.{HoldNoStop}
 use Rattle.om_promises.proofs.PutLemmas.{puts_nothing}
 use Rattle.om_promises.proofs.ValueLemmas.{not_whole, nothing_front, first_more, first_after, and_true, all_well-snoc}
 use Rattle.om_stops.specs.declared.stop.Halt.TheVariants as halts
-use Rattle.om_stops.specs.declared.stop.Stop.TheVariants as stops
+use Rattle.om_stops.specs.Stops.{IsOrMemory}
 use Rattle.om_work.specs.Works.{HaltsIn, PutsLast}
 use Rattle.om_declared.specs.Language.{declared_types, lines_of_value, bytes_for}
 use Rattle.om_declared.specs.Types.{type_over, IsReady}
@@ -118,10 +120,11 @@ module _ (w : Job) (before : List ℕ) (said : List Said) (values : Values) (h :
       }
 
   -- the input ends with it
-  pub ends_kept : 0 < length kept → (o : ByteState)
-      → PutsLast (commands declared_types) (task_of w) said (items_of h.trees) kept (change o o) (Err (halts.Stop (stops.Cut values.count (length kept))))
-  ends_kept some o =
-      let is : outcome.value values.count (truncated_text (length kept)) ≡ outcome.value (length h.trees) (truncated_text (length kept)) = ap (λ n. outcome.value n (truncated_text (length kept))) h.counted in (
+  pub ends_kept : 0 < length kept → (o : ByteState) (stop : Stop) → IsOrMemory (value values.count (truncated_text (length kept))) stop
+      → PutsLast (commands declared_types) (task_of w) said (items_of h.trees) kept (change o o) (Err (halts.Stop stop))
+  ends_kept some o stop (inr memory) = (inr memory, puts_nothing o)
+  ends_kept some o stop (inl told) =
+      let is : stop ≡ value (length h.trees) (truncated_text (length kept)) = told ∙ ap (λ n. value n (truncated_text (length kept))) h.counted in (
         inl (record {
           trees = h.trees;
           are = refl;

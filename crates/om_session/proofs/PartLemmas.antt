@@ -74,7 +74,7 @@ of_values_others : (request : Request) → IsOfValues request
     × (searched_by request ≡ None) × (generated_by request ≡ None)
 of_values_others (tell saying file type lines reading) of = (refl, refl, refl, refl, refl)
 of_values_others (get file type path style lines reading) of = (refl, refl, refl, refl, refl)
-of_values_others (edit file type script compat lines reading) of = (refl, refl, refl, refl, refl)
+of_values_others (edit file type script compat lines decimal reading) of = (refl, refl, refl, refl, refl)
 of_values_others (dump reading) of = (refl, refl, refl, refl, refl)
 of_values_others (compare reading) of = (refl, refl, refl, refl, refl)
 of_values_others (own request) of = absurd of
@@ -82,8 +82,8 @@ of_values_others (own request) of = absurd of
 of_texts_others : (request : Request) → IsOfTexts request
     → IsIdleAt on_values_after request × (verified_by request ≡ None) × (certified_by request ≡ None)
     × (searched_by request ≡ None) × (generated_by request ≡ None)
-of_texts_others (own (build file type lines)) of =
-    (values_after_idle (build file type lines), refl, refl, refl, refl)
+of_texts_others (own (build file type lines decimal)) of =
+    (values_after_idle (build file type lines decimal), refl, refl, refl, refl)
 of_texts_others request of = absurd of
 
 of_certificates_others : (request : Request) → IsOfCertificates request

@@ -9,13 +9,16 @@ use Rattle.om_section.proofs.HeadLemmas.{no_bytes, some_bytes}
 use Rattle.om_type_table.specs.Made.{table_of}
 use Rattle.om_stops.specs.declared.stop.Halt.{Halt}
 use Rattle.om_stops.specs.declared.stop.Halt.TheVariants as halts
-use Rattle.om_stops.specs.declared.stop.Stop.TheVariants as stops
+use Rattle.om_stops.specs.Stops.{IsOrMemory}
 use Rattle.om_promises.specs.Account.{HoldNoStop}
 use Rattle.om_promises.specs.Commands.{Commands}
 use Rattle.om_promises.proofs.PutLemmas.{puts_nothing}
 use Rattle.om_work.specs.Works.{Has, HaltsIn, Feeds, PutsLast}
 use Rattle.om_commands.specs.Tasks.{commands}
 use Rattle.om_outcome.specs.Outcome.{Said}
+use Rattle.om_outcome.specs.RefusalText.{truncated_text}
+use Rattle.om_outcome.specs.declared.stop.Stop.{Stop}
+use Rattle.om_outcome.specs.declared.stop.Stop.TheVariants.{Value as value, Memory as out_of_memory}
 use Rattle.om_declared.specs.Language.{declared_types}
 use Rattle.om_declared.specs.Types.{IsReady}
 use Rattle.om_declared.specs.declared.types.Requested.{Requested}
@@ -112,19 +115,19 @@ module _ (w : Job) (values : Values) (g : Glance) (taken : List ℕ) (said : Lis
       (kept_front w values g h.glanced)
 
   -- memory ran out
-  pub memory_halts_taken : (in_hand : List ℕ) (o : ByteState) → HaltsIn (commands declared_types) (task_of w) taken in_hand said (change o o) (halts.Stop stops.Memory)
+  pub memory_halts_taken : (in_hand : List ℕ) (o : ByteState) → HaltsIn (commands declared_types) (task_of w) taken in_hand said (change o o) (halts.Stop out_of_memory)
   memory_halts_taken in_hand o = (holds_taken, inr refl, puts_nothing o)
 
   -- the input ends within a value
-  pub ends_taken : 0 < length g.kept.items → (o : ByteState)
-      → (holds : HoldNoStop (commands declared_types) (task_of w) taken said) × PutsLast (commands declared_types) (task_of w) said holds.items holds.rest (change o o) (Err (halts.Stop (stops.Cut values.count (length g.kept.items))))
-  ends_taken some o = ⊎_elim
+  pub ends_taken : 0 < length g.kept.items → (o : ByteState) (stop : Stop) → IsOrMemory (value values.count (truncated_text (length g.kept.items))) stop
+      → (holds : HoldNoStop (commands declared_types) (task_of w) taken said) × PutsLast (commands declared_types) (task_of w) said holds.items holds.rest (change o o) (Err (halts.Stop stop))
+  ends_taken some o stop told = ⊎_elim
       (λ none. let size : length g.kept.items ≡ 0 = ap length none in absurd (omega (arith, some, size)))
       (λ (k : IsKeptFront w values g).
       let may = k.may (length h.read.trees) in
-      subst (λ bytes. (holds : HoldNoStop (commands declared_types) (task_of w) bytes said) × PutsLast (commands declared_types) (task_of w) said holds.items holds.rest (change o o) (Err (halts.Stop (stops.Cut values.count (length g.kept.items)))))
+      subst (λ bytes. (holds : HoldNoStop (commands declared_types) (task_of w) bytes said) × PutsLast (commands declared_types) (task_of w) said holds.items holds.rest (change o o) (Err (halts.Stop stop)))
       (sym h.whole)
-      (holds_kept w h.before said values h.read k.between g.kept.items may k.bytes k.is_front, ends_kept w h.before said values h.read k.between g.kept.items may k.bytes k.is_front some o))
+      (holds_kept w h.before said values h.read k.between g.kept.items may k.bytes k.is_front, ends_kept w h.before said values h.read k.between g.kept.items may k.bytes k.is_front some o stop told))
       (kept_front w values g h.glanced)
 
   -- the reader takes what was kept

@@ -37,25 +37,26 @@ use Rattle.om_promises.proofs.StreamLemmas.{value_or_tail}
 use Rattle.om_promises.proofs.LengthLemmas.{spelled_some}
 use Rattle.om_outcome.specs.RefusalText.{truncated_text}
 use Rattle.om_outcome.specs.Outcome as outcome
-use Rattle.om_outcome.specs.Outcome.{Said, Says, AllSay, SayFirst, StopsAt, Finishes as FinishesRun, nothing_said, says, not_two_values, out_of_memory, comparison, all_well, compares}
+use Rattle.om_outcome.specs.Outcome.{Said, Says, AllSay, SayFirst, StopsAt, Finishes as FinishesRun, nothing_said, says, comparison, all_well, compares}
+use Rattle.om_outcome.specs.declared.stop.Stop.{Stop}
+use Rattle.om_outcome.specs.declared.stop.Stop.TheVariants.{NotTwoValues as not_two_values, Memory as out_of_memory}
+use Rattle.om_outcome.specs.declared.stop.Stop.TheVariants as stops
 use Rattle.om_session.specs.declared.verdict.Speech.{Speech}
 use Rattle.om_session.specs.declared.verdict.Speech.TheVariants as speeches
 use Rattle.om_session.specs.declared.values.Values.{Values}
 use Rattle.om_stops.specs.declared.stop.Halt.TheVariants as halts
-use Rattle.om_stops.specs.declared.stop.Stop.TheVariants as stops
+use Rattle.om_stops.specs.Stops.{IsOrMemory, IsStopOf}
 use Rattle.om_declared.specs.Language.{declared_types, lines_of_value, AreDone, AreBytesIn}
 use Rattle.om_declared.specs.Types.{type_over}
 use Rattle.om_declared.proofs.DoneLemmas.{done_length, done_more}
 use Rattle.om_session.specs.Verdict.{work_by, IsSaidOf}
 use Rattle.om_promises.specs.Account.{HoldNoStop}
-use Rattle.om_stops.specs.Stops.{stop_of}
-use Rattle.om_stops.specs.declared.stop.Stop.{Stop}
 use Rattle.om_format.specs.Front.{IsRefused}
 use Rattle.om_read.specs.Reading.{RefusedIn}
 use Rattle.om_read.proofs.ReadingLemmas.{unless_memory}
 use Rattle.om_session.specs.declared.values.Job.{Job}
 use Rattle.om_session.specs.declared.values.Job.TheVariants as jobs
-use Rattle.om_session.specs.Values.{IsStopOf, IsReadyJob, IsFull, MayTake, AreValues, IsKept, HasRead, IsValueRead, PutsNext, last_well, PutsComparison, Compares, EndsScript, work_of, task_of, word_limit}
+use Rattle.om_session.specs.Values.{IsReadyJob, IsFull, MayTake, AreValues, IsKept, HasRead, IsValueRead, PutsNext, last_well, PutsComparison, Compares, EndsScript, work_of, task_of, word_limit}
 use Rattle.om_session.proofs.EarlierLemmas.{none_needed}
 use Rattle.om_promises.proofs.PutLemmas.{puts_nothing}
 use Rattle.om_promises.proofs.ValueLemmas.{not_whole, nothing_front, first_none, first_more, first_after, silent, and_true, all_well-snoc}
@@ -68,7 +69,7 @@ front_or_value limit rest more tree are_bytes front (first, after, same, spelled
     value_or_tail one_judgement_lem limit first after rest tree (cut (length rest)) are_bytes spelled same (omega (arith, some, size), refl, front)
 
 -- where one more value may come, a front of one stops nothing
-pub front_goes_on : (w : Job) (limit : ℕ) (trees : List Tree) (rest : List ℕ) (stop : outcome.Stop) → MayTake w (length trees) → AreBytes rest → IsFront limit rest
+pub front_goes_on : (w : Job) (limit : ℕ) (trees : List Tree) (rest : List ℕ) (stop : Stop) → MayTake w (length trees) → AreBytes rest → IsFront limit rest
     → StopsAt declared_types (work_of w) limit trees rest stop → ⊥
 front_goes_on (jobs.Say (speeches.Tell r saying) most) limit trees rest stop may are_bytes front at = at
 front_goes_on (jobs.Say speeches.Dump most) limit trees rest stop may are_bytes front at = at
@@ -76,7 +77,7 @@ front_goes_on (jobs.Edit e most) limit trees rest stop may are_bytes front at = 
 front_goes_on (jobs.Compare most) limit trees rest stop may are_bytes front at = let two = at.0 in omega (arith, may, two)
 
 -- and where none come, nothing stops the run
-pub none_goes_on : (w : Job) (limit : ℕ) (trees : List Tree) (stop : outcome.Stop) → StopsAt declared_types (work_of w) limit trees [] stop → ⊥
+pub none_goes_on : (w : Job) (limit : ℕ) (trees : List Tree) (stop : Stop) → StopsAt declared_types (work_of w) limit trees [] stop → ⊥
 none_goes_on (jobs.Say (speeches.Tell r saying) most) limit trees stop at = at
 none_goes_on (jobs.Say speeches.Dump most) limit trees stop at = at
 none_goes_on (jobs.Edit e most) limit trees stop at =
@@ -184,10 +185,12 @@ module _ (w : Job) (taken : List ℕ) (said : List Said) (values : Values) (h : 
     none (inr (tree, spelled)) = absurd (not_whole (word_limit w) h.front tree h.leads.bytes h.is_front spelled)
 
   -- or within one
-  pub ends_cut : (truncated : Truncated) → EndsInput {U = Unit {0}} (word_limit w) h.front (Err truncated) → (o : ByteState) → Ends (change o o) (Err (halts.Stop (stops.Cut values.count truncated.taken)))
-  ends_cut truncated within o =
-      let is : outcome.value values.count (truncated_text truncated.taken) ≡ outcome.value (length h.trees) (truncated_text (length h.front)) =
-      ap (λ n. outcome.value n (truncated_text truncated.taken)) h.counted ∙ ap (λ n. outcome.value (length h.trees) (truncated_text n)) within.0 in (
+  pub ends_cut : (truncated : Truncated) → EndsInput {U = Unit {0}} (word_limit w) h.front (Err truncated) → (o : ByteState) (stop : Stop)
+      → IsOrMemory (stops.Value values.count (truncated_text truncated.taken)) stop → Ends (change o o) (Err (halts.Stop stop))
+  ends_cut truncated within o stop (inr memory) = (inr memory, puts_nothing o)
+  ends_cut truncated within o stop (inl told) =
+      let is : stop ≡ stops.Value (length h.trees) (truncated_text (length h.front)) =
+      told ∙ (ap (λ n. stops.Value n (truncated_text truncated.taken)) h.counted ∙ ap (λ n. stops.Value (length h.trees) (truncated_text n)) within.0) in (
         inl (record {
           trees = h.trees;
           are = refl;
@@ -228,7 +231,7 @@ ends_compared most taken said values h end out (Ok well) (final, finishes, is, p
   put,
 )
 ends_compared most taken said values h end out (Err (halts.Stop stop)) (inl finishes, none) =
-    (inl (ends_clean (jobs.Compare most) taken said values h end (outcome.stops (stop_of stop)) finishes), none)
+    (inl (ends_clean (jobs.Compare most) taken said values h end (outcome.stops stop) finishes), none)
 ends_compared most taken said values h end out (Err (halts.Stop stop)) (inr memory, none) = (inr memory, none)
 ends_compared most taken said values h end out (Err halts.WriteFault) (final, finishes, part) =
     (final, ends_clean (jobs.Compare most) taken said values h end (says final) finishes, part)
@@ -237,8 +240,9 @@ ends_compared most taken said values h end out (Err halts.WriteFault) (final, fi
 ends_edited : (e : Edits) (most : ℕ) (taken : List ℕ) (said : List Said) (values : Values) (h : HasRead (jobs.Edit e most) values taken said) → EndsInput {U = Unit {0}} most h.front (Ok tt) → (o : ByteState)
     (result : Result Bool Halt) → EndsScript e h.trees values.well result → Ends (jobs.Edit e most) taken said values h (change o o) result
 ends_edited e most taken said values h end o (Ok well) (finishes, same) = silent_end (jobs.Edit e most) taken said values h end finishes o well same
-ends_edited e most taken said values h end o (Err (halts.Stop stop)) finishes =
-    (inl (ends_clean (jobs.Edit e most) taken said values h end (outcome.stops (stop_of stop)) finishes), puts_nothing o)
+ends_edited e most taken said values h end o (Err (halts.Stop stop)) (inr memory) = (inr memory, puts_nothing o)
+ends_edited e most taken said values h end o (Err (halts.Stop stop)) (inl finishes) =
+    (inl (ends_clean (jobs.Edit e most) taken said values h end (outcome.stops stop) finishes), puts_nothing o)
 ends_edited e most taken said values h end o (Err halts.WriteFault) never = absurd never
 
 -- the same, where the work is known by an equation
@@ -422,7 +426,7 @@ room_for_one w taken said values v short =
 
 -- the run stops at these bytes after the values, or memory ran out
 abbrev StopsIn : Job → List Tree → List ℕ → Stop → Type 0
-StopsIn w trees rest stop = StopsHere declared_types (task_of w) (items_of trees) rest (stop_of stop) ⊎ (stop_of stop ≡ out_of_memory)
+StopsIn w trees rest stop = StopsHere declared_types (task_of w) (items_of trees) rest stop ⊎ (stop ≡ out_of_memory)
 
 may_come : (w : Job) (n : ℕ) → MayTake w n → MayCome declared_types (work_of w) n
 may_come (jobs.Say (speeches.Tell r saying) most) n may = tt
@@ -433,7 +437,7 @@ may_come (jobs.Compare most) n may = may
 -- what is refused in hand stops the run, or memory ran out
 pub stops_in : (w : Job) (trees : List Tree) (rest : List ℕ) (refusal : ReadRefusal) (stop : Stop) → MayTake w (length trees) → RefusedIn (word_limit w) rest refusal → IsStopOf (length trees) refusal stop
     → StopsIn w trees rest stop
-stops_in w trees rest refusal stop may r (inl (memory, is)) = inr is
+stops_in w trees rest refusal stop may r (inl memory) = inr memory
 stops_in w trees rest refusal stop may r (inr (some, is)) =
     elim ((unless_memory refusal ((n : ℕ) × (n ≤ length rest) × IsRefused (word_limit w) (take n rest) refusal)).1 r) [
       | inl e ↦ absurd (some e)
@@ -445,7 +449,7 @@ stops_in w trees rest refusal stop may r (inr (some, is)) =
     ]
 
 -- any byte after two values does
-pub full_stops : (w : Job) (trees : List Tree) (front rest : List ℕ) → IsFull w (length trees) → 0 < length rest → StopsIn w trees (front ++ rest) stops.NotTwoValues
+pub full_stops : (w : Job) (trees : List Tree) (front rest : List ℕ) → IsFull w (length trees) → 0 < length rest → StopsIn w trees (front ++ rest) not_two_values
 full_stops (jobs.Say speech most) trees front rest full some = absurd full
 full_stops (jobs.Edit e most) trees front rest full some = absurd full
 full_stops (jobs.Compare most) trees front rest full some =
@@ -465,9 +469,9 @@ module _ (w : Job) (taken : List ℕ) (said : List Said) (values : Values) (h : 
       → Halts (change a b) halt
   next_halts n a b new (halts.Stop stop) (inl memory, none) = stops_now stop (inr memory) a b none
   next_halts n a b new (halts.Stop stop) (inr at, none) =
-      let more = stops_more declared_types (work_of w) (word_limit w) h.trees (h.front ++ take n rest) (drop n rest) (stop_of stop) at in
+      let more = stops_more declared_types (work_of w) (word_limit w) h.trees (h.front ++ take n rest) (drop n rest) stop at in
       let all : (h.front ++ take n rest) ++ drop n rest ≡ h.front ++ rest = append_assoc h.front (take n rest) (drop n rest) ∙ ap (λ r. h.front ++ r) (take-append-drop n rest) in
-      let here : StopsAt declared_types (work_of w) (word_limit w) h.trees (h.front ++ rest) (stop_of stop) = subst (λ b. StopsAt declared_types (work_of w) (word_limit w) h.trees b (stop_of stop)) all more in
+      let here : StopsAt declared_types (work_of w) (word_limit w) h.trees (h.front ++ rest) stop = subst (λ b. StopsAt declared_types (work_of w) (word_limit w) h.trees b stop) all more in
       stops_now stop (inl (record { trees = h.trees; are = refl; why = inl here })) a b none
   next_halts n a b new halts.WriteFault (next, (trees, left, first), part) =
       let all : (taken ++ take n rest) ++ drop n rest ≡ taken ++ rest = append_assoc taken (take n rest) (drop n rest) ∙ ap (λ r. taken ++ r) (take-append-drop n rest) in
@@ -482,7 +486,7 @@ module _ (w : Job) (taken : List ℕ) (said : List Said) (values : Values) (h : 
 
 -- memory ran out, by `?`
 pub memory_halts : (w : Job) (taken : List ℕ) (said : List Said) (trees : List Tree) (whole : List ℕ) (o : ByteState) (new : Values) (result : Result (Unit {0}) Halt)
-    → IsErrAnd result (λ h. h ≡ halts.Stop stops.Memory) → PutsNext {U = Unit {0}} w taken said trees whole (change o o) new result
+    → IsErrAnd result (λ h. h ≡ halts.Stop out_of_memory) → PutsNext {U = Unit {0}} w taken said trees whole (change o o) new result
 memory_halts w taken said trees whole o new (Ok unit) is = absurd is
 memory_halts w taken said trees whole o new (Err h) is = subst (λ h. PutsNext {U = Unit {0}} w taken said trees whole (change o o) new (Err h)) (sym is) (inl refl, puts_nothing o)
 
@@ -555,7 +559,7 @@ module _ (e : Edits) (most : ℕ) (taken : List ℕ) (said : List Said) (values 
       spelled = (v.whole, [], sym (append-nil v.whole), f.spelled, refl);
       why = why;
       refused = answered (Err why) it;
-      stops = subst (λ k. stop_of stop ≡ outcome.unedited_stop k why) v.counted is;
+      stops = subst (λ k. stop ≡ outcome.unedited_stop k why) v.counted is;
     }),
     none,
   )

@@ -6,12 +6,12 @@ use Rattle.om_model.specs.declared.value.Obj.{Obj}
 use Rattle.om_edge.specs.Sink.{Puts, PutsPart}
 use Rattle.om_edge.specs.State.{ByteState, Change}
 use Rattle.om_outcome.specs.Outcome.{Said}
+use Rattle.om_outcome.specs.declared.stop.Stop.TheVariants.{Memory as out_of_memory}
 use Rattle.om_read.specs.declared.reader.Reader.{Reader}
 use Rattle.om_read.specs.declared.value.Value.{Value}
 use Rattle.om_read.specs.Reader.{Leads, Finishes}
 use Rattle.om_stops.specs.declared.stop.Halt.{Halt}
 use Rattle.om_stops.specs.declared.stop.Halt.TheVariants as halts
-use Rattle.om_stops.specs.declared.stop.Stop.TheVariants as stops
 use Rattle.om_session.specs.declared.values.Values.{Values}
 use Rattle.om_session.specs.declared.values.Job.TheVariants as jobs
 use Rattle.om_session.specs.declared.verdict.Speech.{Speech}
@@ -22,7 +22,7 @@ use Rattle.om_session.proofs.ReadLemmas.{says_read, value_said, value_put}
 
 module _ (speech : Speech) (graph : List Obj) (root : Val) (out : Change ByteState) where
   -- memory ran out, by `?`
-  pub said_memory : (result : Result Bool Halt) → IsErrAnd result (λ h. h ≡ halts.Stop stops.Memory) → Puts out [] → PutsSaid speech graph root out result
+  pub said_memory : (result : Result Bool Halt) → IsErrAnd result (λ h. h ≡ halts.Stop out_of_memory) → Puts out [] → PutsSaid speech graph root out result
   said_memory (Ok well) is none = absurd is
   said_memory (Err halt) is none = subst (λ h. PutsSaid speech graph root out (Err h)) (sym is) (refl, none)
 

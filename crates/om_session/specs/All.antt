@@ -88,7 +88,7 @@ IsOfValues (own request) = ⊥
 IsOfValues request = Unit {0}
 
 abbrev pub IsOfTexts : Request → Type 0
-IsOfTexts (own (build file type lines)) = Unit {0}
+IsOfTexts (own (build file type lines decimal)) = Unit {0}
 IsOfTexts request = ⊥
 
 abbrev pub IsOfCertificates : Request → Type 0

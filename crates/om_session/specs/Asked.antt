@@ -27,4 +27,4 @@ pub record AsksForLines (words : List (List ℕ)) (r : Requested) (script : Scri
   pub asks : AsksToEdit words r name compat reading (change files.before between)
   pub found : Found
   pub fetched : Fetched (change between files.after) name found
-  pub gives : GivesScript r.lines name found (Ok script)
+  pub gives : GivesScript r.lines r.decimal name found (Ok script)

@@ -8,7 +8,7 @@ use Rattle.om_format.specs.Compat.{too_large_for_32}
 use Rattle.om_format.specs.Spelled.{SpelledUnder}
 use Rattle.om_format.specs.Tree.{Tree, root, objects_of}
 use Rattle.om_outcome.specs.declared.status.Status.TheVariants.{Well, Memory}
-use Rattle.om_outcome.specs.Outcome.{all_under, asked_type, edit, Asks, ReadsTypeOf, ReadsScriptOf, fetches_of}
+use Rattle.om_outcome.specs.Outcome.{all_under, asked_with, edit, Asks, ReadsTypeOf, ReadsScriptOf, fetches_of}
 use Rattle.om_edge.specs.Files.{File, contents_of}
 use Rattle.om_edge.specs.Sink.{Puts}
 use Rattle.om_promises.specs.Call.{Call}
@@ -30,13 +30,14 @@ pub record IsLeftAlone (words : List (List ℕ)) (input : List ℕ) (files : Lis
   pub script : List ℕ
   pub compat : Bool
   pub lines : Bool
+  pub decimal : Bool
   pub limit : ℕ
-  pub asks : Asks words (edit file type script compat lines (all_under limit))
+  pub asks : Asks words (edit file type script compat lines decimal (all_under limit))
   pub type_is : TypeOver
   pub typed : ReadsTypeOf declared_types (fetches_of (contents_of files)).file
-      (file, asked_type type lines) (Ok type_is)
-  pub no_line : ReadsScriptOf declared_types lines (fetches_of (contents_of files)).script script
-      (Ok [])
+      (file, asked_with type lines decimal) (Ok type_is)
+  pub no_line : ReadsScriptOf declared_types lines decimal (fetches_of (contents_of files)).script
+      script (Ok [])
   pub trees : List Tree
   pub bytes : input ≡ concat (map canon trees)
   pub canonical : AllByRecursion (IsCanonical type_is compat limit) trees

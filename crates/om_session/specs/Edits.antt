@@ -17,14 +17,14 @@ use Rattle.om_fault.specs.Text.{text_at}
 use Rattle.om_edge.specs.State.{ByteState, Change}
 use Rattle.om_path.specs.declared.edits.ScriptLine.{ScriptLine}
 use Rattle.om_read.specs.declared.value.Value.{Value}
-use Rattle.om_outcome.specs.Outcome.{Unedited, script_line, line_past}
+use Rattle.om_outcome.specs.Outcome.{Unedited, line_past}
+use Rattle.om_outcome.specs.declared.stop.Stop.{Stop}
+use Rattle.om_outcome.specs.declared.stop.Stop.TheVariants.{Script as script_line}
 use Rattle.om_session.specs.declared.edit.Edits.{Edits}
 use Rattle.om_stops.specs.declared.stop.Halt.{Halt}
 use Rattle.om_stops.specs.declared.stop.Halt.TheVariants as halts
-use Rattle.om_stops.specs.declared.stop.Stop.{Stop}
 use Rattle.om_declared.specs.declared.types.Requested.{Requested}
 use Rattle.om_declared.specs.Language.{declared_types, IsBytesLine, lines_of_value}
-use Rattle.om_stops.specs.Stops.{stop_of}
 use Rattle.om_declared.specs.Types.{type_over}
 use Rattle.om_declared.specs.Bytes.{PutsAnswer}
 use Rattle.om_declared.specs.Checked.{OrMemory}
@@ -49,8 +49,7 @@ pub record EditsOn (r : Requested) (others : List Other) (k : ℕ) (line : Scrip
 abbrev pub IsReasonStop : Requested → ℕ → Option (Reason ℕ) → Stop → Type 0
 IsReasonStop r number None stop = ⊥
 IsReasonStop r number (Some reason) stop =
-    stop_of stop
-    ≡ script_line number (reason_text (text_at r.table) (place_on r.lines number) reason)
+    stop ≡ script_line number (reason_text (text_at r.table) (place_on r.lines number) reason)
 
 -- it is refused, whatever lines come after it
 abbrev pub IsRefusedLine : Requested → List Other → ℕ → ScriptLine → Value → Stop → Type 0
@@ -58,8 +57,7 @@ IsRefusedLine r others k line old stop =
     (reason : Reason Ty)
     × ((rest : List ScriptLine)
     → Edit r others (lines_of_value k (line ∷ rest)) old.heap old.root (Err (line.number, reason)))
-    × (stop_of stop
-    ≡ script_line line.number (reason_text type_text (place_on r.lines line.number) reason))
+    × (stop ≡ script_line line.number (reason_text type_text (place_on r.lines line.number) reason))
 
 abbrev pub EditsLine : {U : Type 0} → Requested → List Other → ℕ → ScriptLine → Value → Value
     → Result U Halt → Type 0
@@ -73,7 +71,7 @@ abbrev pub AreRefusedLines : Requested → List Other → ℕ → List ScriptLin
 AreRefusedLines r others k lines old stop =
     (number : ℕ) × (reason : Reason Ty)
     × Edit r others (lines_of_value k lines) old.heap old.root (Err (number, reason))
-    × (stop_of stop ≡ script_line number (reason_text type_text (place_on r.lines number) reason))
+    × (stop ≡ script_line number (reason_text type_text (place_on r.lines number) reason))
 
 -- the lines of value k made this of it
 pub record EditsAll (r : Requested) (others : List Other) (k : ℕ) (lines : List ScriptLine)

@@ -2,7 +2,8 @@
 -- SCRIPT.
 use Rattle.std.specs.Prelude.{ℕ, ◌≡◌, Bool, false, List, Some, Result, Ok}
 use Rattle.om_outcome.specs.declared.reading.Reading.{Reading}
-use Rattle.om_outcome.specs.Outcome.{Found, Fetches, AskedType, asked_type, Stop, Saying, Work, Request, edit, Asks, typed_by, limit_of, TellsAt, FindsWork}
+use Rattle.om_outcome.specs.Outcome.{Found, Fetches, AskedType, asked_with, Saying, Work, Request, edit, Asks, typed_by, limit_of, TellsAt, FindsWork}
+use Rattle.om_outcome.specs.declared.stop.Stop.{Stop}
 use Rattle.om_path.specs.declared.edits.ScriptLine.{ScriptLine}
 use Rattle.om_declared.specs.Language.{TypeOver, declared_types}
 use Rattle.om_edge.specs.State.{FilesState, Change}
@@ -38,7 +39,8 @@ pub record AsksToEdit (words : List (List ℕ)) (r : Requested) (script : List �
   pub file : List ℕ
   pub type : List ℕ
   pub lines : Bool
-  pub asks : Asks words (edit file type script compat lines reading)
+  pub decimal : Bool
+  pub asks : Asks words (edit file type script compat lines decimal reading)
   pub found : Found
   pub fetched : Fetched files file found
-  pub gives : GivesType file (asked_type type lines) found (Ok r)
+  pub gives : GivesType file (asked_with type lines decimal) found (Ok r)

@@ -1,24 +1,22 @@
 -- What is said of the values of the input, as their bytes come.
-use Rattle.std.specs.Prelude.{ℕ, ◌<◌, ◌≤◌, ◌≡◌, ◌≢◌, ◌⊎◌, Bool, true, List, [], ◌∷◌, ◌++◌, length, Result, Ok, Err, All}
+use Rattle.std.specs.Prelude.{ℕ, ◌<◌, ◌≤◌, ◌≡◌, ◌⊎◌, Bool, true, List, [], ◌∷◌, ◌++◌, length, Result, Ok, Err, All}
 use Rattle.std.specs.List.{AllZip}
 use Rattle.om_model.specs.declared.out_of_memory.Memory.{Memory}
-use Rattle.om_model.specs.declared.refusal.ReadRefusal.{ReadRefusal}
-use Rattle.om_model.specs.declared.refusal.ReadRefusal.TheVariants as refusals
 use Rattle.om_model.specs.Graph.{IsValue}
 use Rattle.om_format.specs.Tree.{Tree}
 use Rattle.om_format.specs.Front.{IsFront}
 use Rattle.om_read.specs.declared.value.Value.{Value}
 use Rattle.om_read.specs.Reading.{IsValueOf}
 use Rattle.om_read.specs.Reader.{Leads, IsDone}
-use Rattle.om_outcome.specs.RefusalText.{refusal_text}
-use Rattle.om_outcome.specs.Outcome.{value, out_of_memory, Said, nothing_said, says, all_well, Work, compares, edits, Task, task, SayFirst, StopsAt, Finishes}
+use Rattle.om_outcome.specs.Outcome.{Said, nothing_said, says, all_well, Work, compares, edits, Task, task, SayFirst, StopsAt, Finishes}
 use Rattle.om_outcome.specs.Outcome as outcome
+use Rattle.om_outcome.specs.declared.stop.Stop.{Stop}
+use Rattle.om_outcome.specs.declared.stop.Stop.TheVariants.{Memory as out_of_memory}
 use Rattle.om_edge.specs.Sink.{Puts, PutsPart}
 use Rattle.om_edge.specs.State.{ByteState, Change}
 use Rattle.om_edit.specs.Grafts.{Other}
 use Rattle.om_path.specs.ScriptAnswer.{AreInTime}
 use Rattle.om_path.specs.declared.edits.ScriptLine.{ScriptLine}
-use Rattle.om_stops.specs.declared.stop.Stop.{Stop}
 use Rattle.om_stops.specs.declared.stop.Halt.{Halt}
 use Rattle.om_stops.specs.declared.stop.Halt.TheVariants as halts
 use Rattle.om_session.specs.declared.values.Values.{Values}
@@ -28,7 +26,6 @@ use Rattle.om_declared.specs.Language.{TypeOver, declared_types, AreDone}
 use Rattle.om_session.specs.Earlier.{AreMade, AreEarlier}
 use Rattle.om_session.specs.declared.earlier.Earlier.{Earlier}
 use Rattle.om_session.specs.declared.edit.Edits.{Edits}
-use Rattle.om_stops.specs.Stops.{stop_of}
 use Rattle.om_declared.specs.Types.{type_over, IsReady}
 use Rattle.om_session.specs.Verdict.{work_by, IsReadySpeech}
 use Rattle.om_declared.specs.Checked.{OrMemory}
@@ -104,7 +101,7 @@ pub record HasRead (job : Job) (values : Values) (taken : List ℕ) (said : List
   pub front : List ℕ
   pub first : SayFirst declared_types (task_of job) taken trees said front
   pub is_front : IsFront (word_limit job) front
-  pub goes_on : (stop : outcome.Stop)
+  pub goes_on : (stop : Stop)
       → StopsAt declared_types (work_of job) (word_limit job) trees front stop → ⊥
   pub leads : Leads (word_limit job) front values.reader
   pub counted : values.count ≡ length trees
@@ -147,16 +144,10 @@ PutsNext job taken said trees whole out new (Ok unit) =
     (next : Said) × HasRead job new taken (said ++ next ∷ []) × Puts out next.text
 PutsNext job taken said trees whole out new (Err (halts.Stop stop)) =
     OrMemory
-    (λ stop. StopsAt declared_types (work_of job) (word_limit job) trees whole (stop_of stop)) stop
+    (λ stop. StopsAt declared_types (work_of job) (word_limit job) trees whole stop) stop
     × Puts out []
 PutsNext job taken said trees whole out new (Err halts.WriteFault) =
     (next : Said) × AreSaid job taken (said ++ next ∷ []) × PutsPart out next.text
-
--- the stop of value k that is refused, where it is not for out of memory
-abbrev pub IsStopOf : ℕ → ReadRefusal → Stop → Type 0
-IsStopOf k refusal stop =
-    ((refusal ≡ refusals.Memory) × (stop_of stop ≡ out_of_memory))
-    ⊎ ((refusal ≢ refusals.Memory) × (stop_of stop ≡ value k (refusal_text refusal)))
 
 -- ---- the input's end
 
@@ -166,8 +157,8 @@ PutsComparison trees out (Ok well) =
     (final : Said) × Finishes declared_types compares trees (says final) × (well ≡ final.well)
     × Puts out final.text
 PutsComparison trees out (Err (halts.Stop stop)) =
-    (Finishes declared_types compares trees (outcome.stops (stop_of stop))
-    ⊎ (stop_of stop ≡ out_of_memory))
+    (Finishes declared_types compares trees (outcome.stops stop)
+    ⊎ (stop ≡ out_of_memory))
     × Puts out []
 PutsComparison trees out (Err halts.WriteFault) =
     (final : Said) × Finishes declared_types compares trees (says final) × PutsPart out final.text
@@ -177,10 +168,11 @@ abbrev pub Compares : List Value → Change ByteState → Result Bool Halt → T
 Compares kept out result =
     (trees : List Tree) → AllZip IsValueOf kept trees → PutsComparison trees out result
 
--- a line that edits none of the values stops the run; else the answer is what it was
+-- a line that edits none of the values stops the run, or memory ran out; else the answer is what it
+-- was
 abbrev pub EndsScript : Edits → List Tree → Bool → Result Bool Halt → Type 0
 EndsScript e trees well (Ok same) =
     Finishes declared_types (edits_by e) trees (says nothing_said) × (same ≡ well)
 EndsScript e trees well (Err (halts.Stop stop)) =
-    Finishes declared_types (edits_by e) trees (outcome.stops (stop_of stop))
+    Finishes declared_types (edits_by e) trees (outcome.stops stop) ⊎ (stop ≡ out_of_memory)
 EndsScript e trees well (Err halts.WriteFault) = ⊥

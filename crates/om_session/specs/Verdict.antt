@@ -1,8 +1,9 @@
 -- What is said of a value.
-use Rattle.std.specs.Prelude.{ℕ, ◌≡◌, Bool, true, List, ◌++◌}
+use Rattle.std.specs.Prelude.{ℕ, ◌≡◌, Bool, true, if◌then◌else◌, List, ◌++◌}
 use Rattle.om_model.specs.declared.value.Val.{Val}
 use Rattle.om_model.specs.declared.value.Obj.{Obj}
 use Rattle.om_outcome.specs.Outcome as outcome
+use Rattle.om_decimal_texts.specs.Texts.{decimal_text}
 use Rattle.om_show.specs.Dumped.{dump_text}
 use Rattle.om_path.specs.declared.edits.ScriptLine.{ScriptLine}
 use Rattle.om_session.specs.declared.verdict.Saying.{Saying}
@@ -33,6 +34,10 @@ abbrev pub IsSaidOf : Speech → List Obj → Val → List ℕ → Bool → Type
 IsSaidOf (speeches.Tell r saying) graph v text well =
     SaysLine (saying_of saying) (type_over r.now) graph v text well
 IsSaidOf speeches.Dump graph v text well = (text ≡ dump_text graph v) × (well ≡ true)
+
+-- a text with its doubles as decimals, or by their bits
+abbrev pub with_decimals : (decimal : Bool) → List ℕ → List ℕ
+with_decimals decimal text = if decimal then decimal_text text else text
 
 -- the line is put after another text, and the answer is whether nothing is wrong with the value
 abbrev pub PutsLine : outcome.Saying → TypeOver → List Obj → Val → List ℕ → List ℕ → Bool → Type 0

@@ -40,19 +40,21 @@ pub fn build<S: Source, O: Opener, K: Sink, E: Sink>(
     file: &str,
     type_text: &str,
     lines: bool,
+    decimal: bool,
     input: &mut S,
     files: &mut O,
     out: &mut K,
     err: &mut E,
 ) -> Status
-    ensures { (words : List (List ℕ)) → Asks words (own (build_of file.now type_text.now lines))
+    ensures { (words : List (List ℕ))
+        → Asks words (own (build_of file.now type_text.now lines decimal))
         → Account on_texts words
         (call (change (S.state input.old) (S.state input.new))
         (change (O.state files.old) (O.state files.new))
         (change (K.state out.old) (K.state out.new))
         (change (E.state err.old) (E.state err.new)) result) }
 {
-    match find_type(alloc, files, file, type_text, lines) {
+    match find_type(alloc, files, file, type_text, lines, decimal) {
         Ok(requested) => build_over(alloc, requested, input, out, err),
         Err(stop) => report_stop(alloc, err, &stop),
     }

@@ -18,9 +18,10 @@ use om_edit::{EditRefusal, apply, graft, refusal_text, tables_answer_lines_alike
 use om_lines::Places;
 use om_literal::LiteralFault;
 use om_model::Memory;
+use om_outcome::stop::Stop;
 use om_path::{Action, Script, ScriptLine};
 use om_read::Value;
-use om_stops::stop::{Halt, Stop};
+use om_stops::stop::Halt;
 use om_type_table::laws::tables_are_lawful;
 use std::alloc::Global;
 
@@ -180,7 +181,7 @@ fn line_stop(
     requested: &Requested,
     number: usize,
     refusal: &EditRefusal,
-) -> Result<Stop<'static>, Memory>
+) -> Result<Stop, Memory>
     requires { IsReady requested.now }
     ensures { IfOk result (λ stop. IsReasonStop requested.now number (reason_of refusal.now) stop) }
 {

@@ -22,7 +22,8 @@ use om_edge::Sink;
 use om_glance::{Answer, Glance};
 use om_model::Memory;
 use om_picker::Counts;
-use om_stops::stop::{Halt, Stop};
+use om_stops::made::cut_value;
+use om_stops::stop::Halt;
 use om_work::Work;
 use std::alloc::Global;
 use std::mem;
@@ -218,7 +219,7 @@ impl Work for Progress<'_> {
             return self.values.finish(alloc, self.job, out);
         }
         let kept = self.glance.kept().len() as u64;
-        Err(Halt::Stop(Stop::Cut(self.values.count, kept)))
+        Err(Halt::Stop(cut_value(alloc, self.values.count, kept)))
     }
 
     fn laws(&self) {}
@@ -232,4 +233,6 @@ impl Counts for Progress<'_> {
     fn last_well(&self) -> bool {
         self.values.last
     }
+
+    fn never_finishes(&self) {}
 }

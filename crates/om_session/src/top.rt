@@ -31,7 +31,7 @@ ghost use Rattle.om_path.specs.ScriptAnswer.{AreInTime};
 ghost use Rattle.om_session.specs.Values.{IsReadyJob, task_of};
 ghost use Rattle.om_session.specs.Verdict.{saying_of};
 ghost use Rattle.om_command_line.specs.Requests.{texts, request_of};
-ghost use Rattle.om_stops.specs.Stops.{stop_of, Reports};
+ghost use Rattle.om_stops.specs.Stops.{Reports};
 
 use crate::build::build;
 use crate::commands::{
@@ -51,6 +51,7 @@ use om_edge::{Opener, Sink, Source};
 use om_generator::run_generation;
 use om_outcome::reading::Reading;
 use om_outcome::status::Status;
+use om_outcome::stop::Stop;
 use om_outcome::style::Style;
 use om_passer::{Over, Passing};
 use om_passing::laws::ByWords;
@@ -58,14 +59,14 @@ use om_path::{Script, lines_in_time, read_path};
 use om_picker::Picking;
 use om_picking::laws::OneByWords;
 use om_searcher::search_input;
-use om_stops::stop::{Stop, report_stop};
+use om_stops::stop::report_stop;
 use om_verifier::verify;
 use om_work::run_reported;
 use std::alloc::Global;
 
 // Puts the line of a stop on err, and answers the status.
-fn report<E: Sink>(alloc: Global, err: &mut E, stop: Stop<'_>) -> Status
-    ensures { Reports (stop_of stop.entry) (change (E.state err.old) (E.state err.new)) result }
+fn report<E: Sink>(alloc: Global, err: &mut E, stop: Stop) -> Status
+    ensures { Reports stop (change (E.state err.old) (E.state err.new)) result }
 {
     report_stop(alloc, err, &stop)
 }
@@ -141,7 +142,7 @@ fn tell<S: Source, O: Opener, K: Sink, E: Sink>(
         (change (K.state out.old) (K.state out.new))
         (change (E.state err.old) (E.state err.new)) result) }
 {
-    match find_type(alloc, files, file, type_text, lines) {
+    match find_type(alloc, files, file, type_text, lines, false) {
         Ok(requested) => tell_over(alloc, requested, saying, reading, input, out, err),
         Err(stop) => report(alloc, err, stop),
     }
@@ -235,7 +236,7 @@ fn edit_by<S: Source, O: Opener, K: Sink, E: Sink>(
         (change (E.state err.old) (E.state err.new)) result) }
 {
     lines_in_time();
-    match find_script(alloc, files, script, requested.lines) {
+    match find_script(alloc, files, script, requested.lines, requested.decimal) {
         Ok(script) => edit_with(alloc, requested, script, compat, reading, input, out, err),
         Err(stop) => report(alloc, err, stop),
     }
@@ -274,6 +275,7 @@ fn edit<S: Source, O: Opener, K: Sink, E: Sink>(
     script: &str,
     compat: bool,
     lines: bool,
+    decimal: bool,
     reading: Reading,
     input: &mut S,
     files: &mut O,
@@ -281,14 +283,14 @@ fn edit<S: Source, O: Opener, K: Sink, E: Sink>(
     err: &mut E,
 ) -> Status
     ensures { (words : List (List ℕ))
-        → Asks words (edit_of file.now type_text.now script.now compat lines reading)
+        → Asks words (edit_of file.now type_text.now script.now compat lines decimal reading)
         → Account on_values_after words
         (call (change (S.state input.old) (S.state input.new))
         (change (O.state files.old) (O.state files.new))
         (change (K.state out.old) (K.state out.new))
         (change (E.state err.old) (E.state err.new)) result) }
 {
-    match find_type(alloc, files, file, type_text, lines) {
+    match find_type(alloc, files, file, type_text, lines, decimal) {
         Ok(requested) => edit_over(
             alloc, requested, script, compat, reading, input, files, out, err,
         ),
@@ -365,9 +367,10 @@ fn run_request<S: Source, O: Opener, K: Sink, E: Sink>(
             script,
             compat,
             lines,
+            decimal,
             reading,
         } => edit(
-            alloc, file, type_text, script, compat, lines, reading, input, files, out, err,
+            alloc, file, type_text, script, compat, lines, decimal, reading, input, files, out, err,
         ),
         Request::Trees {
             file,
@@ -414,7 +417,10 @@ fn run_request<S: Source, O: Opener, K: Sink, E: Sink>(
             file,
             type_text,
             lines,
-        } => build(alloc, file, type_text, lines, input, files, out, err),
+            decimal,
+        } => build(
+            alloc, file, type_text, lines, decimal, input, files, out, err,
+        ),
         Request::Verify {
             file,
             type_text,

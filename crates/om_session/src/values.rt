@@ -16,7 +16,7 @@ ghost use Rattle.om_declared.specs.Language.{declared_types};
 ghost use Rattle.om_session.specs.Verdict.{IsReadySpeech};
 ghost use Rattle.om_session.specs.SaidOfValue.{PutsSaid};
 ghost use Rattle.om_session.specs.Glimpse.{IsYes, IsUnchanged, IsLeft, IsBetween, Later, verdict_job};
-ghost use Rattle.om_session.specs.Values.{IsReadyJob, IsStopOf, AreValues, IsFull, MayTake, HasRead, IsValueRead, KeepsNext, PutsNext, Compares, EndsScript, task_of, word_limit};
+ghost use Rattle.om_session.specs.Values.{IsReadyJob, AreValues, IsFull, MayTake, HasRead, IsValueRead, KeepsNext, PutsNext, Compares, EndsScript, task_of, word_limit};
 
 use crate::earlier::{Earlier, make_room, next_reader};
 use crate::edit::{Edits, edit_value, line_past};
@@ -26,10 +26,11 @@ use om_edge::{Sink, put_all};
 use om_heap::Heap;
 use om_iso::same;
 use om_model::Memory;
-use om_model::refusal::ReadRefusal;
 use om_model::value::Val;
+use om_outcome::stop::Stop;
 use om_read::{Reader, Truncated, Value};
-use om_stops::stop::{Halt, Stop};
+use om_stops::made::{cut_value, refused_line, refused_value};
+use om_stops::stop::Halt;
 use std::alloc::Global;
 use std::mem;
 
@@ -61,16 +62,6 @@ impl<'a> Job<'a> {
             Job::Say(Speech::Tell(requested, Saying::Verdict), limit) => Some((requested, limit)),
             _ => None,
         }
-    }
-}
-
-/// The stop of the value of this number.
-fn refused(number: u64, refusal: ReadRefusal) -> Stop<'static>
-    ensures { IsStopOf number refusal result }
-{
-    match refusal {
-        ReadRefusal::Memory => Stop::Memory,
-        _ => Stop::Refused(number, refusal),
     }
 }
 
@@ -370,17 +361,17 @@ impl Values {
                 }
                 Ok(fed.taken)
             }
-            Err(refusal) => Err(Halt::Stop(refused(self.count, refusal))),
+            Err(refusal) => Err(Halt::Stop(refused_value(alloc, self.count, refusal))),
         }
     }
 
     /// The input ends here with a value: a line that edits no value stops the run.
-    fn finish_script(&self, edits: Edits<'_>) -> Result<bool, Halt>
+    fn finish_script(&self, alloc: Global, edits: Edits<'_>) -> Result<bool, Halt>
         ensures { (trees : List Tree) → self.now.count ≡ length trees
             → EndsScript edits.entry trees self.now.well result }
     {
         match line_past(edits.script.as_slice(), self.count) {
-            Some(number) => Err(Halt::Stop(Stop::NoValue(number))),
+            Some(number) => Err(Halt::Stop(refused_line(alloc, number, b"NoValue"))),
             None => Ok(self.well),
         }
     }
@@ -395,10 +386,10 @@ impl Values {
         match self.reader.at_end() {
             Ok(()) => match job {
                 Job::Say(..) => Ok(self.well),
-                Job::Edit(edits, _) => self.finish_script(edits),
+                Job::Edit(edits, _) => self.finish_script(alloc, edits),
                 Job::Compare(_) => compare(alloc, self.kept.as_slice(), out),
             },
-            Err(Truncated { taken }) => Err(Halt::Stop(Stop::Cut(self.count, taken))),
+            Err(Truncated { taken }) => Err(Halt::Stop(cut_value(alloc, self.count, taken))),
         }
     }
 }

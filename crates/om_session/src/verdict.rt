@@ -9,7 +9,7 @@ ghost use Rattle.om_show.specs.Shown.{shown_text};
 ghost use Rattle.om_show.specs.Tables.{shape_in, names_in};
 ghost use Rattle.om_declared.specs.Language.{styled};
 ghost use Rattle.om_declared.specs.Types.{type_over, IsReady};
-ghost use Rattle.om_session.specs.Verdict.{IsReadySpeech, IsSaidOf, PutsLine, saying_of};
+ghost use Rattle.om_session.specs.Verdict.{IsReadySpeech, IsSaidOf, PutsLine, saying_of, with_decimals};
 ghost use Rattle.om_session.specs.declared.verdict.Speech.TheVariants as speeches;
 ghost use Rattle.om_check.specs.declared.verdict.Verdict.TheVariants.{No};
 ghost use Rattle.om_outcome.specs.Outcome.{the_part, the_trees};
@@ -17,6 +17,7 @@ ghost use Rattle.om_declared.specs.Verdict.{IsVerdictOf, PutsNo};
 ghost use Rattle.om_tree_check.specs.VerdictText.{is_sound as is_sound_verdict};
 
 use om_check::Verdict;
+use om_decimal_texts::put_decimal_text;
 use om_declared::{Requested, find_verdict, put_near_no, put_no};
 use om_fault::walk;
 use om_heap::Heap;
@@ -220,6 +221,36 @@ fn put_told(
     }
 }
 
+/// Puts the text of a value at a type of the table at the end, on one line, with its doubles as
+/// decimals or by their bits.
+fn put_plain_at(
+    text: &mut Vec<u8>,
+    alloc: Global,
+    heap: &Heap,
+    v: Val,
+    table: &TypeTable,
+    at: usize,
+    decimal: bool,
+) -> Result<(), Memory>
+    requires value { IsValue (length heap.now) v }
+    requires lawful { IsLawful (table_of table.now) }
+    requires named { length table.now.names ≡ length table.now.nodes }
+    requires number { at < length table.now.nodes }
+    requires typed { HasType (table_shapes (table_of table.now)) heap.now v at }
+    ensures { OnOk result
+        (text.new.items
+        ≡ text.old.items
+        ++ with_decimals decimal
+        (shown_text (shape_in table.now) (names_in table.now) heap.now v at)) }
+{
+    if !decimal {
+        return put_shown_at(text, alloc, heap, v, table, at);
+    }
+    let mut bits = Vec::new(alloc);
+    put_shown_at(&mut bits, alloc, heap, v, table, at)?;
+    put_decimal_text(alloc, text, bits.as_slice())
+}
+
 /// Puts the text of a value at a type of the table at the end, in this style.
 fn put_styled_at(
     text: &mut Vec<u8>,
@@ -241,10 +272,10 @@ fn put_styled_at(
         ++ styled style (shown_text (shape_in table.now) (names_in table.now) heap.now v at)) }
 {
     if !style.pretty {
-        return put_shown_at(text, alloc, heap, v, table, at);
+        return put_plain_at(text, alloc, heap, v, table, at, style.decimal);
     }
     let mut plain = Vec::new(alloc);
-    put_shown_at(&mut plain, alloc, heap, v, table, at)?;
+    put_plain_at(&mut plain, alloc, heap, v, table, at, style.decimal)?;
     put_pretty(text, alloc, plain.as_slice())
 }
 

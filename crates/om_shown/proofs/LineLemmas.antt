@@ -1,6 +1,6 @@
 -- The text of a value at a type that was read is a line that is made into its canonical bytes.
-use Rattle.std.proofs.Common.{◌≡◌, ℕ, ◌<◌, ◌≤◌, ◌^◌, List, [], ◌∷◌, length, map, Option, refl, ap, ◌∙◌, arith}
-use Rattle.std.specs.Prelude.{◌≢◌}
+use Rattle.std.proofs.Common.{◌≡◌, ℕ, ◌<◌, ◌^◌, Bool, true, false, true≢false, List, [], length, map, Option, refl, sym, ap, ◌∙◌, subst, arith}
+use Rattle.std.specs.Prelude.{◌≢◌, if◌then◌else◌}
 use Rattle.om_format.specs.Canonical.{canon}
 use Rattle.om_format.specs.Spelled.{SpelledUnder}
 use Rattle.om_format.specs.Tree.{Tree, tokens, root, made, objects_of}
@@ -24,7 +24,12 @@ use Rattle.om_rebuild.specs.Laws.{DeclaredTextsAreReadBack}
 use Rattle.om_decl.specs.Read.{IsDeclared, IsTypeOf}
 use Rattle.om_declared.specs.Language.{TypeOver, ReachesFew}
 use Rattle.om_texts.specs.Texts.{IsUnbroken}
-use Rattle.om_build.specs.Lines.{IsMade}
+use Rattle.om_build.specs.Lines.{IsMade, plain_if}
+use Rattle.om_decimal_texts.specs.Plain.{decimals_from}
+use Rattle.om_decimal_texts.specs.Texts.{decimal_text}
+use Rattle.om_decimal_texts.proofs.FeedLemmas.{decimals_no_feed}
+use Rattle.om_decimal_readback.specs.Laws.{StandsForIt}
+use Rattle.om_decimal_readback.proofs.ApartLemmas.{texts_are_read_back}
 
 -- ---- a literal has lexemes
 
@@ -63,6 +68,28 @@ few_objects limit bytes tree s =
     let long = bytes_of_tokens (tokens tree) s.pieces s.spells.spells in
     omega (arith, made-le tree s.spells.is_tree, long, s.spells.length, s.small)
 
+-- ---- decimals
+
+-- a text stays on one line
+stays_unbroken : (decimal : Bool) (text : List ℕ) → IsUnbroken text
+    → IsUnbroken (if decimal then decimal_text text else text)
+stays_unbroken true text h = decimals_no_feed text h
+stays_unbroken false text h = h
+
+-- where decimals are read if they were put, the text stands for the plain one
+same_plain : (put read : Bool) (text : List ℕ) → (put ≡ true → read ≡ true) → StandsForIt text
+    → plain_if read (if put then decimal_text text else text) ≡ text
+same_plain true true text reads stands = stands.decimals
+same_plain true false text reads stands = absurd (true≢false (sym (reads refl)))
+same_plain false true text reads stands = stands.plain
+same_plain false false text reads stands = refl
+
+-- nothing stands for nothing
+pub none_plain : (decimal : Bool) → plain_if decimal [] ≡ []
+unfolding decimals_from
+none_plain true = refl
+none_plain false = refl
+
 -- ---- a line
 
 -- the type is sound over well-formed declarations, and reaches few types
@@ -80,39 +107,48 @@ module _ (t : TypeOver) where
   text_of tree =
       shown_text (shape t.decls) (names_of t.decls) (objects_of tree 0) (root tree 0) t.type
 
-  -- the text is a line that is made into these bytes
-  pub record IsBuilt (tree : Tree) : Type 0 where
-    pub one_line : IsUnbroken (text_of tree)
-    pub is_made : IsMade t (text_of tree) (canon tree)
+  -- as it is shown, with decimals or without them
+  abbrev pub shown_of : Bool → Tree → List ℕ
+  shown_of decimal tree = if decimal then decimal_text (text_of tree) else text_of tree
+
+  -- what is shown is a line that is made into these bytes
+  pub record IsBuilt (decimal : Bool) (tree : Tree) : Type 0 where
+    pub one_line : IsUnbroken (shown_of decimal tree)
+    pub is_made : IsMade t (plain_if t.decimal (shown_of decimal tree)) (canon tree)
 
   module _ (read_back : DeclaredTextsAreReadBack) (contents type : List ℕ)
       (declared : IsDeclared contents t.decls) (written : IsTypeOf t.decls type t.type)
       (sound : IsSoundOver t) (none : NoneIsHidden t.decls sound.few.types) where
-    pub is_built : (limit : ℕ) (bytes : List ℕ) (tree : Tree) → SpelledUnder limit bytes tree
-        → HasIt tree → IsBuilt tree
-    is_built limit bytes tree spelled has =
+    pub is_built : (decimal : Bool) → (decimal ≡ true → t.decimal ≡ true) → (limit : ℕ)
+        → (bytes : List ℕ) (tree : Tree) → SpelledUnder limit bytes tree → HasIt tree
+        → IsBuilt decimal tree
+    is_built decimal reads limit bytes tree spelled has =
         let is_tree = spelled.spells.is_tree in
         let back = spelled.spells.refers_back in
         let few = few_objects limit bytes tree spelled in
         let b : IsReadBack (shape t.decls) (names_of t.decls) tree t.type (text_of tree) =
         read_back contents type t.decls t.type sound.few.types declared written sound.well
         sound.sound sound.few.reached none tree is_tree back few has in
-        record {
-          one_line = b.one_line;
-          is_made = record {
-            graph = objects_of tree 0;
-            root = root tree 0;
-            is_text = record {
-              lexemes = b.lexemes;
-              lexes = b.lexes;
-              some = lexemes_some b.literal b.lexemes b.spelled;
-              are = (b.literal, b.spelled, record { labels = b.labels; read = b.reads 0 });
-            };
-            has = has;
-            each = (stands_for_all t.decls t.type sound.few.types sound.well sound.sound
-                sound.few.reached (objects_of tree 0) (root tree 0)).0 has;
-            tree = tree;
-            of = own_tree tree is_tree back;
-            are = refl;
+        let stands = texts_are_read_back t.decls tree t.type (text_of tree) b in
+        let plain : IsMade t (text_of tree) (canon tree) = record {
+          graph = objects_of tree 0;
+          root = root tree 0;
+          is_text = record {
+            lexemes = b.lexemes;
+            lexes = b.lexes;
+            some = lexemes_some b.literal b.lexemes b.spelled;
+            are = (b.literal, b.spelled, record { labels = b.labels; read = b.reads 0 });
           };
+          has = has;
+          each = (stands_for_all t.decls t.type sound.few.types sound.well sound.sound
+              sound.few.reached (objects_of tree 0) (root tree 0)).0 has;
+          tree = tree;
+          of = own_tree tree is_tree back;
+          are = refl;
+        } in
+        record {
+          one_line = stays_unbroken decimal (text_of tree) b.one_line;
+          is_made =
+              subst (λ text. IsMade t text (canon tree))
+              (sym (same_plain decimal t.decimal (text_of tree) reads stands)) plain;
         }

@@ -1,24 +1,27 @@
 -- A call of `show` that ended well: FILE and TYPE were read, all of the input is values that have
 -- the type, and their texts are put as lines.
-use Rattle.std.proofs.Common.{◌≡◌, ℕ, Bool, true, false, List, [], ◌∷◌, ◌++◌, length, Result, Ok, Err, inl, inr, refl, sym, ap, ◌∙◌, subst}
+use Rattle.std.proofs.Common.{◌≡◌, ◌⊎◌, ℕ, Bool, true, false, List, [], ◌∷◌, ◌++◌, length, Some, Result, Ok, Err, inl, inr, refl, sym, ap, ◌∙◌, subst}
 use Rattle.std.specs.Prelude.{◌&&◌, if◌then◌else◌}
 use Rattle.std.specs.List.{AllByRecursion}
 use Rattle.om_format.specs.Stream.{SpellAll, End, clean, refused, cut, IsTail}
 use Rattle.om_format.specs.Tree.{Tree, root, objects_of}
 use Rattle.om_types.specs.declared.decl.Decl.{Decl}
 use Rattle.om_outcome.specs.declared.status.Status.TheVariants.{Well, No}
+use Rattle.om_outcome.specs.CommandLine.{styled_by}
 use Rattle.om_outcome.specs.RefusalText.{truncated_text}
-use Rattle.om_outcome.specs.Outcome.{AskedType, asked_type, InputEnd, at_end, at_fault, at_length, unasked, whole, opened, all_under, tell, the_text, plain, Asks, Stop, value, read_fault, too_long, ending_of, line, Said, nothing_said, says, Replies, replies, all_well, texts_of, tells, Task, task, ReadsTypeOf}
+use Rattle.om_outcome.specs.Outcome.{AskedType, asked_type, InputEnd, at_end, at_fault, at_length, unasked, Found, whole, opened, missing, failed, unfetched, all_under, tell, the_text, Asks, fault_of, StopsAt, ReadsFile, TellsAt, ending_of, line, Said, nothing_said, says, Replies, replies, all_well, texts_of, tells, Task, task, ReadsTypeOf}
+use Rattle.om_outcome.specs.declared.stop.Stop.{Stop}
+use Rattle.om_outcome.specs.declared.stop.Stop.TheVariants.{Value as value, ReadFault as read_fault, TooLong as too_long}
 use Rattle.om_command_line.proofs.RequestLemmas.{one_request}
 use Rattle.om_path.specs.declared.edits.ScriptLine.{ScriptLine}
 use Rattle.om_promises.specs.Commands.{Item, Given, Fetches, Prepares, IsLast, Closes, SaysAll, Answers}
 use Rattle.om_promises.proofs.SettledLemmas.{Goes}
-use Rattle.om_commands.specs.Tasks.{EndsHere, EndsBy, commands}
+use Rattle.om_commands.specs.Tasks.{IsRefused, EndsHere, EndsBy, commands}
 use Rattle.om_meanings.proofs.ItemLemmas.{AreSaid, say_first}
 use Rattle.om_decl.specs.Read.{IsDeclared}
 use Rattle.om_declared.specs.Language.{TypeOver, declared_types, IsAccepted, IsTypeLine}
-use Rattle.om_shown.proofs.LineLemmas.{HasIt, text_of}
-use Rattle.om_shown.proofs.WellLemmas.{not_last, not_stopped}
+use Rattle.om_shown.proofs.LineLemmas.{HasIt, shown_of}
+use Rattle.om_shown.proofs.WellLemmas.{Refuses, not_last, not_stopped}
 
 -- ---- FILE and TYPE
 
@@ -43,6 +46,37 @@ are_read files file type t (Ok contents, read, (Ok decls, declared, accepted)) =
       accepted = accepted;
     }
 
+-- ---- what stops a run before the values
+
+file_refuses : (name : List ℕ) (found : Found) (stop : Stop) → ReadsFile name found (Err stop)
+    → Refuses stop
+file_refuses name (opened taken) stop fault = by taken.until fault where
+  by : (until : InputEnd) → fault_of until ≡ Some stop → Refuses stop
+  by at_end e = absurd (cc e)
+  by at_fault e = let is : read_fault ≡ stop = cc e in subst Refuses is tt
+  by at_length e = let is : too_long ≡ stop = cc e in subst Refuses is tt
+  by unasked e = absurd (cc e)
+file_refuses name missing stop fault = subst Refuses (sym fault) tt
+file_refuses name failed stop fault = subst Refuses (sym fault) tt
+file_refuses name unfetched stop fault = absurd fault
+
+type_refuses : (file : List ℕ → Found) (typed : List ℕ × AskedType) (stop : Stop)
+    → ReadsTypeOf declared_types file typed (Err stop) → Refuses stop
+type_refuses file typed stop (Err s, fault, is) =
+    let same : s ≡ stop = let k : stop ≡ s = cc is in sym k in
+    subst Refuses same (file_refuses typed.0 (file typed.0) s fault)
+type_refuses file typed stop (Ok text, read, (Err s, (refusal, refuses, e), is)) =
+    let same : stop ≡ s = cc is in subst Refuses (sym (same ∙ e)) tt
+type_refuses file typed stop (Ok text, read, (Ok d, reads, (refusal, refuses, e))) =
+    subst Refuses (sym e) tt
+
+tells_refuses : (decimal : Bool) (file : List ℕ → Found) (typed : List ℕ × AskedType) (stop : Stop)
+    → TellsAt declared_types file typed (the_text (styled_by false decimal)) (Err stop) → Refuses stop
+tells_refuses decimal file typed stop (Ok t, reads, told) = absurd (cc told)
+tells_refuses decimal file typed stop (Err s, reads, is) =
+    let same : s ≡ stop = let k : stop ≡ s = cc is in sym k in
+    subst Refuses same (type_refuses file typed s reads)
+
 -- ---- what is said of values
 
 both_true : (a b : Bool) → a && b ≡ true → (a ≡ true) × (b ≡ true)
@@ -54,25 +88,25 @@ well_true true e = refl
 well_true false e = absurd (cc e)
 
 -- the texts of values, as lines
-abbrev pub lines_of : TypeOver → List Tree → List ℕ
-lines_of t [] = []
-lines_of t (tree ∷ trees) = line (text_of t tree) ++ lines_of t trees
+abbrev pub lines_of : TypeOver → (decimal : Bool) → List Tree → List ℕ
+lines_of t decimal [] = []
+lines_of t decimal (tree ∷ trees) = line (shown_of t decimal tree) ++ lines_of t decimal trees
 
-module _ (t : TypeOver) where
+module _ (t : TypeOver) (decimal : Bool) where
   -- nothing is wrong with the value: it has the type, and its text is said
   said_well : (tree : Tree) (said : Said) (text : List ℕ)
-      → IsTypeLine (the_text plain) t (objects_of tree 0) (root tree 0) text said.well
+      → IsTypeLine (the_text (styled_by false decimal)) t (objects_of tree 0) (root tree 0) text said.well
       → said.text ≡ line text → said.well ≡ true
-      → HasIt t tree × (said.text ≡ line (text_of t tree))
+      → HasIt t tree × (said.text ≡ line (shown_of t decimal tree))
   said_well tree said text (inl h) is well = (h.has, is ∙ ap (λ (s : Said). line s.text) h.told)
   said_well tree said text (inr h) is well =
       let no : false ≡ true = sym h.is_well ∙ well in absurd (cc no)
 
   all_said_well : (earlier trees : List Tree) (said : List Said)
-      → AreSaid declared_types (tells (the_text plain) t) earlier trees said
+      → AreSaid declared_types (tells (the_text (styled_by false decimal)) t) earlier trees said
       → all_well (said ++ nothing_said ∷ []) ≡ true
       → AllByRecursion (HasIt t) trees
-      × (texts_of (said ++ nothing_said ∷ []) ≡ lines_of t trees)
+      × (texts_of (said ++ nothing_said ∷ []) ≡ lines_of t decimal trees)
   all_said_well earlier [] [] h well = (tt, refl)
   all_said_well earlier [] (s ∷ said) h well = absurd h
   all_said_well earlier (tree ∷ trees) [] h well = absurd h
@@ -82,13 +116,13 @@ module _ (t : TypeOver) where
       let next = all_said_well (earlier ++ tree ∷ []) trees said h w.1 in (
         (one.0, next.0),
         ap (λ first. first ++ texts_of (said ++ nothing_said ∷ [])) one.1
-            ∙ ap (λ rest. line (text_of t tree) ++ rest) next.1,
+            ∙ ap (λ rest. line (shown_of t decimal tree) ++ rest) next.1,
       )
 
 -- ---- the call
 
-module _ (words : List (List ℕ)) (file type : List ℕ) (lined : Bool) (limit : ℕ)
-    (asks : Asks words (tell (the_text plain) file type lined (all_under limit))) (given : Given) (all : Replies)
+module _ (words : List (List ℕ)) (file type : List ℕ) (lined decimal : Bool) (limit : ℕ)
+    (asks : Asks words (tell (the_text (styled_by false decimal)) file type lined (all_under limit))) (given : Given) (all : Replies)
     (well : (ending_of all).status ≡ Well) where
   -- all of the input is values of the type, and their texts are put
   pub record AreShown : Type 0 where
@@ -98,34 +132,44 @@ module _ (words : List (List ℕ)) (file type : List ℕ) (lined : Bool) (limit 
     pub trees : List Tree
     pub spelled : SpellAll limit given.input.bytes trees []
     pub have : AllByRecursion (HasIt t) trees
-    pub out : (ending_of all).out ≡ lines_of t trees
+    pub out : (ending_of all).out ≡ lines_of t decimal trees
 
   module _ (t : TypeOver) (read : AreRead given.files file (asked_type type lined) t) where
     abbrev its_task : Task TypeOver ScriptLine
-    its_task = task (tells (the_text plain) t) limit
+    its_task = task (tells (the_text (styled_by false decimal)) t) limit
 
     -- the input ended, and the reply after all values says nothing
     at_its_end : (u : InputEnd) (items : List Item) (rest : List ℕ)
         → Closes (commands declared_types) its_task items rest u all.last
         → (u ≡ at_end) × EndsHere declared_types its_task items rest all.last
     at_its_end at_end items rest h = (refl, h)
-    at_its_end at_fault items rest h = absurd (not_last all well read_fault h)
-    at_its_end at_length items rest h = absurd (not_last all well too_long h)
+    at_its_end at_fault items rest h = absurd (not_last all well read_fault tt h)
+    at_its_end at_length items rest h = absurd (not_last all well too_long tt h)
     at_its_end unasked items rest h = absurd h
 
     at_clean_end : (trees : List Tree) (rest : List ℕ) (end : End) → IsTail limit rest end
-        → EndsBy declared_types (tells (the_text plain) t) trees end all.last
+        → EndsBy declared_types (tells (the_text (styled_by false decimal)) t) trees end all.last
         → (rest ≡ []) × (all.last ≡ says nothing_said)
     at_clean_end trees rest clean tail ends = (tail, ends)
     at_clean_end trees rest (refused refusal) tail ends = absurd ends
     at_clean_end trees rest (cut n) tail ends =
-        absurd (not_last all well (value (length trees) (truncated_text n)) ends)
+        absurd (not_last all well (value (length trees) (truncated_text n)) tt ends)
+
+    -- what stops the run refuses a value
+    stop_refuses : (items : List Item) (bytes : List ℕ) (stop : Stop)
+        → (commands declared_types).Stops its_task items bytes stop → Refuses stop
+    stop_refuses items bytes stop s = by s.why where
+      by : StopsAt declared_types (tells (the_text (styled_by false decimal)) t) limit s.trees bytes stop
+          ⊎ IsRefused declared_types its_task (length s.trees) bytes stop → Refuses stop
+      by (inl none) = absurd none
+      by (inr r) = subst Refuses (sym r.is) tt
 
     of_all : SaysAll (commands declared_types) its_task given.input all → AreShown
     of_all s = by s.last where
       by : IsLast (commands declared_types) its_task s.items s.rest given.input.until all.last
           → AreShown
-      by (inl (stop, stops_at, none, is)) = absurd (not_last all well stop is)
+      by (inl (stop, stops_at, none, is)) =
+          absurd (not_last all well stop (stop_refuses s.items s.rest stop stops_at) is)
       by (inr (goes_on, closes)) =
           let e = at_its_end given.input.until s.items s.rest closes in
           let clean_end = at_clean_end e.1.trees s.rest e.1.end e.1.tail e.1.ends in
@@ -134,7 +178,7 @@ module _ (words : List (List ℕ)) (file type : List ℕ) (lined : Bool) (limit 
           let is_well : (ending_of (replies all.said (says nothing_said))).status ≡ Well =
           sym (ap (λ last. (ending_of (replies all.said last)).status) clean_end.1) ∙ well in
           let all_are_well = well_true (all_well (all.said ++ nothing_said ∷ [])) is_well in
-          let texts = all_said_well t [] first.0 all.said first.3 all_are_well in
+          let texts = all_said_well t decimal [] first.0 all.said first.3 all_are_well in
           record {
             t = t;
             read = read;
@@ -150,15 +194,17 @@ module _ (words : List (List ℕ)) (file type : List ℕ) (lined : Bool) (limit 
     of_answers (inr alone) = absurd (alone.unread tt)
 
   of_request : (found : Result (Task TypeOver ScriptLine) Stop)
-      → (commands declared_types).Finds (tell (the_text plain) file type lined (all_under limit)) given.files found
+      → (commands declared_types).Finds (tell (the_text (styled_by false decimal)) file type lined (all_under limit)) given.files found
       → Goes (commands declared_types) given all found → AreShown
   of_request found (Err stop, finds, e) goes =
-      absurd (not_stopped all well stop (subst (Goes (commands declared_types) given all) e goes))
+      absurd (not_stopped all well stop
+      (tells_refuses decimal (given.files 0) (file, asked_type type lined) stop finds)
+      (subst (Goes (commands declared_types) given all) e goes))
   of_request found (Ok work, (Err stop, reads, made), e) goes =
       absurd (cc made)
   of_request found (Ok work, (Ok t, reads, made), e) goes =
-      let same : work ≡ tells (the_text plain) t = cc made in
-      let is : found ≡ Ok (task (tells (the_text plain) t) limit) =
+      let same : work ≡ tells (the_text (styled_by false decimal)) t = cc made in
+      let is : found ≡ Ok (task (tells (the_text (styled_by false decimal)) t) limit) =
       subst (λ w. found ≡ Ok (task w limit)) same e in
       of_answers t (are_read given.files file (asked_type type lined) t reads)
       (subst (Goes (commands declared_types) given all) is goes)
@@ -167,9 +213,9 @@ module _ (words : List (List ℕ)) (file type : List ℕ) (lined : Bool) (limit 
       → Prepares (commands declared_types) words given.files found
       → Goes (commands declared_types) given all found → AreShown
   of_words found (Err stop, (usage, is), e) goes =
-      absurd (usage (tell (the_text plain) file type lined (all_under limit)) asks)
+      absurd (usage (tell (the_text (styled_by false decimal)) file type lined (all_under limit)) asks)
   of_words found (Ok request, asked, finds) goes =
-      let same = one_request words request (tell (the_text plain) file type lined (all_under limit)) asked asks in
+      let same = one_request words request (tell (the_text (styled_by false decimal)) file type lined (all_under limit)) asked asks in
       let found_so = subst (λ r. (commands declared_types).Finds r given.files found) same finds in
       of_request found found_so goes
 

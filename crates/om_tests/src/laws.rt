@@ -4,7 +4,7 @@ use om_accepted::{
     accepted_are_well_formed, accepted_types_are_sound, brackets_follow, names_follow, ranks_follow,
 };
 use om_decimal::{doubles_are_read_back, doubles_have_one_text};
-use om_decimal_texts::{texts_are_read_back, texts_have_one_text};
+use om_decimal_texts::{decimals_are_by_lexemes, decimals_stay_on_one_line, texts_are_read_back};
 use om_equal::classes::{
     classes_are_of_equal_types, splits_keep_and_settle, stable_classes_are_equal,
 };
@@ -39,6 +39,7 @@ fn laws_are_called() {
     small_commands_tell_outside();
     doubles_have_one_text();
     doubles_are_read_back();
-    texts_have_one_text();
+    decimals_are_by_lexemes();
+    decimals_stay_on_one_line();
     texts_are_read_back();
 }

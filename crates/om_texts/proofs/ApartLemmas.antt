@@ -1,6 +1,7 @@
 -- The command on texts is idle at each other request, and the commands on values are at its own.
 use Rattle.std.proofs.Common.{◌≡◌, ◌∙◌, ℕ, List, Some, None, Result, inl, inr, refl, sym}
-use Rattle.om_outcome.specs.Outcome.{Request, AskedType, tell, get, edit, dump, compare, own, OwnRequest, Stop, Language, Task}
+use Rattle.om_outcome.specs.Outcome.{Request, AskedType, tell, get, edit, dump, compare, own, OwnRequest, Language, Task}
+use Rattle.om_outcome.specs.declared.stop.Stop.{Stop}
 use Rattle.om_promises.specs.Commands.{Fetches}
 use Rattle.om_choice.specs.Choice.{IsIdleAt, AreApart}
 use Rattle.om_commands.specs.Tasks.{Wants, Finds, commands}
@@ -35,7 +36,7 @@ module _ {D T E : Type 0} (language : Language D T E) (TextOf : T → List ℕ �
   pub apart : AreApart (commands language) (building language TextOf)
   apart (tell saying f t lined most) = inr (texts_idle (tell saying f t lined most) refl)
   apart (get f t path style lined most) = inr (texts_idle (get f t path style lined most) refl)
-  apart (edit f t script compat lined most) = inr (texts_idle (edit f t script compat lined most) refl)
+  apart (edit f t script compat lined decimal most) = inr (texts_idle (edit f t script compat lined decimal most) refl)
   apart (dump most) = inr (texts_idle (dump most) refl)
   apart (compare most) = inr (texts_idle (compare most) refl)
   apart (own request) = inl (values_idle language request)

@@ -1,6 +1,8 @@
 -- The command on texts is lawful, where the language is and a line is read in one way.
 use Rattle.std.proofs.Common.{◌≡◌, ◌⊎◌, ◌<◌, ◌+◌, ℕ, List, [], ◌∷◌, ◌++◌, Some, Result, Ok, Err, inl, inr, refl, sym, ap, ◌∙◌, subst, arith}
-use Rattle.om_outcome.specs.Outcome.{Found, opened, whole, Request, AskedType, Stop, untyped_value, Said, says, stops, Language, ReadsFile, ReadsTypeOf}
+use Rattle.om_outcome.specs.Outcome.{Found, opened, whole, Request, AskedType, Said, says, stops, Language, ReadsFile, ReadsTypeOf}
+use Rattle.om_outcome.specs.declared.stop.Stop.{Stop}
+use Rattle.om_outcome.specs.declared.stop.Stop.TheVariants.{Untyped as untyped_value}
 use Rattle.om_promises.specs.Commands.{Item, value, text, Fetches}
 use Rattle.om_promises.specs.Lawful.{IsOnce, IsInner, IsWhole, FailsAtFile, AreLawfulAt, AreLawful, AreInTurns}
 use Rattle.om_promises.specs.LawfulLanguage.{IsGiven, IsLawful}

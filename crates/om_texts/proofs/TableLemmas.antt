@@ -4,7 +4,9 @@ use Rattle.std.specs.Prelude.{◌&&◌, if◌then◌else◌}
 use Rattle.std.specs.List.{AllByRecursion}
 use Rattle.om_outcome.specs.declared.status.Status.{Status}
 use Rattle.om_outcome.specs.declared.status.Status.TheVariants.{Well, No, Types, Script, ReadFault, OpenFault, TooLong}
-use Rattle.om_outcome.specs.Outcome.{Request, AskedType, Stop, declarations, requested_type, text_line, untyped_value, status_of, ending_of, Said, Reply, says, stops, Replies, replies, all_well, Language, ReadsFile, ReadsTypeOf}
+use Rattle.om_outcome.specs.Outcome.{Request, AskedType, status_of, ending_of, Said, Reply, says, stops, Replies, replies, all_well, Language, ReadsFile, ReadsTypeOf}
+use Rattle.om_outcome.specs.declared.stop.Stop.{Stop}
+use Rattle.om_outcome.specs.declared.stop.Stop.TheVariants.{Declarations as declarations, RequestedType as requested_type, Text as text_line, Untyped as untyped_value}
 use Rattle.om_promises.specs.Commands.{Item, text as text_item, Cut, AllSay, Fetches, HoldStop, GoesOn}
 use Rattle.om_promises.specs.Promises.{HoldEnd}
 use Rattle.om_promises.proofs.ValueLemmas.{all_well-snoc}

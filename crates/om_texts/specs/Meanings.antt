@@ -15,7 +15,8 @@ use Rattle.std.specs.Prelude.{ℕ, ◌≡◌, ◌≢◌, ◌⊎◌, List, [], �
 use Rattle.std.specs.List.{AllByRecursion}
 use Rattle.om_outcome.specs.declared.status.Status.{Status}
 use Rattle.om_outcome.specs.declared.status.Status.TheVariants.{Well, No, Types, Value, Script, ReadFault, OpenFault, TooLong, Compat}
-use Rattle.om_outcome.specs.Outcome.{whole, opened, Request, AskedType, Stop, status_of, ReadsFile, Language}
+use Rattle.om_outcome.specs.Outcome.{whole, opened, Request, AskedType, status_of, ReadsFile, Language}
+use Rattle.om_outcome.specs.declared.stop.Stop.{Stop}
 use Rattle.om_promises.specs.Call.{Call}
 use Rattle.om_promises.specs.Commands.{Fetches}
 use Rattle.om_causes.specs.Causes.{Tables}

@@ -2,7 +2,9 @@
 -- behind it. A line is blank, or a text, which becomes bytes.
 use Rattle.std.specs.Prelude.{ℕ, suc, ◌+◌, ◌≡◌, ◌≢◌, true, List, [], ◌∷◌, ◌++◌, length, Option, Some, None, Result}
 use Rattle.std.specs.List.{AllByRecursion}
-use Rattle.om_outcome.specs.Outcome.{Request, AskedType, asked_type, own, build, Stop, text_line, untyped_value, Said, nothing_said, Reply, says, stops, Language, ReadsTypeOf}
+use Rattle.om_outcome.specs.Outcome.{Request, AskedType, asked_with, own, build, Said, nothing_said, Reply, says, stops, Language, ReadsTypeOf}
+use Rattle.om_outcome.specs.declared.stop.Stop.{Stop}
+use Rattle.om_outcome.specs.declared.stop.Stop.TheVariants.{Text as text_line, Untyped as untyped_value}
 use Rattle.om_promises.specs.Commands.{Item, value, text, Fetches, Commands}
 use Rattle.om_promises.specs.Lawful.{IsOnce}
 use Rattle.om_promises.specs.LawfulLanguage.{IsGiven}
@@ -94,7 +96,7 @@ module _ {T : Type 0} (TextOf : T → List ℕ → Built → Type 0) (type : T) 
 
 -- FILE and TYPE, where texts are to become bytes
 abbrev pub built_by : Request → Option (List ℕ × AskedType)
-built_by (own (build file type lines)) = Some (file, asked_type type lines)
+built_by (own (build file type lines decimal)) = Some (file, asked_with type lines decimal)
 built_by request = None
 
 module _ {D T E : Type 0} (language : Language D T E) (TextOf : T → List ℕ → Built → Type 0) where

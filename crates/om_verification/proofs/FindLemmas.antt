@@ -2,7 +2,9 @@
 use Rattle.std.proofs.Common.{◌≡◌, ◌⊎◌, ◌<◌, ℕ, List, Some, Result, Ok, Err, inl, inr, refl, sym, ap, ◌∙◌, subst}
 use Rattle.std.specs.Prelude.{MatchResult}
 use Rattle.om_format.specs.Tree.{Tree}
-use Rattle.om_outcome.specs.Outcome.{Found, opened, whole, Request, Stop, certificate_line, Language, Then, OrRefusal, ReadsFile, ReadsTypeOf}
+use Rattle.om_outcome.specs.Outcome.{Found, opened, whole, Request, Language, Then, OrRefusal, ReadsFile, ReadsTypeOf}
+use Rattle.om_outcome.specs.declared.stop.Stop.{Stop}
+use Rattle.om_outcome.specs.declared.stop.Stop.TheVariants.{Certificate as certificate_line}
 use Rattle.om_promises.specs.Commands.{Fetches}
 use Rattle.om_promises.specs.Lawful.{IsOnce, IsInner, FailsAtFile, AreInTurns}
 use Rattle.om_promises.specs.LawfulLanguage.{IsGiven, IsLawful}

@@ -5,8 +5,10 @@ use Rattle.om_model.specs.Bytes.{AreBytes}
 use Rattle.om_model.specs.declared.refusal.ReadRefusal.{ReadRefusal}
 use Rattle.om_format.specs.Stream.{End, clean, refused, cut, IsTail}
 use Rattle.om_format.specs.Tree.{Tree}
-use Rattle.om_outcome.specs.Outcome.{Stop, value, uncertified_value, sections_left, Said, nothing_said, says, stops, line, Language}
+use Rattle.om_outcome.specs.Outcome.{Said, nothing_said, says, stops, line, Language}
 use Rattle.om_outcome.specs.RefusalText.{refusal_text, truncated_text}
+use Rattle.om_outcome.specs.declared.stop.Stop.{Stop}
+use Rattle.om_outcome.specs.declared.stop.Stop.TheVariants.{Value as value, Uncertified as uncertified_value, SectionsLeft as sections_left}
 use Rattle.om_promises.specs.Commands.{Item, value as value_item, GoesOn}
 use Rattle.om_promises.specs.Lawful.{IsOnce, IsInner, AreLawfulAt}
 use Rattle.om_promises.proofs.LengthLemmas.{spelled_some}

@@ -7,7 +7,8 @@ use Rattle.om_format.specs.Stream.{SpellAll}
 use Rattle.om_format.specs.Tree.{Tree}
 use Rattle.om_outcome.specs.declared.status.Status.{Status}
 use Rattle.om_outcome.specs.declared.status.Status.TheVariants.{Well, No, Certificate}
-use Rattle.om_outcome.specs.Outcome.{sections_left, ending_of, Said, nothing_said, line, Reply, says, stops, Replies, replies, all_well, Language}
+use Rattle.om_outcome.specs.Outcome.{ending_of, Said, nothing_said, line, Reply, says, stops, Replies, replies, all_well, Language}
+use Rattle.om_outcome.specs.declared.stop.Stop.TheVariants.{SectionsLeft as sections_left}
 use Rattle.om_promises.specs.Commands.{Item, value, Cut, AllSay, SaysFirst}
 use Rattle.om_promises.proofs.ValueLemmas.{and_true}
 use Rattle.om_commands.specs.Tasks.{items_of}

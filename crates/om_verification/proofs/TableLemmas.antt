@@ -6,8 +6,10 @@ use Rattle.om_format.specs.Stream.{SpellAll, End, clean, refused, cut, IsTail}
 use Rattle.om_format.specs.Tree.{Tree}
 use Rattle.om_outcome.specs.declared.status.Status.{Status}
 use Rattle.om_outcome.specs.declared.status.Status.TheVariants.{Types, ReadFault, OpenFault, TooLong, Certificate}
-use Rattle.om_outcome.specs.Outcome.{Request, Stop, value, declarations, requested_type, certificate_line, uncertified_value, status_of, ending_of, Said, Reply, stops, Replies, replies, Language, ReadsFile, ReadsTypeOf}
+use Rattle.om_outcome.specs.Outcome.{Request, status_of, ending_of, Said, Reply, stops, Replies, replies, Language, ReadsFile, ReadsTypeOf}
 use Rattle.om_outcome.specs.RefusalText.{refusal_text, truncated_text}
+use Rattle.om_outcome.specs.declared.stop.Stop.{Stop}
+use Rattle.om_outcome.specs.declared.stop.Stop.TheVariants.{Declarations as declarations, RequestedType as requested_type, Value as value, Certificate as certificate_line, Uncertified as uncertified_value}
 use Rattle.om_promises.specs.Commands.{Fetches, HoldStop}
 use Rattle.om_promises.specs.Promises.{HoldEnd}
 use Rattle.om_promises.proofs.StreamLemmas.{spell_bytes, spell_append}

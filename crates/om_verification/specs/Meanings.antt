@@ -21,7 +21,8 @@ use Rattle.om_format.specs.Stream.{SpellAll, refused, cut, IsTail}
 use Rattle.om_format.specs.Tree.{Tree}
 use Rattle.om_outcome.specs.declared.status.Status.{Status}
 use Rattle.om_outcome.specs.declared.status.Status.TheVariants.{Well, No, Types, Value, Script, ReadFault, OpenFault, TooLong, Compat, Certificate}
-use Rattle.om_outcome.specs.Outcome.{whole, opened, Request, Stop, status_of, ReadsFile, ReadsTypeOf, Language}
+use Rattle.om_outcome.specs.Outcome.{whole, opened, Request, status_of, ReadsFile, ReadsTypeOf, Language}
+use Rattle.om_outcome.specs.declared.stop.Stop.{Stop}
 use Rattle.om_promises.specs.Call.{Call}
 use Rattle.om_promises.specs.Commands.{Fetches}
 use Rattle.om_causes.specs.Causes.{Tables}

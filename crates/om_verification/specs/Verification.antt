@@ -4,8 +4,10 @@ use Rattle.std.specs.Prelude.{ℕ, ◌≡◌, ◌⊎◌, Bool, if◌then◌else�
 use Rattle.om_model.specs.declared.refusal.ReadRefusal.{ReadRefusal}
 use Rattle.om_format.specs.Stream.{SpellAll, End, clean, refused, cut, IsTail}
 use Rattle.om_format.specs.Tree.{Tree}
-use Rattle.om_outcome.specs.Outcome.{Found, Request, AskedType, asked_type, own, verify, Stop, value, certificate_line, uncertified_value, sections_left, Said, nothing_said, Reply, says, stops, line, Language, Then, OrRefusal, ReadsFile, ReadsTypeOf}
+use Rattle.om_outcome.specs.Outcome.{Found, Request, AskedType, asked_type, own, verify, Said, nothing_said, Reply, says, stops, line, Language, Then, OrRefusal, ReadsFile, ReadsTypeOf}
 use Rattle.om_outcome.specs.RefusalText.{refusal_text, truncated_text}
+use Rattle.om_outcome.specs.declared.stop.Stop.{Stop}
+use Rattle.om_outcome.specs.declared.stop.Stop.TheVariants.{Value as value, Certificate as certificate_line, Uncertified as uncertified_value, SectionsLeft as sections_left}
 use Rattle.om_promises.specs.Commands.{Item, value as value_item, Fetches, Commands}
 use Rattle.om_promises.specs.Lawful.{IsOnce}
 use Rattle.om_promises.specs.LawfulLanguage.{IsGiven}

@@ -2,11 +2,12 @@
 use Rattle.std.proofs.Common.{◌≡◌, ◌⊎◌, ◌<◌, ℕ, zero, suc, Bool, List, Ok, Err, inl, inr, refl, subst, arith}
 use Rattle.om_outcome.specs.declared.status.Status.{Status}
 use Rattle.om_outcome.specs.declared.reading.Reading.{Reading}
-use Rattle.om_outcome.specs.Outcome.{Found, unfetched, Request, asked_type, own, verify, Asks, out_of_memory}
+use Rattle.om_outcome.specs.Outcome.{Found, unfetched, Request, asked_type, own, verify, Asks}
+use Rattle.om_outcome.specs.declared.stop.Stop.{Stop}
+use Rattle.om_outcome.specs.declared.stop.Stop.TheVariants.{Memory as out_of_memory}
 use Rattle.om_edge.specs.State.{ByteState, FilesState, Change, change}
 use Rattle.om_section.specs.declared.section.Section.{Section}
-use Rattle.om_stops.specs.declared.stop.Stop.{Stop}
-use Rattle.om_stops.specs.Stops.{stop_of, Reports}
+use Rattle.om_stops.specs.Stops.{Reports}
 use Rattle.om_promises.specs.Account.{IsWanted, FetchesIn, FetchesFor, Account}
 use Rattle.om_promises.specs.Call.{call}
 use Rattle.om_promises.specs.Commands.{Fetches, Prepares}
@@ -87,18 +88,18 @@ module _ (words : List (List ℕ)) (file type certificate : List ℕ) (lines : B
 
   gives_stop :
       (stop : Stop) → GivesType file (asked_type type lines) found (Err stop)
-      → Prepares on_certificates_after words file_found (Err (stop_of stop))
-      ⊎ (stop_of stop ≡ out_of_memory)
+      → Prepares on_certificates_after words file_found (Err stop)
+      ⊎ (stop ≡ out_of_memory)
   gives_stop stop (inl reads) =
-      inl (Ok request, asks, (asked, refl, (Err (stop_of stop), reads, refl)))
+      inl (Ok request, asks, (asked, refl, (Err stop, reads, refl)))
   gives_stop stop (inr memory) = inr memory
 
   pub no_type_account :
       (stop : Stop) → GivesType file (asked_type type lines) found (Err stop) → (input out : ByteState)
-      (err : Change ByteState) (status : Status) → Reports (stop_of stop) err status
+      (err : Change ByteState) (status : Status) → Reports stop err status
       → Account on_certificates_after words (call (change input input) files (change out out) err status)
   no_type_account stop gives input out err status r =
-      stop_account on_certificates_after words file_found input out files fetches err status (stop_of stop)
+      stop_account on_certificates_after words file_found input out files fetches err status stop
       (gives_stop stop gives) r
 
 -- they are, and CERT comes next
@@ -140,25 +141,25 @@ module _ (words : List (List ℕ)) (r : Requested) (certificate : List ℕ) (rea
 
   stop_given :
       (stop : Stop) → GivesCertificate certificate found (Err stop)
-      → Prepares on_certificates_after words both_found (Err (stop_of stop))
-      ⊎ (stop_of stop ≡ out_of_memory)
+      → Prepares on_certificates_after words both_found (Err stop)
+      ⊎ (stop ≡ out_of_memory)
   stop_given stop (inl reads) =
       inl (
         Ok request_of,
         asks.asks,
-        (asked_of, refl, (Ok (type_over r), asks.gives.0, (Err (stop_of stop), reads, refl))),
+        (asked_of, refl, (Ok (type_over r), asks.gives.0, (Err stop, reads, refl))),
       )
   stop_given stop (inr memory) = inr memory
 
   -- there are no sections
   pub no_sections_account :
       (stop : Stop) → GivesCertificate certificate found (Err stop) → (input out : ByteState)
-      (err : Change ByteState) (status : Status) → Reports (stop_of stop) err status
+      (err : Change ByteState) (status : Status) → Reports stop err status
       → Account on_certificates_after words
       (call (change input input) (change a c) (change out out) err status)
   no_sections_account stop gives input out err status reports =
       stop_account on_certificates_after words both_found input out (change a c) both_fetched err status
-      (stop_of stop) (stop_given stop gives) reports
+      stop (stop_given stop gives) reports
 
   -- the values are verified
   pub sections_account :

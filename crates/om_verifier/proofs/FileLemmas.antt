@@ -5,25 +5,28 @@ use Rattle.om_section.specs.declared.read.CertFault.TheVariants.{Syntax, Memory}
 use Rattle.om_section.specs.declared.section.Section.{Section}
 use Rattle.om_section.specs.Format.{IsCertificate}
 use Rattle.om_section.specs.Reading.{IsFaultOf}
-use Rattle.om_outcome.specs.Outcome.{at_end, Taken, opened, missing, failed, cannot_open, fault_of}
-use Rattle.om_stops.specs.declared.stop.Stop.{Stop}
-use Rattle.om_stops.specs.Stops.{stop_of}
+use Rattle.om_outcome.specs.Outcome.{at_end, Taken, opened, missing, failed, fault_of}
+use Rattle.om_outcome.specs.declared.stop.Stop.{Stop}
+use Rattle.om_outcome.specs.declared.stop.Stop.TheVariants.{CannotOpen as cannot_open}
+use Rattle.om_stops.specs.Stops.{IsOrMemory}
 use Rattle.om_verifier.specs.Files.{IsCertificateStop, GivesCertificate}
 
 module _ (name : List ℕ) where
   pub certificate_missing :
-      (stop : Stop) → stop_of stop ≡ cannot_open name → GivesCertificate name missing (Err stop)
-  certificate_missing stop e = inl (Err (cannot_open name), refl, ap Err e)
+      (stop : Stop) → IsOrMemory (cannot_open name) stop → GivesCertificate name missing (Err stop)
+  certificate_missing stop (inl e) = inl (Err (cannot_open name), refl, ap Err e)
+  certificate_missing stop (inr memory) = inr memory
 
   pub certificate_failed :
-      (stop : Stop) → stop_of stop ≡ cannot_open name → GivesCertificate name failed (Err stop)
-  certificate_failed stop e = inl (Err (cannot_open name), refl, ap Err e)
+      (stop : Stop) → IsOrMemory (cannot_open name) stop → GivesCertificate name failed (Err stop)
+  certificate_failed stop (inl e) = inl (Err (cannot_open name), refl, ap Err e)
+  certificate_failed stop (inr memory) = inr memory
 
   module _ (taken : Taken) where
     pub certificate_fault :
-        (stop : Stop) → fault_of taken.until ≡ Some (stop_of stop)
+        (stop : Stop) → fault_of taken.until ≡ Some stop
         → GivesCertificate name (opened taken) (Err stop)
-    certificate_fault stop e = inl (Err (stop_of stop), e, refl)
+    certificate_fault stop e = inl (Err stop, e, refl)
 
     abbrev all_taken :
         taken.until ≡ at_end → opened taken ≡ opened (record { bytes = taken.bytes; until = at_end })

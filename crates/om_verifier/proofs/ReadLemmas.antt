@@ -21,13 +21,14 @@ use Rattle.om_section.specs.declared.section.Section.{Section}
 use Rattle.om_edge.specs.Sink.{Puts, PutsPart}
 use Rattle.om_edge.specs.State.{ByteState, Change, change}
 use Rattle.om_outcome.specs.Outcome as outcome
-use Rattle.om_outcome.specs.Outcome.{Said, says, nothing_said, sections_left, out_of_memory, all_well, line}
+use Rattle.om_outcome.specs.Outcome.{Said, says, nothing_said, all_well, line}
 use Rattle.om_outcome.specs.RefusalText.{refusal_text, truncated_text}
+use Rattle.om_outcome.specs.declared.stop.Stop.{Stop}
+use Rattle.om_outcome.specs.declared.stop.Stop.TheVariants.{Uncertified as uncertified_value, SectionsLeft as sections_left, Memory as out_of_memory}
+use Rattle.om_outcome.specs.declared.stop.Stop.TheVariants as stops
 use Rattle.om_stops.specs.declared.stop.Halt.{Halt}
 use Rattle.om_stops.specs.declared.stop.Halt.TheVariants as halts
-use Rattle.om_stops.specs.declared.stop.Stop.{Stop}
-use Rattle.om_stops.specs.declared.stop.Stop.TheVariants as stops
-use Rattle.om_stops.specs.Stops.{stop_of}
+use Rattle.om_stops.specs.Stops.{IsOrMemory, IsStopOf}
 use Rattle.om_promises.specs.Account.{HoldNoStop}
 use Rattle.om_promises.specs.Commands.{Item, value as value_item, Cut, SaysFirst}
 use Rattle.om_promises.proofs.LengthLemmas.{spelled_some}
@@ -44,7 +45,7 @@ use Rattle.om_verification.specs.Verification.{Shown, shows, rejects, Verificati
 use Rattle.om_verification.proofs.ItemLemmas.{item_stays, stop_stays, goes_on}
 use Rattle.om_verifier.specs.Shown.{IsShownAt, reads_sections, declared_sections}
 use Rattle.om_verifier.specs.Judged.{IsShownBy, IsUncertifiedBy, PutsShown}
-use Rattle.om_verifier.specs.Reading.{on_certificates, certified, IsStopOf, HasRead, IsValueRead, PutsNext}
+use Rattle.om_verifier.specs.Reading.{on_certificates, certified, HasRead, IsValueRead, PutsNext}
 
 -- a value stays one when bytes follow
 pub values_stay :
@@ -159,7 +160,7 @@ module _ (r : Requested) (all : List Section) (limit : ℕ) where
     -- sections are left
     pub ends_left :
         (h : Has) → EndsInput {U = Unit {0}} limit h.front (Ok tt) → count < length all
-        → (o : ByteState) → Ends h (change o o) (Err (halts.Stop stops.SectionsLeft))
+        → (o : ByteState) → Ends h (change o o) (Err (halts.Stop sections_left))
     ends_left h end less o =
         let fewer : length h.items < length all = subst (λ n. n < length all) h.counted less in (
           inl (
@@ -191,12 +192,14 @@ module _ (r : Requested) (all : List Section) (limit : ℕ) where
     -- a value is cut
     pub ends_cut :
         (h : Has) (truncated : Truncated) → EndsInput {U = Unit {0}} limit h.front (Err truncated)
-        → (o : ByteState) → Ends h (change o o) (Err (halts.Stop (stops.Cut count truncated.taken)))
-    ends_cut h truncated within o =
-        let is : outcome.value count (truncated_text truncated.taken)
-        ≡ outcome.value (length h.items) (truncated_text (length h.front)) =
-        ap (λ n. outcome.value n (truncated_text truncated.taken)) h.counted
-        ∙ ap (λ n. outcome.value (length h.items) (truncated_text n)) within.0 in (
+        → (o : ByteState) (stop : Stop)
+        → IsOrMemory (stops.Value count (truncated_text truncated.taken)) stop
+        → Ends h (change o o) (Err (halts.Stop stop))
+    ends_cut h truncated within o stop (inr memory) = (inr memory, puts_nothing o)
+    ends_cut h truncated within o stop (inl told) =
+        let is : stop ≡ stops.Value (length h.items) (truncated_text (length h.front)) =
+        told ∙ (ap (λ n. stops.Value n (truncated_text truncated.taken)) h.counted
+        ∙ ap (λ n. stops.Value (length h.items) (truncated_text n)) within.0) in (
           inl (
             cut (length h.front),
             (within.1, refl, h.is_front),
@@ -272,21 +275,21 @@ module _ (r : Requested) (all : List Section) (limit : ℕ) where
 
       abbrev StopsIn : Stop → Type 0
       StopsIn stop =
-          StopsHere declared_sections a h.items (h.front ++ rest) (stop_of stop)
-          ⊎ (stop_of stop ≡ out_of_memory)
+          StopsHere declared_sections a h.items (h.front ++ rest) stop
+          ⊎ (stop ≡ out_of_memory)
 
       -- what is refused
       pub stops_in :
           (refusal : ReadRefusal) (stop : Stop) → RefusedIn limit (h.front ++ rest) refusal
           → IsStopOf count refusal stop → StopsIn stop
-      stops_in refusal stop refused (inl (memory, is)) = inr is
+      stops_in refusal stop refused (inl memory) = inr memory
       stops_in refusal stop refused (inr (some, is)) =
           elim ((unless_memory refusal ((n : ℕ) × (n ≤ length (h.front ++ rest)) × IsRefused limit (take n (h.front ++ rest)) refusal)).1 refused) [
             | inl e ↦ absurd (some e)
             | inr tail ↦ inl (inr (record {
               refusal = refusal;
               tail = tail;
-              is = subst (λ n. stop_of stop ≡ outcome.value n (refusal_text refusal)) h.counted is;
+              is = subst (λ n. stop ≡ stops.Value n (refusal_text refusal)) h.counted is;
             }))
           ]
 
@@ -306,12 +309,12 @@ module _ (r : Requested) (all : List Section) (limit : ℕ) where
           (holds h, inr memory, none)
       next_halts n out reader' count' well' (halts.Stop stop) (inr comes, none) =
           let more = stop_stays declared_sections a h.items (h.front ++ take n rest) (drop n rest)
-          (stop_of stop) (inl comes) in
+          stop (inl comes) in
           let same : (h.front ++ take n rest) ++ drop n rest ≡ h.front ++ rest =
           append_assoc h.front (take n rest) (drop n rest)
           ∙ ap (λ r. h.front ++ r) (take-append-drop n rest) in (
             holds h,
-            inl (subst (λ b. StopsHere declared_sections a h.items b (stop_of stop)) same more),
+            inl (subst (λ b. StopsHere declared_sections a h.items b stop) same more),
             none,
           )
       next_halts n out reader' count' well' halts.WriteFault (next, (items, left, first), part) =
@@ -397,7 +400,7 @@ module _ (r : Requested) (all : List Section) (limit : ℕ) where
           reason = reason;
           uncertified = subst (λ n. IsUncertified declared_sections a n f.tree reason) v.counted
               (uncertified_read (type_over r) all limit count value f.tree reason f.is_value by);
-          is = subst (λ n. stop_of stop ≡ outcome.uncertified_value n reason) v.counted is;
+          is = subst (λ n. stop ≡ uncertified_value n reason) v.counted is;
         }),
         none,
       )
@@ -423,7 +426,7 @@ module _ (r : Requested) (all : List Section) (limit : ℕ) where
 module _ (t : TypeOver) (all : List Section) (number : ℕ) (graph : List Obj) (v : Val)
     (out : Change ByteState) where
   pub shown_memory :
-      (result : Result Bool Halt) → IsErrAnd result (λ h. h ≡ halts.Stop stops.Memory)
+      (result : Result Bool Halt) → IsErrAnd result (λ h. h ≡ halts.Stop out_of_memory)
       → Puts out [] → PutsShown t all number graph v out result
   shown_memory (Ok well) is none = absurd is
   shown_memory (Err halt) is none =

@@ -5,10 +5,10 @@ use Rattle.om_model.specs.declared.value.Obj.{Obj}
 use Rattle.om_section.specs.declared.section.Section.{Section}
 use Rattle.om_edge.specs.Sink.{Puts, PutsPart}
 use Rattle.om_edge.specs.State.{ByteState, Change}
-use Rattle.om_outcome.specs.Outcome.{uncertified_value, line}
+use Rattle.om_outcome.specs.Outcome.{line}
+use Rattle.om_outcome.specs.declared.stop.Stop.TheVariants.{Uncertified as uncertified_value}
 use Rattle.om_stops.specs.declared.stop.Halt.{Halt}
 use Rattle.om_stops.specs.declared.stop.Halt.TheVariants as halts
-use Rattle.om_stops.specs.Stops.{stop_of}
 use Rattle.om_declared.specs.Checked.{OrMemory}
 use Rattle.om_declared.specs.Language.{TypeOver}
 use Rattle.om_verification.specs.Verification.{Shown, shows, rejects}
@@ -52,7 +52,7 @@ PutsShown t sections number graph v out (Ok well) =
     × Puts out (line said)
 PutsShown t sections number graph v out (Err (halts.Stop stop)) =
     OrMemory (λ stop. (reason : List ℕ) × IsUncertifiedBy t sections number graph v reason
-    × (stop_of stop ≡ uncertified_value number reason)) stop
+    × (stop ≡ uncertified_value number reason)) stop
     × Puts out []
 PutsShown t sections number graph v out (Err halts.WriteFault) =
     (said : List ℕ) × (well : Bool) × IsShownBy t sections number graph v (shows said well)

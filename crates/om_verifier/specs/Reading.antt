@@ -1,19 +1,14 @@
 -- What has been read of the values, and said of them by their sections, as their bytes come.
-use Rattle.std.specs.Prelude.{ℕ, ◌<◌, ◌≡◌, ◌≢◌, ◌⊎◌, Bool, false, List, [], ◌∷◌, ◌++◌, length, Result, Ok, Err}
-use Rattle.om_model.specs.declared.refusal.ReadRefusal.{ReadRefusal}
-use Rattle.om_model.specs.declared.refusal.ReadRefusal.TheVariants as refusals
+use Rattle.std.specs.Prelude.{ℕ, ◌<◌, ◌≡◌, Bool, false, List, [], ◌∷◌, ◌++◌, length, Result, Ok, Err}
 use Rattle.om_format.specs.Front.{IsFront}
 use Rattle.om_read.specs.declared.reader.Reader.{Reader}
 use Rattle.om_read.specs.Reader.{Leads, IsDone}
 use Rattle.om_section.specs.declared.section.Section.{Section}
 use Rattle.om_edge.specs.Sink.{Puts, PutsPart}
 use Rattle.om_edge.specs.State.{ByteState, Change}
-use Rattle.om_outcome.specs.RefusalText.{refusal_text}
-use Rattle.om_outcome.specs.Outcome.{value, out_of_memory, Said, all_well}
+use Rattle.om_outcome.specs.Outcome.{Said, all_well}
 use Rattle.om_stops.specs.declared.stop.Halt.{Halt}
 use Rattle.om_stops.specs.declared.stop.Halt.TheVariants as halts
-use Rattle.om_stops.specs.declared.stop.Stop.{Stop}
-use Rattle.om_stops.specs.Stops.{stop_of}
 use Rattle.om_promises.specs.Commands.{Item, Commands, SaysFirst}
 use Rattle.om_work.specs.Works.{AreSaid}
 use Rattle.om_declared.specs.Checked.{OrMemory}
@@ -43,12 +38,6 @@ abbrev pub certified_after :
     Requested → List Section → Reading → Passed × Verification TypeOver Section
 certified_after r sections reading =
     (record { bytes = reading.skip; copied = false }, certified r sections reading.limit)
-
--- the stop of value k that is refused, where it is not for out of memory
-abbrev pub IsStopOf : ℕ → ReadRefusal → Stop → Type 0
-IsStopOf k refusal stop =
-    ((refusal ≡ refusals.Memory) × (stop_of stop ≡ out_of_memory))
-    ⊎ ((refusal ≢ refusals.Memory) × (stop_of stop ≡ value k (refusal_text refusal)))
 
 module _ (r : Requested) (sections : List Section) (limit : ℕ) (reader : Reader) (count : ℕ)
     (well : Bool) (taken : List ℕ) (said : List Said) where
@@ -85,7 +74,7 @@ PutsNext r sections limit reader count well taken said items whole out (Ok unit)
     × Puts out next.text
 PutsNext r sections limit reader count well taken said items whole out (Err (halts.Stop stop)) =
     OrMemory (λ stop. ComesUncertified declared_sections (certified r sections limit)
-    (length items) whole (stop_of stop)) stop
+    (length items) whole stop) stop
     × Puts out []
 PutsNext r sections limit reader count well taken said items whole out (Err halts.WriteFault) =
     (next : Said)

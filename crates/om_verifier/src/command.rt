@@ -134,7 +134,7 @@ pub fn verify<S: Source, O: Opener, K: Sink, E: Sink>(
         (change (K.state out.old) (K.state out.new))
         (change (E.state err.old) (E.state err.new)) result) }
 {
-    match find_type(alloc, files, file, type_text, lines) {
+    match find_type(alloc, files, file, type_text, lines, false) {
         Ok(requested) => verify_over(
             alloc,
             requested,

@@ -1,19 +1,23 @@
-//! CERT, opened and read.
+//! CERT, opened, and read as its bytes come.
 
-ghost use Rattle.std.specs.Prelude.{ℕ, List as Seq};
+ghost use Rattle.std.specs.Prelude.{ℕ, ◌≡◌, ◌<◌, ◌+◌, ◌^◌, ◌++◌, [], length, vec_len, List as Seq, IfOk, OnOk};
+ghost use Rattle.om_model.specs.Bytes.{AreBytes};
 ghost use Rattle.om_outcome.specs.Outcome.{opened};
-ghost use Rattle.om_edge.specs.State.{change};
-ghost use Rattle.om_declared.specs.Gathered.{taken_of};
-ghost use Rattle.om_verifier.specs.Files.{IsCertificateStop, GivesCertificate, FindsCertificateIn};
+ghost use Rattle.om_edge.specs.State.{as_source, change};
+ghost use Rattle.om_promises.specs.Given.{piece_limit};
+ghost use Rattle.om_section.specs.Coming.{HasCome};
+ghost use Rattle.om_verifier.specs.Files.{IsCertificateStop, GivesCertificate, all_of, ComesWhole, TakesCertificate, FindsCertificateIn};
 
-use om_declared::{Fetch, Gathered, InputEnd, fetch_file};
-use om_edge::Opener;
-use om_section::{Cert, CertFault, read_cert};
-use om_stops::stop::Stop;
+use om_edge::{OpenError, Opener};
+use om_model::Memory;
+use om_outcome::stop::Stop;
+use om_section::{Cert, CertFault, CertReader};
+use om_stops::made::unopened_file;
+use om_work::{LENGTH_LIMIT, PIECE};
 use std::alloc::Global;
 
 /// The stop of a CERT that is refused.
-fn certificate_stop(fault: CertFault) -> Stop<'static>
+fn certificate_stop(fault: CertFault) -> Stop
     ensures { IsCertificateStop fault result }
 {
     match fault {
@@ -22,49 +26,96 @@ fn certificate_stop(fault: CertFault) -> Stop<'static>
     }
 }
 
-// Reads the sections of a certificate that was gathered.
-fn read_sections<'a>(alloc: Global, gathered: &Gathered) -> Result<Cert, Stop<'a>>
-    ensures { (name : Seq ℕ) → GivesCertificate name (opened (taken_of gathered.now)) result }
+/// Memory for the bytes that a call gives.
+fn new_buffer(alloc: Global) -> Result<Vec<u8>, Memory>
+    ensures { IfOk result (λ buffer. vec_len buffer ≡ piece_limit) }
 {
-    match gathered.until {
-        InputEnd::Fault => return Err(Stop::ReadFault),
-        InputEnd::Length => return Err(Stop::TooLong),
-        InputEnd::End => {}
+    Ok(vec![in alloc; 0; PIECE]?)
+}
+
+/// Hands the reader the next piece.
+fn hand_on(reader: &mut CertReader, piece: &[u8]) -> Result<(), Memory>
+    requires { (bytes : Seq ℕ) × HasCome reader.old bytes
+        × (length bytes + length piece.now < 2 ^ 63) }
+    ensures come { OnOk result ((bytes : Seq ℕ) → HasCome reader.old bytes
+        → HasCome reader.new (bytes ++ piece.now)) }
+    ensures are_bytes { AreBytes piece.now }
+{
+    reader.take(piece)
+}
+
+// Takes the bytes of CERT and hands them on, up to their end, a fault or 2^48 bytes; behind a line
+// that is refused too, since a fault of reading goes before it.
+fn take_pieces<O: Opener>(
+    files: &mut O,
+    reader: &mut CertReader,
+    buffer: &mut [u8],
+) -> Result<(), Stop>
+    requires begun { HasCome reader.old [] }
+    requires room { length buffer.old ≡ piece_limit }
+    ensures taken { ComesWhole
+        (change (as_source (O.state files.old)) (as_source (O.state files.new))) reader.new
+        result }
+    ensures frame { O.state files.new ≡ record (O.state files.old) {
+      left = (O.state files.new).left;
+      read_faults = (O.state files.new).read_faults;
+    } }
+{
+    let mut taken = 0;
+    while taken < LENGTH_LIMIT {
+        let Ok(n) = files.take(buffer) else {
+            return Err(Stop::ReadFault);
+        };
+        if n == 0 {
+            return Ok(());
+        }
+        let Ok(()) = hand_on(reader, &buffer[..n]) else {
+            return Err(Stop::Memory);
+        };
+        taken += n;
     }
-    match read_cert(alloc, gathered.bytes.as_slice()) {
+    Err(Stop::TooLong)
+}
+
+// The sections of a CERT that has come whole.
+fn read_end(reader: CertReader) -> Result<Cert, Stop>
+    requires { (bytes : Seq ℕ) × HasCome reader bytes × (length bytes < 2 ^ 63) }
+    ensures { (name bytes : Seq ℕ) → HasCome reader bytes
+        → GivesCertificate name (opened (all_of bytes)) result }
+{
+    match reader.finish() {
         Ok(sections) => Ok(sections),
         Err(fault) => Err(certificate_stop(fault)),
     }
 }
 
-// Gives the memory of what was gathered back, and makes it small first: where a large block is
-// freed, the C library from then on serves such blocks from memory that it keeps, and the heap of
-// the values, which grows from block to block, would leave its former ones there.
-fn give_back(gathered: Gathered) {
-    let Gathered {
-        mut bytes,
-        until: _,
-    } = gathered;
-    bytes.clear();
-    bytes.shrink_to(1);
+// Reads the file fetched last as a CERT.
+fn read_fetched<O: Opener>(alloc: Global, files: &mut O) -> Result<Cert, Stop>
+    ensures taken { TakesCertificate
+        (change (as_source (O.state files.old)) (as_source (O.state files.new))) result }
+    ensures frame { O.state files.new ≡ record (O.state files.old) {
+      left = (O.state files.new).left;
+      read_faults = (O.state files.new).read_faults;
+    } }
+{
+    let Ok(mut buffer) = new_buffer(alloc) else {
+        return Err(Stop::Memory);
+    };
+    let mut reader = CertReader::new(alloc);
+    match take_pieces(files, &mut reader, &mut buffer) {
+        Ok(()) => read_end(reader),
+        Err(stop) => Err(stop),
+    }
 }
 
 /// Reads CERT.
-pub fn find_certificate<'a, O: Opener>(
-    alloc: Global,
-    files: &mut O,
-    name: &'a str,
-) -> Result<Cert, Stop<'a>>
+pub fn find_certificate<O: Opener>(alloc: Global, files: &mut O, name: &str) -> Result<Cert, Stop>
     ensures { FindsCertificateIn (change (O.state files.old) (O.state files.new)) name.now result }
 {
-    match fetch_file(alloc, files, name) {
-        Ok(Fetch::Opened(gathered)) => {
-            let sections = read_sections(alloc, &gathered);
-            give_back(gathered);
-            sections
-        }
-        Ok(Fetch::Missing) => Err(Stop::CannotOpen(name)),
-        Ok(Fetch::Failed) => Err(Stop::CannotOpen(name)),
-        Err(_) => Err(Stop::Memory),
+    match files.fetch(name) {
+        Ok(()) => read_fetched(alloc, files),
+        Err(OpenError::Missing) => Err(unopened_file(alloc, name)),
+        Err(OpenError::Failed) => Err(unopened_file(alloc, name)),
+        Err(OpenError::Memory) => Err(Stop::Memory),
     }
 }

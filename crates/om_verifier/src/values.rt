@@ -6,30 +6,21 @@ ghost use Rattle.om_outcome.specs.Outcome.{Said};
 ghost use Rattle.om_edge.specs.State.{change};
 ghost use Rattle.om_declared.specs.Types.{type_over, IsReady};
 ghost use Rattle.om_verifier.specs.Judged.{PutsShown};
-ghost use Rattle.om_verifier.specs.Reading.{IsStopOf, HasRead, IsValueRead, PutsNext, certified};
+ghost use Rattle.om_verifier.specs.Reading.{HasRead, IsValueRead, PutsNext, certified};
 
 use crate::judge::{Judged, judge};
 use om_declared::Requested;
 use om_edge::{Sink, put_all};
 use om_heap::Heap;
-use om_model::refusal::ReadRefusal;
 use om_model::value::Val;
+use om_outcome::stop::Stop;
 use om_read::{Reader, Truncated};
 use om_section::Section;
-use om_stops::stop::{Halt, Stop};
+use om_stops::made::{cut_value, refused_value};
+use om_stops::stop::Halt;
 use om_work::Work;
 use std::alloc::Global;
 use std::mem;
-
-/// The stop of the value of this number.
-fn refused(number: u64, refusal: ReadRefusal) -> Stop<'static>
-    ensures { IsStopOf number refusal result }
-{
-    match refusal {
-        ReadRefusal::Memory => Stop::Memory,
-        _ => Stop::Refused(number, refusal),
-    }
-}
 
 /// Puts what the section with the number shows of a value, and answers whether nothing is wrong
 /// with it; a value that is not certified stops the run.
@@ -154,11 +145,11 @@ impl Work for Certified<'_> {
                 }
                 Ok(fed.taken)
             }
-            Err(refusal) => Err(Halt::Stop(refused(self.count, refusal))),
+            Err(refusal) => Err(Halt::Stop(refused_value(alloc, self.count, refusal))),
         }
     }
 
-    fn end<K: Sink>(&mut self, _alloc: Global, _out: &mut K) -> Result<bool, Halt> {
+    fn end<K: Sink>(&mut self, alloc: Global, _out: &mut K) -> Result<bool, Halt> {
         match self.reader.at_end() {
             Ok(()) => {
                 if self.count < self.sections.len() as u64 {
@@ -167,7 +158,7 @@ impl Work for Certified<'_> {
                     Ok(self.well)
                 }
             }
-            Err(Truncated { taken }) => Err(Halt::Stop(Stop::Cut(self.count, taken))),
+            Err(Truncated { taken }) => Err(Halt::Stop(cut_value(alloc, self.count, taken))),
         }
     }
 

@@ -2,13 +2,14 @@
 use Rattle.std.proofs.Common.{◌≡◌, ◌⊎◌, Bool, List, [], ◌∷◌, ◌++◌, ℕ, Result, Ok, Err, inl, inr, sym, ap, ◌∙◌, subst, append-nil}
 use Rattle.om_outcome.specs.declared.status.Status.{Status}
 use Rattle.om_outcome.specs.declared.status.Status.TheVariants.{WriteFault}
-use Rattle.om_outcome.specs.Outcome.{Taken, nothing, Stop, out_of_memory, Said, says, stops, replies, texts_of, ending_of}
+use Rattle.om_outcome.specs.Outcome.{Taken, nothing, Said, says, stops, replies, texts_of, ending_of}
+use Rattle.om_outcome.specs.declared.stop.Stop.{Stop}
+use Rattle.om_outcome.specs.declared.stop.Stop.TheVariants.{Memory as out_of_memory}
 use Rattle.om_edge.specs.Sink.{Puts}
 use Rattle.om_edge.specs.State.{ByteState, FilesState, Change}
-use Rattle.om_stops.specs.declared.stop.Stop as codes
 use Rattle.om_stops.specs.declared.stop.Halt.{Halt}
 use Rattle.om_stops.specs.declared.stop.Halt.TheVariants as halts
-use Rattle.om_stops.specs.Stops.{stop_of, Reports}
+use Rattle.om_stops.specs.Stops.{Reports}
 use Rattle.om_promises.specs.Account.{FetchesFor, IsSaidFirst, SaysOfFirst, Completes, Breaks}
 use Rattle.om_promises.specs.Call.{call}
 use Rattle.om_promises.specs.Commands.{Fetches, Given, Commands, Prepares, Answers, RunReplies}
@@ -73,9 +74,9 @@ module _ {A : Type 0} (c : Commands A) (a : A) (words : List (List ℕ)) (found 
       from (inr memory) why = inr (ap (λ s. stops s) memory)
 
     ends_stopped :
-        (stop : codes.Stop) → EndsRun c a taken said out (Err (halts.Stop stop))
-        → Reports (stop_of stop) err status → Ended
-    ends_stopped stop (why, put) r = tells (stop_of stop) r.said why put r.which r.line
+        (stop : Stop) → EndsRun c a taken said out (Err (halts.Stop stop))
+        → Reports stop err status → Ended
+    ends_stopped stop (why, put) r = tells stop r.said why put r.which r.line
 
     ends_broken :
         EndsRun c a taken said out (Err halts.WriteFault) → Puts err []

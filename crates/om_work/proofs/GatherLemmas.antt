@@ -4,18 +4,19 @@ use Rattle.std.proofs.Math.Seq.{take-add, take-append-add}
 use Rattle.std.proofs.lemmas.List.{take-append-drop, take-append-le}
 use Rattle.std.specs.Prelude.{IsErrAnd, true, false, is_some}
 use Rattle.om_outcome.specs.Outcome.{Said, texts_of}
+use Rattle.om_outcome.specs.declared.stop.Stop.{Stop}
+use Rattle.om_outcome.specs.declared.stop.Stop.TheVariants.{Memory as out_of_memory}
 use Rattle.om_edge.specs.Faults.{HasCause}
 use Rattle.om_edge.specs.Sink.{Puts, PutsPart}
 use Rattle.om_edge.specs.State.{ByteState, Change, change}
 use Rattle.om_stops.specs.declared.stop.Halt.{Halt}
 use Rattle.om_stops.specs.declared.stop.Halt.TheVariants as halts
-use Rattle.om_stops.specs.declared.stop.Stop.{Stop}
 use Rattle.om_promises.specs.Account.{HoldNoStop}
 use Rattle.om_promises.specs.Commands.{Commands, SaysFirst}
 use Rattle.om_promises.proofs.PutLemmas.{puts_then, puts_nothing}
-use Rattle.om_promises.proofs.ValueLemmas.{texts_of-append}
-use Rattle.om_work.specs.Works.{Has, ItemsStay, AreSaid, HaltsWithin, Feeds, FeedsSome}
-use Rattle.om_work.specs.Gathered.{text_state, MayBreakAt, MayBreak, GathersTo, GathersUntil, Gathers, GathersOne}
+use Rattle.om_promises.proofs.ValueLemmas.{texts_of-append, texts_of-one}
+use Rattle.om_work.specs.Works.{Has, ItemsStay, AreSaid, FinishesIn, Halts, HaltsWithin, HaltsSo, Feeds, FeedsSome}
+use Rattle.om_work.specs.Gathered.{text_state, MayBreakAt, MayBreak, GathersTo, GathersUntil, GathersLast, Gathers, GathersOne}
 use Rattle.om_work.proofs.FirstLemmas.{first_stays}
 
 -- ---- a text in memory
@@ -182,15 +183,22 @@ last_split (said ∷ more) (told ∷ first) later last next same =
 module _ {A : Type 0} (c : Commands A) (a : A) where
   -- ---- one item
 
-  -- it stops the run, and puts nothing
+  -- it stops the run, and puts nothing, or the run is finished behind it
   pub one_stopped :
-      (before after : Has) (in_hand old new bytes : List ℕ) (said : List Said) → before bytes said
-      → (stop : Stop) → Feeds c a before after in_hand (grown old new) (Err (halts.Stop stop))
+      (before after : Has) (in_hand old new : List ℕ) (stop : Stop)
+      → Feeds c a before after in_hand (grown old new) (Err (halts.Stop stop))
       → GathersOne c a before after in_hand old new (Err (halts.Stop stop))
-  one_stopped before after in_hand old new bytes said there stop feeds = (
-    puts_text old new [] (feeds bytes said there).2 ∙ append-nil old,
-    λ bytes said there. let f = feeds bytes said there in (f.0, f.1),
-  )
+  one_stopped before after in_hand old new stop feeds = λ bytes said there.
+      by bytes said (feeds bytes said there) where
+        by : (bytes : List ℕ) (said : List Said)
+            → Halts c a bytes in_hand said (grown old new) (halts.Stop stop)
+            → ((holds : HoldNoStop c a bytes said)
+            × (c.Stops a holds.items (holds.rest ++ in_hand) stop ⊎ (stop ≡ out_of_memory))
+            × (new ≡ old))
+            ⊎ FinishesIn c a bytes in_hand said (grown old new) (halts.Stop stop)
+        by bytes said (inl (holds, why, none)) =
+            inl (holds, why, puts_text old new [] none ∙ append-nil old)
+        by bytes said (inr f) = inr f
 
   -- ---- items so far
 
@@ -204,6 +212,20 @@ module _ {A : Type 0} (c : Commands A) (a : A) where
     text_is = none;
     may_break = λ first later next same. absurd (none_split first later next same);
   }
+
+  module _ (in_hand bytes : List ℕ) (said : List Said) where
+    -- out may fail in one text more
+    pub may_break_last :
+        (more : List Said) (last : Said) → MayBreak c a bytes said in_hand more
+        → MayBreakAt c a bytes said in_hand more last
+        → MayBreak c a bytes said in_hand (more ++ last ∷ [])
+    may_break_last more last before at_last =
+        λ first later next same. elim (last_split more first later last next same) [
+          | inl both ↦
+              subst (λ f. MayBreakAt c a bytes said in_hand f next) both.0
+              (subst (λ s. MayBreakAt c a bytes said in_hand more s) both.1 at_last)
+          | inr some ↦ before first some.0 next some.1
+        ]
 
   module _ (stay : ItemsStay c a) (in_hand bytes : List ℕ) (said : List Said) (t n : ℕ) where
     abbrev rest : List ℕ
@@ -225,12 +247,7 @@ module _ {A : Type 0} (c : Commands A) (a : A) where
     may_break_more more [] few before holds then =
         subst (λ m. MayBreak c a bytes said in_hand m) (sym (append-nil more)) before
     may_break_more more (last ∷ []) few before holds then =
-        λ first later next same. elim (last_split more first later last next same) [
-          | inl both ↦
-              subst (λ f. MayBreakAt c a bytes said in_hand f next) both.0
-              (subst (λ s. MayBreakAt c a bytes said in_hand more s) both.1 at_last)
-          | inr some ↦ before first some.0 next some.1
-        ] where
+        may_break_last in_hand bytes said more last before at_last where
           at_last : MayBreakAt c a bytes said in_hand more last
           at_last = record {
             done = take t in_hand;
@@ -278,17 +295,62 @@ module _ {A : Type 0} (c : Commands A) (a : A) where
         SoFar → (stop : Stop)
         → GathersOne c a has after (drop t in_hand) text new (Err (halts.Stop stop))
         → (bytes : List ℕ) (said : List Said) → before bytes said
-        → GathersUntil c a in_hand stop new bytes said
-    gathers_stop so_far stop (same, one) bytes said there =
-        let s = so_far bytes said there in
-        let f = one (bytes ++ take t in_hand) (said ++ s.more) s.there in record {
-          n = t;
-          more = s.more;
-          holds = f.0;
-          why = f.1;
-          text_is = same ∙ s.text_is;
-          may_break = s.may_break;
-        }
+        → GathersUntil c a in_hand stop new bytes said ⊎ GathersLast c a in_hand stop new bytes said
+    gathers_stop so_far stop one bytes said there =
+        by (one (bytes ++ take t in_hand) (said ++ s.more) s.there) where
+          s : GathersTo c a has in_hand t text bytes said
+          s = so_far bytes said there
+
+          finished_there : FinishesIn c a (bytes ++ take t in_hand) (drop t in_hand) (said ++ s.more)
+              (grown text new) (halts.Stop stop) → GathersLast c a in_hand stop new bytes said
+          finished_there f =
+              let split = take-append-drop t in_hand in
+              let all : (bytes ++ take t in_hand) ++ drop t in_hand ≡ bytes ++ in_hand =
+              append_assoc bytes (take t in_hand) (drop t in_hand) ∙ ap (λ b. bytes ++ b) split in
+              let first = subst (λ b. SaysFirst c a b f.items ((said ++ s.more) ++ f.next ∷ []) f.rest)
+              all f.first in
+              let at_last : MayBreakAt c a bytes said in_hand s.more f.next = record {
+                done = take t in_hand;
+                rest = drop t in_hand;
+                split = sym split;
+                holds = f.holds;
+                are_said = (f.items, f.rest, first);
+              } in
+              record {
+                n = t;
+                more = s.more;
+                holds = f.holds;
+                next = f.next;
+                items = f.items;
+                rest = f.rest;
+                first = first;
+                well = f.well;
+                at = f.at;
+                is = f.is;
+                text_is = puts_text text new f.next.text f.put
+                    ∙ (ap (λ b. b ++ f.next.text) s.text_is
+                    ∙ sym (texts_of-append s.more (f.next ∷ [])
+                    ∙ ap (λ b. texts_of s.more ++ b) (texts_of-one f.next)));
+                may_break = may_break_last in_hand bytes said s.more f.next s.may_break at_last;
+              }
+
+          by : ((holds : HoldNoStop c a (bytes ++ take t in_hand) (said ++ s.more))
+              × (c.Stops a holds.items (holds.rest ++ drop t in_hand) stop
+              ⊎ (stop ≡ out_of_memory))
+              × (new ≡ text))
+              ⊎ FinishesIn c a (bytes ++ take t in_hand) (drop t in_hand) (said ++ s.more)
+              (grown text new) (halts.Stop stop)
+              → GathersUntil c a in_hand stop new bytes said
+              ⊎ GathersLast c a in_hand stop new bytes said
+          by (inl (holds, why, same)) = inl (record {
+            n = t;
+            more = s.more;
+            holds = holds;
+            why = why;
+            text_is = same ∙ s.text_is;
+            may_break = s.may_break;
+          })
+          by (inr f) = inr (finished_there f)
 
     gathers_err :
         SoFar → (any : Has) (halt : Halt)
@@ -320,15 +382,35 @@ module _ {A : Type 0} (c : Commands A) (a : A) where
           (g.more, g.there, subst (λ t. Puts (change o q) t) g.text_is put),
     )
     some_put (Err (halts.Stop stop)) gathers put = λ bytes said there.
-        let g = gathers bytes said there in record {
-          done = take g.n in_hand;
-          in_hand = drop g.n in_hand;
-          split = sym (take-append-drop g.n in_hand);
-          more = g.more;
-          between = q;
-          put = subst (λ t. Puts (change o q) t) g.text_is put;
-          halts = (g.holds, g.why, puts_nothing q);
-        }
+        by bytes said (gathers bytes said there) where
+          by : (bytes : List ℕ) (said : List Said)
+              → GathersUntil c a in_hand stop text bytes said
+              ⊎ GathersLast c a in_hand stop text bytes said
+              → HaltsSo c a bytes said in_hand (change o q) (halts.Stop stop)
+          by bytes said (inl g) = inl (record {
+            done = take g.n in_hand;
+            in_hand = drop g.n in_hand;
+            split = sym (take-append-drop g.n in_hand);
+            more = g.more;
+            between = q;
+            put = subst (λ t. Puts (change o q) t) g.text_is put;
+            halts = (g.holds, g.why, puts_nothing q);
+          })
+          by bytes said (inr g) = inr (record {
+            done = take g.n in_hand;
+            in_hand = drop g.n in_hand;
+            split = sym (take-append-drop g.n in_hand);
+            more = g.more;
+            holds = g.holds;
+            next = g.next;
+            items = g.items;
+            rest = g.rest;
+            first = g.first;
+            well = g.well;
+            at = g.at;
+            is = g.is;
+            put = subst (λ t. Puts (change o q) t) g.text_is put;
+          })
     some_put (Err halts.WriteFault) never put = absurd never
 
     broken :
@@ -359,7 +441,15 @@ module _ {A : Type 0} (c : Commands A) (a : A) where
         → (text ≡ [] → ⊥) → PutsPart (change o q) text
         → FeedsSome c a before after in_hand (change o q) (Err halts.WriteFault)
     some_broken (Ok n) gathers some part = λ bytes said there.
-        let g = gathers.2 bytes said there in broken some part bytes said g.more g.text_is g.may_break
+        let g = gathers.2 bytes said there in
+        inl (broken some part bytes said g.more g.text_is g.may_break)
     some_broken (Err (halts.Stop stop)) gathers some part = λ bytes said there.
-        let g = gathers bytes said there in broken some part bytes said g.more g.text_is g.may_break
+        by bytes said (gathers bytes said there) where
+          by : (bytes : List ℕ) (said : List Said)
+              → GathersUntil c a in_hand stop text bytes said
+              ⊎ GathersLast c a in_hand stop text bytes said
+              → HaltsSo c a bytes said in_hand (change o q) halts.WriteFault
+          by bytes said (inl g) = inl (broken some part bytes said g.more g.text_is g.may_break)
+          by bytes said (inr g) =
+              inl (broken some part bytes said (g.more ++ g.next ∷ []) g.text_is g.may_break)
     some_broken (Err halts.WriteFault) never some part = absurd never

@@ -1,12 +1,12 @@
 -- A status of the outside comes only of a call that has it.
 use Rattle.std.proofs.Common.{◌≡◌, ℕ, ◌+◌, ◌^◌, ◌≤◌, Bool, List, [], length, Result, Ok, Err, IfSome, inl, inr, refl, sym, ap, ◌∙◌, subst, length-append, arith}
 use Rattle.std.proofs.lemmas.Option.{IfSome_then}
-use Rattle.om_outcome.specs.Outcome.{Taken, InputEnd, at_end, at_fault, at_length, unasked, Stop, Said, stops, replies}
+use Rattle.om_outcome.specs.Outcome.{Taken, InputEnd, at_end, at_fault, at_length, unasked, Said, stops, replies}
+use Rattle.om_outcome.specs.declared.stop.Stop.{Stop}
 use Rattle.om_edge.specs.Faults.{RoseOrLast}
 use Rattle.om_edge.specs.State.{ByteState, Change}
 use Rattle.om_stops.specs.declared.stop.Halt.{Halt}
 use Rattle.om_stops.specs.declared.stop.Halt.TheVariants as halts
-use Rattle.om_stops.specs.Stops.{stop_of}
 use Rattle.om_promises.specs.Commands.{Item, Commands, Closes, IsLast, Answers}
 use Rattle.om_promises.specs.Given.{Gathers}
 use Rattle.om_promises.specs.Lawful.{IsInner, AreLawfulAt}
@@ -65,7 +65,7 @@ module _ {A : Type 0} (c : Commands A) (a : A) (lawful : AreLawfulAt c a)
       → EndsRun c a taken said out result → HaltsByOutside input out result
   ends_reason said out (Ok well) ends = tt
   ends_reason said out (Err (halts.Stop stop)) (inl answers, put) =
-      answers_reason said (stop_of stop) answers
+      answers_reason said stop answers
   ends_reason said out (Err (halts.Stop stop)) (inr memory, put) = inr (inl memory)
   ends_reason said out (Err halts.WriteFault) (next, why, part) = part_rose out _ _ part
 

@@ -1,15 +1,16 @@
 -- What the loop over a piece has done so far.
-use Rattle.std.proofs.Common.{◌≡◌, ℕ, ◌+◌, ◌<◌, List, [], ◌++◌, length, take, drop, Result, Ok, Err, refl, sym, ap, ◌∙◌, subst, append_assoc, append-nil, length-append, arith}
+use Rattle.std.proofs.Common.{◌≡◌, ℕ, ◌+◌, ◌<◌, List, [], ◌++◌, length, take, drop, ◌⊎◌, ◌∷◌, Result, Ok, Err, inl, inr, refl, sym, ap, ◌∙◌, subst, append_assoc, append-nil, length-append, arith}
 use Rattle.std.proofs.lemmas.List.{length-drop, take-append-drop}
 use Rattle.std.specs.Prelude.{Bool, IsErrAnd}
 use Rattle.om_outcome.specs.Outcome.{Said, texts_of}
 use Rattle.om_edge.specs.Sink.{Puts}
 use Rattle.om_edge.specs.State.{ByteState, Change, change}
 use Rattle.om_stops.specs.declared.stop.Halt.{Halt}
-use Rattle.om_promises.specs.Commands.{Commands}
+use Rattle.om_promises.specs.Commands.{Commands, SaysFirst}
+use Rattle.om_promises.specs.Account.{HoldNoStop}
 use Rattle.om_promises.proofs.PutLemmas.{puts_then, puts_nothing}
 use Rattle.om_promises.proofs.ValueLemmas.{texts_of-append}
-use Rattle.om_work.specs.Works.{Has, HaltsIn, HaltsWithin, Feeds, FeedsSome, FeedsAll, EndsAt}
+use Rattle.om_work.specs.Works.{Has, HaltsIn, HaltsWithin, FinishesWithin, HaltsSo, Feeds, FeedsSome, FeedsAll, EndsAt}
 
 -- what is before the rest of the piece is taken, and what is said of its items is put
 pub record PieceSoFar (has : Has) (bytes : List ℕ) (said : List Said) (piece rest : List ℕ)
@@ -71,7 +72,7 @@ module _ {A : Type 0} (c : Commands A) (a : A) (has : Has) (bytes : List ℕ) (s
     s.put,
   )
 
-  pub piece_halts :
+  piece_halts :
       (q : ByteState) (halt : Halt)
       → HaltsWithin c a (bytes ++ s.done) (said ++ s.more) rest (change p q) halt
       → HaltsWithin c a bytes said piece (change o q) halt
@@ -88,6 +89,46 @@ module _ {A : Type 0} (c : Commands A) (a : A) (has : Has) (bytes : List ℕ) (s
         (subst (λ all. HaltsIn c a ((bytes ++ s.done) ++ h.done) h.in_hand all (change h.between q) halt)
         (append_assoc said s.more h.more) h.halts);
   }
+
+  piece_finishes :
+      (q : ByteState) (halt : Halt)
+      → FinishesWithin c a (bytes ++ s.done) (said ++ s.more) rest (change p q) halt
+      → FinishesWithin c a bytes said piece (change o q) halt
+  piece_finishes q halt f =
+      let along = append_assoc said s.more f.more in
+      let all : (bytes ++ s.done) ++ rest ≡ bytes ++ piece =
+      append_assoc bytes s.done rest ∙ ap (λ p. bytes ++ p) (sym s.split) in
+      record {
+        done = s.done ++ f.done;
+        in_hand = f.in_hand;
+        split = s.split
+            ∙ (ap (λ r. s.done ++ r) f.split ∙ sym (append_assoc s.done f.done f.in_hand));
+        more = s.more ++ f.more;
+        holds = subst (λ b. HoldNoStop c a b (said ++ (s.more ++ f.more)))
+            (append_assoc bytes s.done f.done)
+            (subst (λ told. HoldNoStop c a ((bytes ++ s.done) ++ f.done) told) along f.holds);
+        next = f.next;
+        items = f.items;
+        rest = f.rest;
+        first = subst (λ b. SaysFirst c a b f.items ((said ++ (s.more ++ f.more)) ++ f.next ∷ []) f.rest)
+            all
+            (subst (λ told. SaysFirst c a ((bytes ++ s.done) ++ rest) f.items (told ++ f.next ∷ []) f.rest)
+            along f.first);
+        well = f.well;
+        at = f.at;
+        is = f.is;
+        put = subst (λ text. Puts (change o q) text)
+            (sym (ap texts_of (append_assoc s.more f.more (f.next ∷ []))
+            ∙ texts_of-append s.more (f.more ++ f.next ∷ [])))
+            (puts_then o p q (texts_of s.more) (texts_of (f.more ++ f.next ∷ [])) s.put f.put);
+      }
+
+  pub piece_halts_so :
+      (q : ByteState) (halt : Halt)
+      → HaltsSo c a (bytes ++ s.done) (said ++ s.more) rest (change p q) halt
+      → HaltsSo c a bytes said piece (change o q) halt
+  piece_halts_so q halt (inl h) = inl (piece_halts q halt h)
+  piece_halts_so q halt (inr f) = inr (piece_finishes q halt f)
 
 pub piece_smaller :
     {A : Type 0} (c : Commands A) (a : A) (has after : Has) (rest : List ℕ)
@@ -106,7 +147,8 @@ pub feeds_halt :
     → Feeds c a before after in_hand out result
 feeds_halt c a before after in_hand out halt (Ok n) is halts = absurd is
 feeds_halt c a before after in_hand out halt (Err e) is halts =
-    subst (λ e. Feeds c a before after in_hand out (Err e)) (sym is) halts
+    subst (λ e. Feeds c a before after in_hand out (Err e)) (sym is)
+    (λ bytes said there. inl (halts bytes said there))
 
 pub ends_halt :
     {A : Type 0} (c : Commands A) (a : A) (has : Has) (out : Change ByteState) (halt : Halt)
@@ -139,7 +181,7 @@ module _ {A : Type 0} (c : Commands A) (a : A) (before has : Has) (piece rest : 
       subst (λ e. FeedsAll c a {U = Unit {0}} before any piece (change o q) (Err e)) (sym is)
       (λ bytes said there.
       let so_far = s bytes said there in
-      piece_halts c a has bytes said piece rest o p so_far q halt
+      piece_halts_so c a has bytes said piece rest o p so_far q halt
       (feeds (bytes ++ so_far.done) (said ++ so_far.more) so_far.there))
 
   pub fed_all : rest ≡ [] → FeedsAll c a {U = Unit {0}} before has piece (change o p) (Ok tt)

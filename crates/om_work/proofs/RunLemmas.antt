@@ -3,21 +3,21 @@ use Rattle.std.proofs.Common.{◌≡◌, ℕ, ◌+◌, ◌^◌, ◌<◌, ◌≤�
 use Rattle.std.proofs.lemmas.List.{length-take}
 use Rattle.std.specs.Prelude.{IsErrAnd}
 use Rattle.om_model.specs.Bytes.{AreBytes}
-use Rattle.om_outcome.specs.Outcome.{InputEnd, at_end, at_fault, at_length, unasked, Said, says, stops, Reply, replies, texts_of, Stop, read_fault, too_long}
+use Rattle.om_outcome.specs.Outcome.{InputEnd, at_end, at_fault, at_length, unasked, Said, says, stops, Reply, replies, texts_of}
+use Rattle.om_outcome.specs.declared.stop.Stop.{Stop}
+use Rattle.om_outcome.specs.declared.stop.Stop.TheVariants.{Finished as finished, ReadFault as read_fault, TooLong as too_long, Memory as out_of_memory}
 use Rattle.om_edge.specs.Sink.{Puts}
 use Rattle.om_edge.specs.Source.{TakesFront}
 use Rattle.om_edge.specs.State.{ByteState, Change, change}
-use Rattle.om_stops.specs.declared.stop.Stop.TheVariants as codes
 use Rattle.om_stops.specs.declared.stop.Halt.{Halt}
 use Rattle.om_stops.specs.declared.stop.Halt.TheVariants as halts
-use Rattle.om_stops.specs.Stops.{stop_of}
 use Rattle.om_promises.specs.Account.{HoldNoStop, IsPaced}
 use Rattle.om_promises.specs.Commands.{Item, Commands, SaysFirst, IsLast, Answers}
 use Rattle.om_promises.specs.Given.{piece_limit, Gathers}
 use Rattle.om_promises.proofs.PutLemmas.{puts_then, puts_nothing}
 use Rattle.om_promises.proofs.TakeLemmas.{taken, took_nothing, took_more, took_end, took_fault, took_length}
 use Rattle.om_promises.proofs.ValueLemmas.{texts_of-append, texts_of-one}
-use Rattle.om_work.specs.Works.{Has, ItemsStay, AreSaid, HaltsIn, FeedsAll, PutsLast, EndsAt}
+use Rattle.om_work.specs.Works.{Has, ItemsStay, AreSaid, HaltsIn, FinishesWithin, HaltsSo, FeedsAll, PutsLast, EndsAt}
 use Rattle.om_work.specs.Runs.{EndsRun, Runs}
 use Rattle.om_work.proofs.FirstLemmas.{first_stays, none_first}
 
@@ -50,7 +50,9 @@ module _ {A : Type 0} (c : Commands A) (a : A) where
     earlier = bytes;
     in_hand = [];
     bytes_are = sym (append-nil bytes);
+    before = said;
     holds = holds;
+    said_are = inl refl;
     piece = omega arith;
     asked = inr refl;
   }
@@ -84,7 +86,7 @@ module _ {A : Type 0} (c : Commands A) (a : A) where
     last_put o p q (Ok well) before (final, ends, is, put) =
         (final, answers (says final) ends, is, put_final said final o p q before put)
     last_put o p q (Err (halts.Stop stop)) before (inl ends, none) =
-        (inl (answers (stops (stop_of stop)) ends), put_none said o p q before none)
+        (inl (answers (stops stop) ends), put_none said o p q before none)
     last_put o p q (Err (halts.Stop stop)) before (inr memory, none) =
         (inr memory, put_none said o p q before none)
     last_put o p q (Err halts.WriteFault) before (final, ends, part) =
@@ -116,7 +118,7 @@ module _ {A : Type 0} (c : Commands A) (a : A) where
   -- there was no memory to take any of it
   pub run_without_memory :
       c.Reads a → (i o : ByteState) → HoldNoStop c a [] []
-      → Runs c a (change i i) (change o o) (Err (halts.Stop codes.Memory))
+      → Runs c a (change i i) (change o o) (Err (halts.Stop out_of_memory))
   run_without_memory reads i o holds = record {
     taken = taken [] unasked;
     gathers = took_nothing i;
@@ -140,7 +142,7 @@ module _ {A : Type 0} (c : Commands A) (a : A) where
 
     pub run_too_long :
         HoldNoStop c a s.bytes s.said → 2 ^ 48 ≤ count
-        → Runs c a (change i j) (change o p) (Err (halts.Stop codes.TooLong))
+        → Runs c a (change i j) (change o p) (Err (halts.Stop too_long))
     run_too_long holds long =
         let counted = s.counted in record {
           taken = taken s.bytes at_length;
@@ -153,7 +155,7 @@ module _ {A : Type 0} (c : Commands A) (a : A) where
     module _ {E : Type 0} (k : ByteState) (buffer : List ℕ) (short : count < 2 ^ 48) where
       pub run_fault :
           HoldNoStop c a s.bytes s.said → (e : E) → TakesFront {E = E} j k (Err e) buffer
-          → Runs c a (change i k) (change o p) (Err (halts.Stop codes.ReadFault))
+          → Runs c a (change i k) (change o p) (Err (halts.Stop read_fault))
       run_fault holds e moved = record {
         taken = taken s.bytes at_fault;
         gathers = took_fault i j k s.bytes buffer s.gathers e (few short) moved;
@@ -224,7 +226,9 @@ module _ {A : Type 0} (c : Commands A) (a : A) where
             earlier = s.bytes ++ done;
             in_hand = in_hand;
             bytes_are = bytes_are;
+            before = all;
             holds = holds;
+            said_are = inl refl;
             piece = few_in_hand;
             asked = inl refl;
           }
@@ -253,7 +257,7 @@ module _ {A : Type 0} (c : Commands A) (a : A) where
             gathers = more_taken;
             said = all;
             first = inl (reads, paced holds);
-            ends = (inl (halted_at holds (stop_of stop) at), put_none all o r q put none);
+            ends = (inl (halted_at holds stop at), put_none all o r q put none);
           }
           halted (halts.Stop stop) (holds, inr memory, none) = record {
             taken = taken (s.bytes ++ take n buffer) unasked;
@@ -274,6 +278,61 @@ module _ {A : Type 0} (c : Commands A) (a : A) where
             );
           }
 
+        -- the run is finished within the piece
+        finished_so :
+            (halt : Halt) → FinishesWithin c a s.bytes s.said (take n buffer) (change p q) halt
+            → Runs c a (change i k) (change o q) (Err halt)
+        finished_so halt f =
+            let all : List Said = (s.said ++ f.more) ++ f.next ∷ [] in
+            let size = ap length f.split ∙ length-append f.done f.in_hand in
+            let few = length-take n buffer in
+            let texts : texts_of all ≡ texts_of s.said ++ texts_of (f.more ++ f.next ∷ []) =
+            ap texts_of (append_assoc s.said f.more (f.next ∷ []))
+            ∙ texts_of-append s.said (f.more ++ f.next ∷ []) in
+            let put : Puts (change o q) (texts_of all) =
+            subst (λ text. Puts (change o q) text) (sym texts)
+            (puts_then o p q (texts_of s.said) (texts_of (f.more ++ f.next ∷ [])) s.put f.put) in
+            subst (λ e. Runs c a (change i k) (change o q) (Err e)) (sym f.is) (record {
+              taken = taken (s.bytes ++ take n buffer) unasked;
+              gathers = more_taken;
+              said = all;
+              first = inl (
+                reads,
+                record {
+                  earlier = s.bytes ++ f.done;
+                  in_hand = f.in_hand;
+                  bytes_are = ap (λ b. s.bytes ++ b) f.split
+                      ∙ sym (append_assoc s.bytes f.done f.in_hand);
+                  before = s.said ++ f.more;
+                  holds = f.holds;
+                  said_are = inr (record {
+                    next = f.next;
+                    said_are = refl;
+                    items = f.items;
+                    rest = f.rest;
+                    first = f.first;
+                    well = f.well;
+                    at = f.at;
+                    no_more = refl;
+                  });
+                  piece = omega (arith, size, few, piece);
+                  asked = inl refl;
+                },
+              );
+              ends = (
+                inl (inl (
+                  reads,
+                  record {
+                    items = f.items;
+                    rest = f.rest;
+                    first = f.first;
+                    last = inl (finished f.well, f.at, refl, refl);
+                  },
+                )),
+                put,
+              );
+            })
+
         pub run_halts :
             ItemsStay c a → (after : Has) (halt : Halt) (result : Result Bool Halt)
             → IsErrAnd result (λ e. e ≡ halt)
@@ -281,10 +340,14 @@ module _ {A : Type 0} (c : Commands A) (a : A) where
             → Runs c a (change i k) (change o q) result
         run_halts stay after halt (Ok well) is feeds = absurd is
         run_halts stay after halt (Err e) is feeds =
-            let h = feeds s.bytes s.said s.there in
-            let before : Puts (change o h.between) (texts_of (s.said ++ h.more)) =
-            subst (λ text. Puts (change o h.between) text)
-            (sym (texts_of-append s.said h.more))
-            (puts_then o p h.between (texts_of s.said) (texts_of h.more) s.put h.put) in
             subst (λ e. Runs c a (change i k) (change o q) (Err e)) (sym is)
-            (halted stay h.done h.in_hand h.split (s.said ++ h.more) h.between before halt h.halts)
+            (by (feeds s.bytes s.said s.there)) where
+              by : HaltsSo c a s.bytes s.said (take n buffer) (change p q) halt
+                  → Runs c a (change i k) (change o q) (Err halt)
+              by (inl h) =
+                  let before : Puts (change o h.between) (texts_of (s.said ++ h.more)) =
+                  subst (λ text. Puts (change o h.between) text)
+                  (sym (texts_of-append s.said h.more))
+                  (puts_then o p h.between (texts_of s.said) (texts_of h.more) s.put h.put) in
+                  halted stay h.done h.in_hand h.split (s.said ++ h.more) h.between before halt h.halts
+              by (inr f) = finished_so halt f

@@ -1,15 +1,15 @@
 -- What is said of items, gathered before it is put.
-use Rattle.std.specs.Prelude.{ℕ, ◌<◌, ◌≤◌, ◌≡◌, ◌⊎◌, List, [], ◌∷◌, ◌++◌, length, take, drop, Some, Result, Ok, Err}
-use Rattle.om_outcome.specs.Outcome.{out_of_memory, Said, texts_of}
+use Rattle.std.specs.Prelude.{ℕ, ◌<◌, ◌≤◌, ◌≡◌, ◌⊎◌, Bool, List, [], ◌∷◌, ◌++◌, length, take, drop, Some, Result, Ok, Err}
+use Rattle.om_outcome.specs.Outcome.{Said, texts_of}
+use Rattle.om_outcome.specs.declared.stop.Stop.{Stop}
+use Rattle.om_outcome.specs.declared.stop.Stop.TheVariants.{Finished as finished, Memory as out_of_memory}
 use Rattle.om_edge.specs.Faults.{last_count}
-use Rattle.om_edge.specs.State.{ByteState}
+use Rattle.om_edge.specs.State.{ByteState, change}
 use Rattle.om_stops.specs.declared.stop.Halt.{Halt}
 use Rattle.om_stops.specs.declared.stop.Halt.TheVariants as halts
-use Rattle.om_stops.specs.declared.stop.Stop.{Stop}
-use Rattle.om_stops.specs.Stops.{stop_of}
 use Rattle.om_promises.specs.Account.{HoldNoStop}
-use Rattle.om_promises.specs.Commands.{Commands}
-use Rattle.om_work.specs.Works.{Has, AreSaid}
+use Rattle.om_promises.specs.Commands.{Item, Commands, SaysFirst}
+use Rattle.om_work.specs.Works.{Has, AreSaid, FinishesIn}
 
 -- a text in memory, as a sink: how often memory ran out is not counted
 abbrev pub text_state : List ℕ → ByteState
@@ -45,10 +45,26 @@ module _ {A : Type 0} (c : Commands A) (a : A) where
     pub n : ℕ
     pub more : List Said
     pub holds : HoldNoStop c a (bytes ++ take n in_hand) (said ++ more)
-    pub why : c.Stops a holds.items (holds.rest ++ drop n in_hand) (stop_of stop)
-        ⊎ (stop_of stop ≡ out_of_memory)
+    pub why : c.Stops a holds.items (holds.rest ++ drop n in_hand) stop
+        ⊎ (stop ≡ out_of_memory)
     pub text_is : text ≡ texts_of more
     pub may_break : MayBreak bytes said in_hand more
+
+  -- up to here, and then one item more, behind which the run is finished
+  pub record GathersLast (in_hand : List ℕ) (stop : Stop) (text bytes : List ℕ) (said : List Said)
+      : Type 0 where
+    pub n : ℕ
+    pub more : List Said
+    pub holds : HoldNoStop c a (bytes ++ take n in_hand) (said ++ more)
+    pub next : Said
+    pub items : List Item
+    pub rest : List ℕ
+    pub first : SaysFirst c a (bytes ++ in_hand) items ((said ++ more) ++ next ∷ []) rest
+    pub well : Bool
+    pub at : c.Stops a items rest (finished well)
+    pub is : halts.Stop stop ≡ halts.Stop (finished well)
+    pub text_is : text ≡ texts_of (more ++ next ∷ [])
+    pub may_break : MayBreak bytes said in_hand (more ++ next ∷ [])
 
   -- some bytes in hand are taken, one at least, and the text of the items that end in them is
   -- gathered; or it comes to a stop
@@ -59,7 +75,7 @@ module _ {A : Type 0} (c : Commands A) (a : A) where
       → GathersTo after in_hand n text bytes said)
   Gathers before after in_hand text (Err (halts.Stop stop)) =
       (bytes : List ℕ) (said : List Said) → before bytes said
-      → GathersUntil in_hand stop text bytes said
+      → GathersUntil in_hand stop text bytes said ⊎ GathersLast in_hand stop text bytes said
   Gathers before after in_hand text (Err halts.WriteFault) = ⊥
 
   -- the same with one item at most, whose text comes after another
@@ -72,9 +88,10 @@ module _ {A : Type 0} (c : Commands A) (a : A) where
       × after (bytes ++ take n in_hand) (said ++ more)
       × HoldNoStop c a (bytes ++ take n in_hand) (said ++ more) × (new ≡ old ++ texts_of more))
   GathersOne before after in_hand old new (Err (halts.Stop stop)) =
-      (new ≡ old)
-      × ((bytes : List ℕ) (said : List Said) → before bytes said
-      → (holds : HoldNoStop c a bytes said)
-      × (c.Stops a holds.items (holds.rest ++ in_hand) (stop_of stop)
-      ⊎ (stop_of stop ≡ out_of_memory)))
+      (bytes : List ℕ) (said : List Said) → before bytes said
+      → ((holds : HoldNoStop c a bytes said)
+      × (c.Stops a holds.items (holds.rest ++ in_hand) stop ⊎ (stop ≡ out_of_memory))
+      × (new ≡ old))
+      ⊎ FinishesIn c a bytes in_hand said (change (text_state old) (text_state new))
+      (halts.Stop stop)
   GathersOne before after in_hand old new (Err halts.WriteFault) = ⊥

@@ -2,14 +2,14 @@
 use Rattle.std.specs.Prelude.{ℕ, ◌^◌, ◌≤◌, ◌≡◌, ◌⊎◌, Bool, if◌then◌else◌, List, [], length, Result, Ok, Err, IfSome}
 use Rattle.om_outcome.specs.declared.status.Status.{Status}
 use Rattle.om_outcome.specs.declared.status.Status.TheVariants as statuses
-use Rattle.om_outcome.specs.Outcome as outcome
-use Rattle.om_outcome.specs.Outcome.{read_fault, too_long, out_of_memory}
+use Rattle.om_outcome.specs.declared.stop.Stop.{Stop}
+use Rattle.om_outcome.specs.declared.stop.Stop.TheVariants.{ReadFault as read_fault, TooLong as too_long, Memory as out_of_memory}
 use Rattle.om_edge.specs.Faults.{RoseOrLast}
 use Rattle.om_edge.specs.Sink.{Puts}
 use Rattle.om_edge.specs.State.{ByteState, FilesState, Change}
 use Rattle.om_stops.specs.declared.stop.Halt.{Halt}
 use Rattle.om_stops.specs.declared.stop.Halt.TheVariants as halts
-use Rattle.om_stops.specs.Stops.{stop_of, Reports}
+use Rattle.om_stops.specs.Stops.{Reports}
 use Rattle.om_promises.specs.Account.{FetchesFor, Account}
 use Rattle.om_promises.specs.Call.{call}
 use Rattle.om_promises.specs.Commands.{Fetches, Commands, Prepares}
@@ -24,12 +24,12 @@ ending_status well = if well then statuses.Well else statuses.No
 -- has nothing.
 abbrev pub IsReported : Result Bool Halt → Change ByteState → Status → Type 0
 IsReported (Ok well) err status = Puts err [] × (status ≡ ending_status well)
-IsReported (Err (halts.Stop stop)) err status = Reports (stop_of stop) err status
+IsReported (Err (halts.Stop stop)) err status = Reports stop err status
 IsReported (Err halts.WriteFault) err status = Puts err [] × (status ≡ statuses.WriteFault)
 
 -- The stop is the command's own; or the outside has it: memory ran out, a call on the input failed,
 -- or it has 2^48 bytes or more.
-abbrev pub HasReason : Change ByteState → outcome.Stop → Type 0
+abbrev pub HasReason : Change ByteState → Stop → Type 0
 HasReason input stop =
     IsInner stop
     ⊎ ((stop ≡ out_of_memory)
@@ -39,7 +39,7 @@ HasReason input stop =
 -- a run stops for such a reason; and out fails only by a call that failed
 abbrev pub HaltsByOutside : Change ByteState → Change ByteState → Result Bool Halt → Type 0
 HaltsByOutside input out (Ok well) = Unit {0}
-HaltsByOutside input out (Err (halts.Stop stop)) = HasReason input (stop_of stop)
+HaltsByOutside input out (Err (halts.Stop stop)) = HasReason input stop
 HaltsByOutside input out (Err halts.WriteFault) =
     RoseOrLast out.before.faults out.after.faults
 

@@ -1,11 +1,11 @@
 -- What a command does with its input, taken piece by piece.
 use Rattle.std.specs.Prelude.{◌≡◌, ◌⊎◌, Bool, List, [], ◌∷◌, ◌++◌, Result, Ok, Err}
-use Rattle.om_outcome.specs.Outcome.{Taken, nothing, out_of_memory, Said, says, stops, replies, texts_of, all_well}
+use Rattle.om_outcome.specs.Outcome.{Taken, nothing, Said, says, stops, replies, texts_of, all_well}
+use Rattle.om_outcome.specs.declared.stop.Stop.TheVariants.{Memory as out_of_memory}
 use Rattle.om_edge.specs.Sink.{Puts}
 use Rattle.om_edge.specs.State.{ByteState, Change}
 use Rattle.om_stops.specs.declared.stop.Halt.{Halt}
 use Rattle.om_stops.specs.declared.stop.Halt.TheVariants as halts
-use Rattle.om_stops.specs.Stops.{stop_of}
 use Rattle.om_promises.specs.Account.{IsPaced}
 use Rattle.om_promises.specs.Commands.{Commands, Answers}
 use Rattle.om_promises.specs.Given.{Gathers}
@@ -27,8 +27,8 @@ module _ {A : Type 0} (c : Commands A) (a : A) where
       (final : Said) × Answers c a taken (replies said (says final))
       × (well ≡ all_well (said ++ final ∷ [])) × Puts out (texts_of (said ++ final ∷ []))
   EndsRun taken said out (Err (halts.Stop stop)) =
-      (Answers c a taken (replies said (stops (stop_of stop)))
-      ⊎ (stop_of stop ≡ out_of_memory)) × Puts out (texts_of said)
+      (Answers c a taken (replies said (stops stop))
+      ⊎ (stop ≡ out_of_memory)) × Puts out (texts_of said)
   EndsRun taken said out (Err halts.WriteFault) =
       (next : Said)
       × ((c.Reads a × AreSaid c a taken.bytes (said ++ next ∷ []))

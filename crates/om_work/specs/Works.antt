@@ -1,11 +1,11 @@
 -- What a command does with the bytes of its input, as they come.
 use Rattle.std.specs.Prelude.{ℕ, ◌<◌, ◌≤◌, ◌≡◌, ◌⊎◌, Bool, List, [], ◌∷◌, ◌++◌, length, take, Result, Ok, Err}
-use Rattle.om_outcome.specs.Outcome.{out_of_memory, Said, says, stops, texts_of, all_well}
+use Rattle.om_outcome.specs.Outcome.{Said, says, stops, texts_of, all_well}
+use Rattle.om_outcome.specs.declared.stop.Stop.TheVariants.{Finished as finished, Memory as out_of_memory}
 use Rattle.om_edge.specs.Sink.{Puts, PutsPart}
 use Rattle.om_edge.specs.State.{ByteState, Change, change}
 use Rattle.om_stops.specs.declared.stop.Halt.{Halt}
 use Rattle.om_stops.specs.declared.stop.Halt.TheVariants as halts
-use Rattle.om_stops.specs.Stops.{stop_of}
 use Rattle.om_promises.specs.Account.{HoldNoStop}
 use Rattle.om_promises.specs.Commands.{Item, Commands, SaysFirst}
 
@@ -30,12 +30,30 @@ module _ {A : Type 0} (c : Commands A) (a : A) where
   abbrev pub HaltsIn : List ℕ → List ℕ → List Said → Change ByteState → Halt → Type 0
   HaltsIn earlier in_hand said out (halts.Stop stop) =
       (holds : HoldNoStop c a earlier said)
-      × (c.Stops a holds.items (holds.rest ++ in_hand) (stop_of stop)
-      ⊎ (stop_of stop ≡ out_of_memory))
+      × (c.Stops a holds.items (holds.rest ++ in_hand) stop
+      ⊎ (stop ≡ out_of_memory))
       × Puts out []
   HaltsIn earlier in_hand said out halts.WriteFault =
       HoldNoStop c a earlier said
       × (next : Said) × AreSaid (earlier ++ in_hand) (said ++ next ∷ []) × PutsPart out next.text
+
+  -- With the bytes in hand the run is finished: one item more ends in them, what is said of it is
+  -- put, and behind it the run stops so.
+  pub record FinishesIn (earlier in_hand : List ℕ) (said : List Said) (out : Change ByteState)
+      (halt : Halt) : Type 0 where
+    pub holds : HoldNoStop c a earlier said
+    pub next : Said
+    pub items : List Item
+    pub rest : List ℕ
+    pub first : SaysFirst c a (earlier ++ in_hand) items (said ++ next ∷ []) rest
+    pub well : Bool
+    pub at : c.Stops a items rest (finished well)
+    pub is : halt ≡ halts.Stop (finished well)
+    pub put : Puts out next.text
+
+  abbrev pub Halts : List ℕ → List ℕ → List Said → Change ByteState → Halt → Type 0
+  Halts earlier in_hand said out halt =
+      HaltsIn earlier in_hand said out halt ⊎ FinishesIn earlier in_hand said out halt
 
   -- Some bytes in hand are taken, one at least, and at most one item ends with them: what is said
   -- of it is put. Or it comes to a halt.
@@ -46,7 +64,7 @@ module _ {A : Type 0} (c : Commands A) (a : A) where
       → (more : List Said) × (length more ≤ 1)
       × after (bytes ++ take n in_hand) (said ++ more) × Puts out (texts_of more))
   Feeds before after in_hand out (Err halt) =
-      (bytes : List ℕ) (said : List Said) → before bytes said → HaltsIn bytes in_hand said out halt
+      (bytes : List ℕ) (said : List Said) → before bytes said → Halts bytes in_hand said out halt
 
   -- it comes to a halt within a piece: before that what is said of the items that end there is put
   pub record HaltsWithin (bytes : List ℕ) (said : List Said) (piece : List ℕ)
@@ -59,6 +77,28 @@ module _ {A : Type 0} (c : Commands A) (a : A) where
     pub put : Puts (change out.before between) (texts_of more)
     pub halts : HaltsIn (bytes ++ done) in_hand (said ++ more) (change between out.after) halt
 
+  -- the run is finished within a piece: what is said of the items that end there is put, and it
+  -- stops behind the last one
+  pub record FinishesWithin (bytes : List ℕ) (said : List Said) (piece : List ℕ)
+      (out : Change ByteState) (halt : Halt) : Type 0 where
+    pub done : List ℕ
+    pub in_hand : List ℕ
+    pub split : piece ≡ done ++ in_hand
+    pub more : List Said
+    pub holds : HoldNoStop c a (bytes ++ done) (said ++ more)
+    pub next : Said
+    pub items : List Item
+    pub rest : List ℕ
+    pub first : SaysFirst c a (bytes ++ piece) items ((said ++ more) ++ next ∷ []) rest
+    pub well : Bool
+    pub at : c.Stops a items rest (finished well)
+    pub is : halt ≡ halts.Stop (finished well)
+    pub put : Puts out (texts_of (more ++ next ∷ []))
+
+  abbrev pub HaltsSo : List ℕ → List Said → List ℕ → Change ByteState → Halt → Type 0
+  HaltsSo bytes said piece out halt =
+      HaltsWithin bytes said piece out halt ⊎ FinishesWithin bytes said piece out halt
+
   -- Some bytes in hand are taken, one at least, and what is said of the items that end in them is
   -- put; or it comes to a halt within those in hand.
   abbrev pub FeedsSome : Has → Has → List ℕ → Change ByteState → Result ℕ Halt → Type 0
@@ -68,8 +108,7 @@ module _ {A : Type 0} (c : Commands A) (a : A) where
       → (more : List Said) × after (bytes ++ take n in_hand) (said ++ more)
       × Puts out (texts_of more))
   FeedsSome before after in_hand out (Err halt) =
-      (bytes : List ℕ) (said : List Said) → before bytes said
-      → HaltsWithin bytes said in_hand out halt
+      (bytes : List ℕ) (said : List Said) → before bytes said → HaltsSo bytes said in_hand out halt
 
   -- a piece is taken to its end, and what is said of the items that end in it is put; or it comes
   -- to a halt within it
@@ -79,8 +118,7 @@ module _ {A : Type 0} (c : Commands A) (a : A) where
       (bytes : List ℕ) (said : List Said) → before bytes said
       → (more : List Said) × after (bytes ++ piece) (said ++ more) × Puts out (texts_of more)
   FeedsAll before after piece out (Err halt) =
-      (bytes : List ℕ) (said : List Said) → before bytes said
-      → HaltsWithin bytes said piece out halt
+      (bytes : List ℕ) (said : List Said) → before bytes said → HaltsSo bytes said piece out halt
 
   -- ---- at the end
 
@@ -92,7 +130,7 @@ module _ {A : Type 0} (c : Commands A) (a : A) where
       (final : Said) × c.Ends a items rest (says final)
       × (well ≡ all_well (said ++ final ∷ [])) × Puts out final.text
   PutsLast said items rest out (Err (halts.Stop stop)) =
-      (c.Ends a items rest (stops (stop_of stop)) ⊎ (stop_of stop ≡ out_of_memory)) × Puts out []
+      (c.Ends a items rest (stops stop) ⊎ (stop ≡ out_of_memory)) × Puts out []
   PutsLast said items rest out (Err halts.WriteFault) =
       (final : Said) × c.Ends a items rest (says final) × PutsPart out final.text
 

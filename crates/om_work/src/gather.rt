@@ -8,7 +8,8 @@ ghost use Rattle.om_work.specs.Works.{ItemsStay, FeedsSome};
 
 use crate::Work;
 use om_edge::{Failed, Sink, put_all};
-use om_stops::stop::{Halt, Stop};
+use om_outcome::stop::Stop;
+use om_stops::stop::Halt;
 use std::alloc::Global;
 
 /// Once more bytes than that are gathered they are put.

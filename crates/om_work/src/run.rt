@@ -8,7 +8,8 @@ ghost use Rattle.om_work.specs.Runs.{Runs};
 use crate::{Work, feed_piece};
 use om_edge::{Sink, Source};
 use om_model::Memory;
-use om_stops::stop::{Halt, Stop};
+use om_outcome::stop::Stop;
+use om_stops::stop::Halt;
 use std::alloc::Global;
 
 /// A call on the input is asked for so many bytes.

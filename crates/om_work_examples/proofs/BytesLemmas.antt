@@ -1,14 +1,15 @@
 -- The command that takes bytes.
-use Rattle.std.proofs.Common.{◌≡◌, ◌≢◌, ℕ, ◌+◌, ◌<◌, ◌≤◌, true, List, [], ◌∷◌, ◌++◌, length, get_or, take, Ok, inl, refl, sym, ap, ◌∙◌, subst, length-append, arith}
+use Rattle.std.proofs.Common.{◌≡◌, ◌≢◌, ℕ, ◌+◌, ◌<◌, ◌≤◌, true, List, [], ◌∷◌, ◌++◌, length, get_or, take, Ok, inl, inr, refl, sym, ap, ◌∙◌, subst, length-append, arith}
 use Rattle.std.specs.Prelude.{◌&&◌}
 use Rattle.om_model.specs.declared.refusal.ReadRefusal.TheVariants.{Compressed}
-use Rattle.om_outcome.specs.Outcome as outcome
-use Rattle.om_outcome.specs.Outcome.{Stop, Said, nothing_said, says, all_well}
+use Rattle.om_outcome.specs.Outcome.{Said, nothing_said, says, all_well}
 use Rattle.om_outcome.specs.RefusalText.{refusal_text}
+use Rattle.om_outcome.specs.declared.stop.Stop.{Stop}
+use Rattle.om_outcome.specs.declared.stop.Stop.TheVariants.{Value as value}
 use Rattle.om_edge.specs.Sink.{Puts, PutsPart}
 use Rattle.om_edge.specs.State.{ByteState, change}
 use Rattle.om_stops.specs.declared.stop.Halt.TheVariants as halts
-use Rattle.om_stops.specs.declared.stop.Stop.TheVariants as codes
+use Rattle.om_stops.specs.Stops.{IsStopOf}
 use Rattle.om_promises.specs.Account.{HoldNoStop}
 use Rattle.om_promises.specs.Commands.{Item, text, Cut, SaysFirst}
 use Rattle.om_promises.proofs.PutLemmas.{puts_nothing}
@@ -69,12 +70,14 @@ module _ (refused count : ℕ) (bytes : List ℕ) (said : List Said)
       }
 
   pub byte_refused :
-      (in_hand more : List ℕ) (o : ByteState) → in_hand ≡ refused ∷ more
-      → HaltsIn bytes_but refused bytes in_hand said (change o o)
-      (halts.Stop (codes.Refused count Compressed))
-  byte_refused in_hand more o is = (
+      (in_hand more : List ℕ) (o : ByteState) (stop : Stop) → IsStopOf count Compressed stop
+      → in_hand ≡ refused ∷ more
+      → HaltsIn bytes_but refused bytes in_hand said (change o o) (halts.Stop stop)
+  byte_refused in_hand more o stop (inl memory) is =
+      (bytes_hold, inr memory, puts_nothing o)
+  byte_refused in_hand more o stop (inr (some, told)) is = (
     bytes_hold,
-    inl (more, is, ap (λ n. outcome.value n (refusal_text Compressed)) h.counted),
+    inl (more, is, subst (λ n. stop ≡ value n (refusal_text Compressed)) h.counted told),
     puts_nothing o,
   )
 

@@ -2,10 +2,10 @@
 use Rattle.std.proofs.Common.{◌≡◌, ◌≢◌, ℕ, ◌<◌, true, List, [], ◌∷◌, ◌++◌, length, get_or, Ok, Err, inr, refl, sym, ap, ◌∙◌, subst, append_assoc, append-nil, arith}
 use Rattle.std.specs.Prelude.{◌&&◌, ◌==◌, false}
 use Rattle.om_outcome.specs.Outcome.{Said, nothing_said, says, all_well}
+use Rattle.om_outcome.specs.declared.stop.Stop.TheVariants.{Memory as out_of_memory}
 use Rattle.om_edge.specs.Sink.{Puts, PutsPart}
 use Rattle.om_edge.specs.State.{ByteState, change}
 use Rattle.om_stops.specs.declared.stop.Halt.TheVariants as halts
-use Rattle.om_stops.specs.declared.stop.Stop.TheVariants as codes
 use Rattle.om_promises.specs.Account.{HoldNoStop}
 use Rattle.om_promises.specs.Commands.{text, SaysFirst}
 use Rattle.om_promises.proofs.PutLemmas.{puts_nothing}
@@ -83,7 +83,7 @@ module _ (rest bytes : List ℕ) (said : List Said) (h : HasLines rest bytes sai
 
   pub lines_memory :
       (in_hand : List ℕ) (o : ByteState)
-      → HaltsIn lines tt bytes in_hand said (change o o) (halts.Stop codes.Memory)
+      → HaltsIn lines tt bytes in_hand said (change o o) (halts.Stop out_of_memory)
   lines_memory in_hand o =
       (lines_hold, inr refl, puts_nothing o)
 
@@ -142,7 +142,7 @@ module _ (rest bytes : List ℕ) (said : List Said) (h : HasLines rest bytes sai
   pub lines_end_memory :
       (o : ByteState)
       → (holds : HoldNoStop lines tt bytes said)
-      × PutsLast lines tt said holds.items holds.rest (change o o) (Err (halts.Stop codes.Memory))
+      × PutsLast lines tt said holds.items holds.rest (change o o) (Err (halts.Stop out_of_memory))
   lines_end_memory o = (lines_hold, (inr refl, puts_nothing o))
 
   pub lines_end_fault :

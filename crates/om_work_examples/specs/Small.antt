@@ -3,9 +3,10 @@
 use Rattle.std.specs.Prelude.{ℕ, ◌≡◌, ◌≢◌, true, List, [], ◌∷◌, ◌++◌, length, Ok, codes}
 use Rattle.std.specs.List.{AllByRecursion}
 use Rattle.om_model.specs.declared.refusal.ReadRefusal.TheVariants.{Compressed}
-use Rattle.om_outcome.specs.Outcome as outcome
-use Rattle.om_outcome.specs.Outcome.{Stop, Said, nothing_said, says}
+use Rattle.om_outcome.specs.Outcome.{Said, nothing_said, says}
 use Rattle.om_outcome.specs.RefusalText.{refusal_text}
+use Rattle.om_outcome.specs.declared.stop.Stop.{Stop}
+use Rattle.om_outcome.specs.declared.stop.Stop.TheVariants.{Value as value}
 use Rattle.om_promises.specs.Commands.{Item, text, Commands}
 
 -- nothing is wrong
@@ -72,7 +73,7 @@ SaysByte refused item said =
 abbrev pub StopsAtByte : ℕ → List Item → List ℕ → Stop → Type 0
 StopsAtByte refused items bytes stop =
     (more : List ℕ) × (bytes ≡ refused ∷ more)
-    × (stop ≡ outcome.value (length items) (refusal_text Compressed))
+    × (stop ≡ value (length items) (refusal_text Compressed))
 
 abbrev pub bytes_but : Commands ℕ
 bytes_but = record {

@@ -2,7 +2,8 @@
 
 use om_edge::{Sink, put_all};
 use om_model::refusal::ReadRefusal;
-use om_stops::stop::{Halt, Stop};
+use om_stops::made::refused_value;
+use om_stops::stop::Halt;
 use om_work::Work;
 use std::alloc::Global;
 
@@ -41,15 +42,10 @@ impl Work for BytesBut {
         true
     }
 
-    fn feed<K: Sink>(
-        &mut self,
-        _alloc: Global,
-        in_hand: &[u8],
-        out: &mut K,
-    ) -> Result<usize, Halt> {
+    fn feed<K: Sink>(&mut self, alloc: Global, in_hand: &[u8], out: &mut K) -> Result<usize, Halt> {
         let byte = in_hand[0];
         if byte == self.refused {
-            return Err(Halt::Stop(Stop::Refused(self.count, ReadRefusal::Compressed)));
+            return Err(Halt::Stop(refused_value(alloc, self.count, ReadRefusal::Compressed)));
         }
         put_all(out, &[byte])?;
         self.count += 1;

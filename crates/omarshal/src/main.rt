@@ -5,7 +5,7 @@ ghost use Rattle.std.specs.Prelude.{◌≡◌, ◌≢◌, drop, IfOk};
 ghost use Rattle.std.specs.Process.{exit_status};
 ghost use Rattle.std.specs.Vec.Iter.{into_iter_items};
 ghost use Rattle.std.specs.declared.io.ErrorKind.TheVariants as kinds;
-ghost use Rattle.om_outcome.specs.Outcome.{out_of_memory, usage};
+ghost use Rattle.om_outcome.specs.declared.stop.Stop.TheVariants.{Usage as usage, Memory as out_of_memory};
 ghost use Rattle.om_outcome.specs.Status.{code_of};
 ghost use Rattle.om_edge.specs.State.{change};
 ghost use Rattle.omarshal.specs.Ending.{Says};

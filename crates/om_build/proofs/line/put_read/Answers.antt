@@ -1,37 +1,41 @@
 use Rattle.std.proofs.Common.{Some, Ok, subst}
 use Rattle.om_edge.specs.State.{change}
 use Rattle.om_declared.specs.Types.{type_over}
+use Rattle.om_build.specs.Lines.{told_on}
 use Rattle.om_build.specs.Steps.{ReadsLine}
 use Rattle.om_build.proofs.StepLemmas.{line_halts, read_halts, value_counts}
 use Rattle.om_build.proofs.line.put_read.Goals as goal
 
 pub returns-in_err-read_line : goal.returns-in_err-read_line
 returns-in_err-read_line g c =
-    line_halts c.args.requested.now c.args.line.now c.args.number c.args.texts
+    let told = told_on c.args.requested.now.lines c.args.decimals.now in
+    line_halts c.args.requested.now told c.args.text.now c.args.number c.args.texts
     (change (g.K.Sink.state c.args.out.now) (g.K.Sink.state c.args.out.now))
     c.in_err-read_line.field-0.0 c.from_residual.result c.from_residual.ensures.1
-    (read_halts c.args.requested.now c.args.line.now c.args.number c.args.texts
+    (read_halts c.args.requested.now told c.args.text.now c.args.number c.args.texts
     c.read_line.new.heap (g.K.Sink.state c.args.out.now) c.in_err-read_line.field-0.0
     c.in_err-read_line.ensures)
 
 pub returns-in_err-put_value-in-Some : goal.returns-in_err-put_value-in-Some
 returns-in_err-put_value-in-Some g c =
-    let read : ReadsLine (type_over c.args.requested.now) c.args.line.now c.args.number
+    let told = told_on c.args.requested.now.lines c.args.decimals.now in
+    let read : ReadsLine (type_over c.args.requested.now) told c.args.text.now c.args.number
     c.read_line.new.heap (Ok (Some c.in-Some.root)) =
-    subst (λ v. ReadsLine (type_over c.args.requested.now) c.args.line.now c.args.number
+    subst (λ v. ReadsLine (type_over c.args.requested.now) told c.args.text.now c.args.number
     c.read_line.new.heap (Ok v)) c.in-Some.is c.in_ok-read_line.ensures in
-    line_halts c.args.requested.now c.args.line.now c.args.number c.args.texts
+    line_halts c.args.requested.now told c.args.text.now c.args.number c.args.texts
     (change (g.K.Sink.state c.args.out.now) (g.K.Sink.state c.put_value.new.out))
     c.in_err-put_value-in-Some.field-0.0 c.from_residual-in_err-put_value-in-Some.result
     c.from_residual-in_err-put_value-in-Some.ensures.1
-    (c.in_err-put_value-in-Some.ensures c.args.line.now c.args.number read.1)
+    (c.in_err-put_value-in-Some.ensures c.args.text.now told c.args.number read.1)
 
 pub returns-in_ok-put_value-in-Some : goal.returns-in_ok-put_value-in-Some
 returns-in_ok-put_value-in-Some g c =
-    let read : ReadsLine (type_over c.args.requested.now) c.args.line.now c.args.number
+    let told = told_on c.args.requested.now.lines c.args.decimals.now in
+    let read : ReadsLine (type_over c.args.requested.now) told c.args.text.now c.args.number
     c.read_line.new.heap (Ok (Some c.in-Some.root)) =
-    subst (λ v. ReadsLine (type_over c.args.requested.now) c.args.line.now c.args.number
+    subst (λ v. ReadsLine (type_over c.args.requested.now) told c.args.text.now c.args.number
     c.read_line.new.heap (Ok v)) c.in-Some.is c.in_ok-read_line.ensures in
-    value_counts c.args.requested.now c.args.line.now c.args.number c.args.texts
+    value_counts c.args.requested.now told c.args.text.now c.args.number c.args.texts
     (change (g.K.Sink.state c.args.out.now) (g.K.Sink.state c.put_value.new.out))
-    (c.in_ok-put_value-in-Some.ensures c.args.line.now c.args.number read.1)
+    (c.in_ok-put_value-in-Some.ensures c.args.text.now told c.args.number read.1)

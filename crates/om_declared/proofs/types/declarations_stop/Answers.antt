@@ -1,11 +1,11 @@
 use Rattle.std.proofs.Common.{refl}
+use Rattle.om_outcome.specs.declared.stop.Stop.TheVariants.{Declarations as declarations}
+use Rattle.om_outcome.specs.declared.stop.Stop.TheVariants.{Declarations}
 use Rattle.om_decl.specs.Fault.{told}
 use Rattle.om_grammar.specs.Grammar.{FileTree}
 use Rattle.om_decl.specs.Text.{answer_text}
 use Rattle.om_lines.specs.Lines.{place_in}
 use Rattle.om_lines.specs.Places.{told_by}
-use Rattle.om_outcome.specs.Outcome.{declarations}
-use Rattle.om_stops.specs.declared.stop.Stop.TheVariants.{Declarations}
 use Rattle.om_declared.proofs.TypeLemmas.{refusal_told, memory_told}
 use Rattle.om_declared.proofs.types.declarations_stop.Goals as goal
 

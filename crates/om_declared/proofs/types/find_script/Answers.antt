@@ -1,6 +1,4 @@
-use Rattle.std.proofs.Common.{refl}
 use Rattle.om_outcome.specs.Outcome.{opened, missing, failed}
-use Rattle.om_stops.specs.declared.stop.Stop.TheVariants.{CannotOpen}
 use Rattle.om_declared.specs.Gathered.{taken_of}
 use Rattle.om_declared.proofs.TypeLemmas.{script_missing, script_failed}
 use Rattle.om_declared.proofs.types.find_script.Goals as goal
@@ -11,8 +9,8 @@ returns-in-Ok-Opened g c =
 
 pub returns-in-Ok-Missing : goal.returns-in-Ok-Missing
 returns-in-Ok-Missing g c =
-    (missing, rw c.in-Ok-Missing.field-0-is at c.in-Ok-Missing.ensures, script_missing c.args.lines c.args.name.now (CannotOpen c.args.name) refl)
+    (missing, rw c.in-Ok-Missing.field-0-is at c.in-Ok-Missing.ensures, script_missing c.args.lines c.args.decimal c.args.name.now c.unopened_file.result c.unopened_file.ensures)
 
 pub returns-in-Ok-Failed : goal.returns-in-Ok-Failed
 returns-in-Ok-Failed g c =
-    (failed, rw c.in-Ok-Failed.field-0-is at c.in-Ok-Failed.ensures, script_failed c.args.lines c.args.name.now (CannotOpen c.args.name) refl)
+    (failed, rw c.in-Ok-Failed.field-0-is at c.in-Ok-Failed.ensures, script_failed c.args.lines c.args.decimal c.args.name.now c.unopened_file-in-Ok-Failed.result c.unopened_file-in-Ok-Failed.ensures)

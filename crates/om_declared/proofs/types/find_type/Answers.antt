@@ -1,6 +1,4 @@
-use Rattle.std.proofs.Common.{refl}
-use Rattle.om_outcome.specs.Outcome.{opened, missing, failed, asked_type}
-use Rattle.om_stops.specs.declared.stop.Stop.TheVariants.{CannotOpen}
+use Rattle.om_outcome.specs.Outcome.{opened, missing, failed, asked_with}
 use Rattle.om_declared.specs.Gathered.{taken_of}
 use Rattle.om_declared.proofs.TypeLemmas.{reads_missing, reads_failed}
 use Rattle.om_declared.proofs.types.find_type.Goals as goal
@@ -11,8 +9,8 @@ returns-in-Ok-Opened g c =
 
 pub returns-in-Ok-Missing : goal.returns-in-Ok-Missing
 returns-in-Ok-Missing g c =
-    (missing, rw c.in-Ok-Missing.field-0-is at c.in-Ok-Missing.ensures, reads_missing c.args.file.now (asked_type c.args.type_text.now c.args.lines) (CannotOpen c.args.file) refl)
+    (missing, rw c.in-Ok-Missing.field-0-is at c.in-Ok-Missing.ensures, reads_missing c.args.file.now (asked_with c.args.type_text.now c.args.lines c.args.decimal) c.unopened_file.result c.unopened_file.ensures)
 
 pub returns-in-Ok-Failed : goal.returns-in-Ok-Failed
 returns-in-Ok-Failed g c =
-    (failed, rw c.in-Ok-Failed.field-0-is at c.in-Ok-Failed.ensures, reads_failed c.args.file.now (asked_type c.args.type_text.now c.args.lines) (CannotOpen c.args.file) refl)
+    (failed, rw c.in-Ok-Failed.field-0-is at c.in-Ok-Failed.ensures, reads_failed c.args.file.now (asked_with c.args.type_text.now c.args.lines c.args.decimal) c.unopened_file-in-Ok-Failed.result c.unopened_file-in-Ok-Failed.ensures)

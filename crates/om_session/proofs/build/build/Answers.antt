@@ -5,7 +5,7 @@ use Rattle.om_session.proofs.build.build.Goals as goal
 pub returns-in-Ok : goal.returns-in-Ok
 returns-in-Ok g c = λ words asks.
     let found = c.in-Ok.ensures in
-    texts_account words c.args.file.now c.args.type_text.now c.args.lines asks
+    texts_account words c.args.file.now c.args.type_text.now c.args.lines c.args.decimal asks
     (change (g.O.Opener.state c.args.files.now) (g.O.Opener.state c.find_type.new.files))
     found.0 found.1 c.in-Ok.requested found.2
     (change (g.S.Source.state c.args.input.now) (g.S.Source.state c.build_over.new.input))
@@ -16,7 +16,7 @@ returns-in-Ok g c = λ words asks.
 pub returns-in-Err : goal.returns-in-Err
 returns-in-Err g c = λ words asks.
     let found = c.in-Err.ensures in
-    no_type_account words c.args.file.now c.args.type_text.now c.args.lines asks
+    no_type_account words c.args.file.now c.args.type_text.now c.args.lines c.args.decimal asks
     (change (g.O.Opener.state c.args.files.now) (g.O.Opener.state c.find_type.new.files))
     found.0 found.1 c.in-Err.stop found.2
     (g.S.Source.state c.args.input.now) (g.K.Sink.state c.args.out.now)

@@ -9,6 +9,7 @@ returns-in-Ok g c = λ words asks.
       file = c.args.file.now;
       type = c.args.type_text.now;
       lines = c.args.lines;
+      decimal = c.args.decimal;
       asks = asks;
       found = found.0;
       fetched = found.1;
@@ -18,7 +19,7 @@ returns-in-Ok g c = λ words asks.
 pub returns-in-Err : goal.returns-in-Err
 returns-in-Err g c = λ words asks.
     let found = c.in-Err.ensures in
-    file_account words c.args.file.now c.args.type_text.now c.args.script.now c.args.compat c.args.lines c.args.reading asks
+    file_account words c.args.file.now c.args.type_text.now c.args.script.now c.args.compat c.args.lines c.args.decimal c.args.reading asks
     (change (g.O.Opener.state c.args.files.now) (g.O.Opener.state c.find_type.new.files))
     found.0 found.1 c.in-Err.stop found.2
     (g.S.Source.state c.args.input.now) (g.K.Sink.state c.args.out.now)

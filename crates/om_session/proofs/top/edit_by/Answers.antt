@@ -4,7 +4,7 @@ use Rattle.om_session.proofs.top.edit_by.Goals as goal
 
 pub edit_with-requires-clause-in_time : goal.edit_with-requires-clause-in_time
 edit_with-requires-clause-in_time g c =
-    let found = c.in-Ok.ensures in given_in_time c.lines_in_time.ensures c.args.requested.now.lines c.args.script.now found.0 c.in-Ok.script found.2
+    let found = c.in-Ok.ensures in given_in_time c.lines_in_time.ensures c.args.requested.now.lines c.args.requested.now.decimal c.args.script.now found.0 c.in-Ok.script found.2
 
 pub returns-in-Ok : goal.returns-in-Ok
 returns-in-Ok g c = λ words before asks.

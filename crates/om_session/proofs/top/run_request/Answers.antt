@@ -29,7 +29,7 @@ returns-in-Get g c = λ words asks.
 
 pub returns-in-Edit : goal.returns-in-Edit
 returns-in-Edit g c = λ words asks.
-    let request : Request = edit c.in-Edit.file.now c.in-Edit.type_text.now c.in-Edit.script.now c.in-Edit.compat c.in-Edit.lines c.in-Edit.reading in
+    let request : Request = edit c.in-Edit.file.now c.in-Edit.type_text.now c.in-Edit.script.now c.in-Edit.compat c.in-Edit.lines c.in-Edit.decimal c.in-Edit.reading in
     let asked : Asks words request = rw c.in-Edit.is at asks in
     all_account on_values_after IsOfValues c.all_commands_have_parts.ensures.values words _ request asked tt (c.edit.ensures words asked)
 
@@ -60,7 +60,7 @@ returns-in-Same g c = λ words asks.
 
 pub returns-in-Build : goal.returns-in-Build
 returns-in-Build g c = λ words asks.
-    let request : Request = own (build c.in-Build.file.now c.in-Build.type_text.now c.in-Build.lines) in
+    let request : Request = own (build c.in-Build.file.now c.in-Build.type_text.now c.in-Build.lines c.in-Build.decimal) in
     let asked : Asks words request = rw c.in-Build.is at asks in
     all_account on_texts IsOfTexts c.all_commands_have_parts.ensures.texts words _ request asked tt (c.build.ensures words asked)
 

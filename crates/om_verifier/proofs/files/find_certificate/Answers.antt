@@ -1,27 +1,16 @@
-use Rattle.std.proofs.Common.{refl}
+use Rattle.std.proofs.Common.{rules}
 use Rattle.om_outcome.specs.Outcome.{opened, missing, failed}
-use Rattle.om_stops.specs.declared.stop.Stop.TheVariants.{CannotOpen}
-use Rattle.om_declared.specs.Gathered.{taken_of}
 use Rattle.om_verifier.proofs.FileLemmas.{certificate_missing, certificate_failed}
 use Rattle.om_verifier.proofs.files.find_certificate.Goals as goal
 
-pub returns-in-Ok-Opened : goal.returns-in-Ok-Opened
-returns-in-Ok-Opened g c = (
-  opened (taken_of c.in-Ok-Opened.gathered),
-  rw c.in-Ok-Opened.field-0-is at c.in-Ok-Opened.ensures,
-  c.read_sections-sections.ensures c.args.name.now,
-)
+pub returns-in-Ok : goal.returns-in-Ok
+returns-in-Ok g c =
+    let come = c.read_fetched.ensures.taken in
+    let gathers = come.1 in
+    (opened come.0, search rules, come.2 c.args.name.now)
 
-pub returns-in-Ok-Missing : goal.returns-in-Ok-Missing
-returns-in-Ok-Missing g c = (
-  missing,
-  rw c.in-Ok-Missing.field-0-is at c.in-Ok-Missing.ensures,
-  certificate_missing c.args.name.now (CannotOpen c.args.name) refl,
-)
+pub returns-in-Err-Missing : goal.returns-in-Err-Missing
+returns-in-Err-Missing g c = (missing, search rules, certificate_missing c.args.name.now c.unopened_file.result c.unopened_file.ensures)
 
-pub returns-in-Ok-Failed : goal.returns-in-Ok-Failed
-returns-in-Ok-Failed g c = (
-  failed,
-  rw c.in-Ok-Failed.field-0-is at c.in-Ok-Failed.ensures,
-  certificate_failed c.args.name.now (CannotOpen c.args.name) refl,
-)
+pub returns-in-Err-Failed : goal.returns-in-Err-Failed
+returns-in-Err-Failed g c = (failed, search rules, certificate_failed c.args.name.now c.unopened_file-in-Err-Failed.result c.unopened_file-in-Err-Failed.ensures)

@@ -1,8 +1,8 @@
 use Rattle.std.proofs.Common.{◌+◌, ◌∙◌, [], ◌∷◌, ◌++◌, refl, sym, subst, arith}
+use Rattle.om_outcome.specs.declared.stop.Stop.TheVariants.{Memory as out_of_memory}
 use Rattle.om_edge.specs.State.{change}
 use Rattle.om_promises.proofs.PutLemmas.{puts_nothing}
 use Rattle.om_stops.specs.declared.stop.Halt.TheVariants as halts
-use Rattle.om_stops.specs.declared.stop.Stop.TheVariants as stops
 use Rattle.om_declared.specs.Types.{type_over}
 use Rattle.om_build.specs.Lines.{declared_texts}
 use Rattle.om_build.specs.Steps.{HasTexts}
@@ -16,9 +16,9 @@ returns-in_err-keep-clause-takes g c =
     takes_halt (type_over s.requested.now)
     (HasTexts s.requested.now s.held.items s.lines s.texts)
     (HasTexts s.requested.now c.keep.new.held.items s.lines s.texts) c.args.end.now out
-    (halts.Stop stops.Memory) c.from_residual.result c.from_residual.ensures.1
+    (halts.Stop out_of_memory) c.from_residual.result c.from_residual.ensures.1
     (λ more bytes said h. line_memory s.requested.now s.held.items s.lines s.texts bytes said h
-    c.args.end.now c.requires.unbroken more out stops.Memory refl
+    c.args.end.now c.requires.unbroken more out out_of_memory refl
     (puts_nothing (g.K.Sink.state c.args.out.now)))
 
 pub overflow_add-self : goal.overflow_add-self

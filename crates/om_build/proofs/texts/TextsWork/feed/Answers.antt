@@ -1,10 +1,10 @@
 use Rattle.std.proofs.Common.{◌+◌, [], ◌∷◌, ◌++◌, drop, inr, refl, sym, subst, arith}
+use Rattle.om_outcome.specs.declared.stop.Stop.TheVariants.{Memory as out_of_memory}
 use Rattle.om_edge.specs.Sink.{Puts}
 use Rattle.om_edge.specs.State.{change}
 use Rattle.om_promises.proofs.PutLemmas.{puts_nothing}
 use Rattle.om_promises.proofs.ValueLemmas.{texts_of-one}
 use Rattle.om_stops.specs.declared.stop.Halt.TheVariants as halts
-use Rattle.om_stops.specs.declared.stop.Stop.TheVariants as stops
 use Rattle.om_work.specs.Works.{HaltsIn}
 use Rattle.om_work.proofs.PieceLemmas.{feeds_halt}
 use Rattle.om_declared.specs.Language.{declared_types}
@@ -41,7 +41,7 @@ returns-in_err-keep-in-None-clause-feeds g c = λ reads.
     feeds_halt (building declared_types declared_texts) (type_over s.requested.now)
     (HasTexts s.requested.now s.held.items s.lines s.texts)
     (HasTexts s.requested.now c.keep.new.held.items s.lines s.texts) c.args.in_hand.now out
-    (halts.Stop stops.Memory) c.from_residual-in_err-keep-in-None.result
+    (halts.Stop out_of_memory) c.from_residual-in_err-keep-in-None.result
     c.from_residual-in_err-keep-in-None.ensures.1
     (λ bytes said h. (
       texts_hold s.requested.now s.held.items s.lines s.texts bytes said h,

@@ -7,7 +7,7 @@ returns-in-Err g c = λ taken said h.
       holds w.requested.now w.leasts.now w.limit w.reader w.count w.well taken said h,
       ends_cut w.requested.now w.leasts.now w.limit w.reader w.count w.well taken said h
           c.in-Err.field-0 (c.in-Err.ensures w.limit h.front h.leads)
-          (g.K.Sink.state c.args._out.now),
+          (g.K.Sink.state c.args._out.now) c.cut_value.result c.cut_value.ensures,
     )
 
 pub returns-in-Ok : goal.returns-in-Ok

@@ -3,7 +3,7 @@ use Rattle.om_edge.specs.State.{change}
 use Rattle.om_picking.specs.Picking.{picking}
 use Rattle.om_work.specs.Works.{EndsAt}
 use Rattle.om_picker.specs.Picked.{HasPicked}
-use Rattle.om_picker.proofs.PickerLemmas.{ended_each}
+use Rattle.om_picker.proofs.PickerLemmas.{ended_each, ended_before}
 use Rattle.om_picker.proofs.picking.PickingWork.end.Goals as goal
 
 pub returns-in-None : goal.returns-in-None
@@ -22,5 +22,7 @@ returns-in-Some g c =
     let o = g.K.Sink.state c.args.out.now in
     subst (λ picked. EndsAt (picking g.P.PicksOne.picked_by g.W.Work.commands)
     (picked, g.W.Work.act w.work) (HasPicked picked (g.W.Work.has w.work)) (change o o)
-    c.end_one.result)
-    (sym c.in-Some.is) (c.end_one.ensures o)
+    c.end_before.result)
+    (sym c.in-Some.is)
+    (ended_before g.P.PicksOne.picked_by g.W.Work.commands (g.W.Work.act w.work) c.in-Some.field-0
+    (g.W.Work.has w.work) o c.end_before.result c.end_before.ensures)

@@ -5,7 +5,7 @@ pub returns-clause-holds : goal.returns-clause-holds
 returns-clause-holds g c =
     let w = c.args.self.now in
     holds_by g.P.PicksOne.picked_by g.W.Work.commands (g.W.Work.act w.work) (g.W.Work.has w.work)
-    c.laws.ensures.stay c.laws.ensures.holds w.picked
+    c.laws.ensures.holds w.picked
 
 pub returns-clause-stay : goal.returns-clause-stay
 returns-clause-stay g c =

@@ -1,9 +1,9 @@
 use Rattle.std.proofs.Common.{length}
+use Rattle.om_outcome.specs.declared.stop.Stop.TheVariants.{Memory}
 use Rattle.om_edge.specs.State.{change}
 use Rattle.om_commands.specs.Tasks.{commands}
 use Rattle.om_declared.specs.Language.{declared_types}
 use Rattle.om_stops.specs.declared.stop.Halt.TheVariants.{Stop}
-use Rattle.om_stops.specs.declared.stop.Stop.TheVariants.{Memory}
 use Rattle.om_type_table.specs.Made.{table_of}
 use Rattle.om_work.proofs.PieceLemmas.{feeds_halt}
 use Rattle.om_session.specs.Progress.{HasTaken}

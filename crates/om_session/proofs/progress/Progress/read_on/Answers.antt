@@ -1,8 +1,8 @@
+use Rattle.om_outcome.specs.declared.stop.Stop.TheVariants.{Memory}
 use Rattle.om_edge.specs.State.{change}
 use Rattle.om_commands.specs.Tasks.{commands}
 use Rattle.om_declared.specs.Language.{declared_types}
 use Rattle.om_stops.specs.declared.stop.Halt.TheVariants.{Stop}
-use Rattle.om_stops.specs.declared.stop.Stop.TheVariants.{Memory}
 use Rattle.om_work.proofs.PieceLemmas.{feeds_halt}
 use Rattle.om_session.specs.Progress.{HasTaken}
 use Rattle.om_session.specs.Values.{HasRead, task_of}

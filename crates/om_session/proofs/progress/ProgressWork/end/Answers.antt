@@ -15,4 +15,5 @@ pub returns : goal.returns
 returns g c = λ taken said h.
     let p = c.args.self.now in
     let some : 0 < length p.glance.kept.items = some_length p.glance.kept.items c.if-keeps_none.ensures in
-    rw c.kept.ensures (ends_taken p.job p.values p.glance taken said h some (g.K.Sink.state c.args.out.now))
+    ends_taken p.job p.values p.glance taken said h some (g.K.Sink.state c.args.out.now) c.cut_value.result
+    (rw c.kept.ensures at c.cut_value.ensures)

@@ -30,5 +30,6 @@ returns-in-Compare g c = λ taken said h.
 pub returns-in-Err : goal.returns-in-Err
 returns-in-Err g c = λ taken said h. (
   holds c.args.job taken said c.args.self.now h,
-  ends_cut c.args.job taken said c.args.self.now h c.in-Err.field-0 (c.in-Err.ensures (word_limit c.args.job) h.front h.leads) (g.K.Sink.state c.args.out.now),
+  ends_cut c.args.job taken said c.args.self.now h c.in-Err.field-0 (c.in-Err.ensures (word_limit c.args.job) h.front h.leads) (g.K.Sink.state c.args.out.now)
+      c.cut_value.result c.cut_value.ensures,
 )

@@ -1,7 +1,7 @@
-use Rattle.std.proofs.Common.{take, ◌++◌, [], ◌∷◌, ◌<◌, subst, arith}
+use Rattle.std.proofs.Common.{take, ◌++◌, [], ◌∷◌, ◌<◌, inl, subst, arith}
+use Rattle.om_outcome.specs.declared.stop.Stop.TheVariants.{NotTwoValues}
 use Rattle.om_edge.specs.State.{change}
 use Rattle.om_commands.specs.Tasks.{commands}
-use Rattle.om_stops.specs.declared.stop.Stop.TheVariants.{NotTwoValues}
 use Rattle.om_work.proofs.PieceLemmas.{feeds_halt}
 use Rattle.om_declared.specs.Language.{declared_types}
 use Rattle.om_session.specs.Values.{MayTake, IsFull, HasRead, task_of, word_limit}
@@ -13,9 +13,10 @@ use Rattle.om_session.proofs.values.Values.read_some.Goals as goal
 
 pub returns-then-is_full : goal.returns-then-is_full
 returns-then-is_full g c = λ taken said h.
-    stops_now c.args.job taken said c.args.self.now h c.args.rest.now NotTwoValues
+    inl
+    (stops_now c.args.job taken said c.args.self.now h c.args.rest.now NotTwoValues
     (full_stops c.args.job h.trees h.front c.args.rest.now (subst (λ n. IsFull c.args.job n) h.counted c.if-is_full.ensures) c.requires.some)
-    (g.K.Sink.state c.args.out.now) (g.K.Sink.state c.args.out.now) (puts_nothing (g.K.Sink.state c.args.out.now))
+    (g.K.Sink.state c.args.out.now) (g.K.Sink.state c.args.out.now) (puts_nothing (g.K.Sink.state c.args.out.now)))
 
 pub put_value-requires : goal.put_value-requires
 put_value-requires g c =
@@ -66,7 +67,8 @@ returns-after-fed g c =
 
 pub returns-in-Err : goal.returns-in-Err
 returns-in-Err g c = λ taken said h.
-    stops_now c.args.job taken said c.args.self.now h c.args.rest.now c.refused.result
-    (stops_in c.args.job h.trees _ c.in-Err.refusal c.refused.result (subst (λ n. MayTake c.args.job n) h.counted c.if-is_full.ensures) (c.in-Err.ensures.refuses (word_limit c.args.job) h.front h.leads)
-    (rw (← h.counted) c.refused.ensures))
-    (g.K.Sink.state c.args.out.now) (g.K.Sink.state c.args.out.now) (puts_nothing (g.K.Sink.state c.args.out.now))
+    inl
+    (stops_now c.args.job taken said c.args.self.now h c.args.rest.now c.refused_value.result
+    (stops_in c.args.job h.trees _ c.in-Err.refusal c.refused_value.result (subst (λ n. MayTake c.args.job n) h.counted c.if-is_full.ensures) (c.in-Err.ensures.refuses (word_limit c.args.job) h.front h.leads)
+    (rw (← h.counted) c.refused_value.ensures))
+    (g.K.Sink.state c.args.out.now) (g.K.Sink.state c.args.out.now) (puts_nothing (g.K.Sink.state c.args.out.now)))

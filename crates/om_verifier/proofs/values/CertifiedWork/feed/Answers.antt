@@ -1,4 +1,4 @@
-use Rattle.std.proofs.Common.{take, ◌++◌, List, [], ◌∷◌, ◌<◌, sym, ap, arith, Bor}
+use Rattle.std.proofs.Common.{take, ◌++◌, List, [], ◌∷◌, ◌<◌, inl, sym, ap, arith, Bor}
 use Rattle.om_edge.specs.State.{change}
 use Rattle.om_promises.proofs.PutLemmas.{puts_nothing}
 use Rattle.om_promises.proofs.ValueLemmas.{texts_of-one}
@@ -72,9 +72,9 @@ returns-after-fed-clause-feeds g c = λ reads.
 pub returns-in-Err-clause-feeds : goal.returns-in-Err-clause-feeds
 returns-in-Err-clause-feeds g c = λ reads taken said h.
     let w = c.args.self.now in
-    stops_now w.requested.now w.sections.now w.limit w.reader w.count w.well taken said h
-    c.args.in_hand.now c.refused.result
+    inl (stops_now w.requested.now w.sections.now w.limit w.reader w.count w.well taken said h
+    c.args.in_hand.now c.refused_value.result
     (stops_in w.requested.now w.sections.now w.limit w.reader w.count w.well taken said h
-    c.args.in_hand.now c.in-Err.refusal c.refused.result
-    (c.in-Err.ensures.refuses w.limit h.front h.leads) c.refused.ensures)
-    (g.K.Sink.state c.args.out.now)
+    c.args.in_hand.now c.in-Err.refusal c.refused_value.result
+    (c.in-Err.ensures.refuses w.limit h.front h.leads) c.refused_value.ensures)
+    (g.K.Sink.state c.args.out.now))

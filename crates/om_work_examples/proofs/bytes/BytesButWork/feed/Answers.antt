@@ -1,4 +1,4 @@
-use Rattle.std.proofs.Common.{◌∷◌, ◌∙◌, ap, arith}
+use Rattle.std.proofs.Common.{◌∷◌, inl, ◌∙◌, ap, arith}
 use Rattle.om_edge.specs.State.{change}
 use Rattle.om_stops.specs.declared.stop.Halt.TheVariants as halts
 use Rattle.om_work.proofs.PieceLemmas.{feeds_halt}
@@ -10,8 +10,9 @@ use Rattle.om_work_examples.proofs.bytes.BytesButWork.feed.Goals as goal
 pub returns-then-byte-self-clause-feeds : goal.returns-then-byte-self-clause-feeds
 returns-then-byte-self-clause-feeds g c = λ reads. λ bytes said h.
     let f = front_byte c.args.in_hand.now c.requires.some in
-    byte_refused c.args.self.now.refused c.args.self.now.count bytes said h c.args.in_hand.now f.0 (g.K.Sink.state c.args.out.now)
-    (f.1 ∙ ap (λ b. b ∷ f.0) c.if-byte-self.true)
+    inl (byte_refused c.args.self.now.refused c.args.self.now.count bytes said h c.args.in_hand.now f.0 (g.K.Sink.state c.args.out.now)
+    c.refused_value.result c.refused_value.ensures
+    (f.1 ∙ ap (λ b. b ∷ f.0) c.if-byte-self.true))
 
 pub returns-in_err-put_all-clause-feeds : goal.returns-in_err-put_all-clause-feeds
 returns-in_err-put_all-clause-feeds g c = λ reads.

@@ -1,7 +1,7 @@
 use Rattle.std.proofs.Common.{rules, vec_len, ◌≡◌, ◌==◌, ◌<◌, length, ◌∙◌, ap, subst}
+use Rattle.om_outcome.specs.declared.stop.Stop.TheVariants.{Memory as out_of_memory}
 use Rattle.om_edge.specs.Sink.{Puts, PutsPart}
 use Rattle.om_edge.specs.State.{change}
-use Rattle.om_stops.specs.declared.stop.Stop.TheVariants as codes
 use Rattle.om_stops.specs.declared.stop.Halt.TheVariants as halts
 use Rattle.om_promises.proofs.LengthLemmas.{no_bytes}
 use Rattle.om_work.proofs.PieceLemmas.{ends_halt}
@@ -16,7 +16,7 @@ returns-then-is_empty g c = λ bytes said h.
 
 pub returns-in_err-keep : goal.returns-in_err-keep
 returns-in_err-keep g c =
-    ends_halt lines tt _ (change (g.K.Sink.state c.args.out.now) (g.K.Sink.state c.args.out.now)) (halts.Stop codes.Memory) c.from_residual.result c.from_residual.ensures.1
+    ends_halt lines tt _ (change (g.K.Sink.state c.args.out.now) (g.K.Sink.state c.args.out.now)) (halts.Stop out_of_memory) c.from_residual.result c.from_residual.ensures.1
     (λ bytes said h. lines_end_memory c.args.self.now.rest.items bytes said h (g.K.Sink.state c.args.out.now))
 
 pub returns-in_err-put_all : goal.returns-in_err-put_all

@@ -1,5 +1,5 @@
+use Rattle.om_outcome.specs.declared.stop.Stop.TheVariants.{Memory as out_of_memory}
 use Rattle.om_edge.specs.State.{change}
-use Rattle.om_stops.specs.declared.stop.Stop.TheVariants as codes
 use Rattle.om_stops.specs.declared.stop.Halt.TheVariants as halts
 use Rattle.om_work.proofs.PieceLemmas.{feeds_halt}
 use Rattle.om_work_examples.specs.Small.{lines}
@@ -9,7 +9,7 @@ use Rattle.om_work_examples.proofs.lines.LinesWork.feed.Goals as goal
 
 pub returns-in_err-keep-clause-feeds : goal.returns-in_err-keep-clause-feeds
 returns-in_err-keep-clause-feeds g c = λ reads.
-    feeds_halt lines tt (HasLines c.args.self.now.rest.items) (HasLines c.keep.new.line.items) c.args.in_hand.now (change (g.K.Sink.state c.args.out.now) (g.K.Sink.state c.args.out.now)) (halts.Stop codes.Memory)
+    feeds_halt lines tt (HasLines c.args.self.now.rest.items) (HasLines c.keep.new.line.items) c.args.in_hand.now (change (g.K.Sink.state c.args.out.now) (g.K.Sink.state c.args.out.now)) (halts.Stop out_of_memory)
     c.from_residual.result c.from_residual.ensures.1
     (λ bytes said h. lines_memory c.args.self.now.rest.items bytes said h c.args.in_hand.now (g.K.Sink.state c.args.out.now))
 

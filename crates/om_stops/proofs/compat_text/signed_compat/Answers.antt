@@ -2,7 +2,7 @@ use Rattle.std.proofs.Common.{◌≡◌, w64}
 use Rattle.std.proofs.Math.Facts.{to_z-of_z}
 use Rattle.std.specs.Fmt.{signed_decimal}
 use mir.Val.{SFits}
-use Rattle.om_stops.proofs.stop.signed_compat.Goals as goal
+use Rattle.om_stops.proofs.compat_text.signed_compat.Goals as goal
 
 pub returns : goal.returns
 returns c =

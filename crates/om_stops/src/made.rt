@@ -1,0 +1,113 @@
+//! The stops that are made where they arise. Where memory runs out for the text that a stop holds,
+//! the run stops for that.
+
+ghost use Rattle.std.specs.Prelude.{◌≡◌, IfOk};
+ghost use Rattle.om_outcome.specs.declared.stop.Stop.TheVariants.{CannotOpen as cannot_open, RequestedType as requested_type, Value as value, Script as script_line, LargeValue as large_value};
+ghost use Rattle.om_outcome.specs.RefusalText.{refusal_text as text_of_refusal, truncated_text as text_of_cut};
+ghost use Rattle.om_stops.specs.Stops.{text_of_compat, IsOrMemory, IsStopOf};
+
+use crate::compat_text::compat_text;
+use crate::put::put;
+use crate::refusal_text::{refusal_text, truncated_text};
+use om_model::Memory;
+use om_model::list::List;
+use om_model::refusal::ReadRefusal;
+use om_outcome::stop::Stop;
+use om_write::Compat;
+use std::alloc::Global;
+
+// Bytes, copied.
+fn copied(alloc: Global, bytes: &[u8]) -> Result<List<u8>, Memory>
+    ensures { IfOk result (λ copy. copy ≡ bytes.now) }
+{
+    let mut copy = Vec::new(alloc);
+    put(&mut copy, bytes)?;
+    Ok(List::of(copy))
+}
+
+// The text of a value's refusal, as bytes.
+fn refusal_bytes(alloc: Global, refusal: ReadRefusal) -> Result<List<u8>, Memory>
+    ensures { IfOk result (λ bytes. bytes ≡ text_of_refusal refusal) }
+{
+    let text = refusal_text(alloc, refusal)?;
+    copied(alloc, text.as_bytes())
+}
+
+// That the input ends after so many bytes of a value, as bytes.
+fn cut_bytes(alloc: Global, taken: u64) -> Result<List<u8>, Memory>
+    ensures { IfOk result (λ bytes. bytes ≡ text_of_cut taken) }
+{
+    let text = truncated_text(alloc, taken)?;
+    copied(alloc, text.as_bytes())
+}
+
+// What is too large for a reader on 32 bits, as bytes.
+fn compat_bytes(alloc: Global, compat: Compat) -> Result<List<u8>, Memory>
+    ensures { IfOk result (λ bytes. bytes ≡ text_of_compat compat) }
+{
+    let text = compat_text(alloc, compat)?;
+    copied(alloc, text.as_bytes())
+}
+
+/// The stop of a file that cannot be opened.
+pub fn unopened_file(alloc: Global, name: &str) -> Stop
+    ensures { IsOrMemory (cannot_open name.now) result }
+{
+    match copied(alloc, name.as_bytes()) {
+        Ok(name) => Stop::CannotOpen(name),
+        Err(_) => Stop::Memory,
+    }
+}
+
+/// The stop of a type that is refused, with this text.
+pub fn refused_type(alloc: Global, text: &[u8]) -> Stop
+    ensures { IsOrMemory (requested_type text.now) result }
+{
+    match copied(alloc, text) {
+        Ok(text) => Stop::RequestedType(text),
+        Err(_) => Stop::Memory,
+    }
+}
+
+/// The stop of the line of a script of this number that is refused, with this text.
+pub fn refused_line(alloc: Global, number: usize, text: &[u8]) -> Stop
+    ensures { IsOrMemory (script_line number text.now) result }
+{
+    match copied(alloc, text) {
+        Ok(text) => Stop::Script(number, text),
+        Err(_) => Stop::Memory,
+    }
+}
+
+/// The stop of the value of this number that is refused.
+pub fn refused_value(alloc: Global, number: u64, refusal: ReadRefusal) -> Stop
+    ensures { IsStopOf number refusal result }
+{
+    match refusal {
+        ReadRefusal::Memory => Stop::Memory,
+        _ => match refusal_bytes(alloc, refusal) {
+            Ok(text) => Stop::Value(number, text),
+            Err(_) => Stop::Memory,
+        },
+    }
+}
+
+/// The stop of the value of this number, of which the input ends after so many bytes.
+pub fn cut_value(alloc: Global, number: u64, taken: u64) -> Stop
+    ensures { IsOrMemory (value number (text_of_cut taken)) result }
+{
+    match cut_bytes(alloc, taken) {
+        Ok(text) => Stop::Value(number, text),
+        Err(_) => Stop::Memory,
+    }
+}
+
+/// The stop of the value of this number that is too large for a reader on 32 bits.
+pub fn too_large_value(alloc: Global, number: u64, compat: Compat) -> Stop
+    ensures { IsOrMemory (large_value number (text_of_compat compat)) result }
+{
+    match compat_bytes(alloc, compat) {
+        Ok(text) => Stop::LargeValue(number, text),
+        Err(_) => Stop::Memory,
+    }
+}
