@@ -29,6 +29,12 @@ printf '\x84\x95\xa6\xbe\0\0\0\x0d\0\0\0\x03\0\0\0\x0f\0\0\0\x0f\xc0\xc0\x40\x41
 printf '\x84\x95\xa6\xbe\0\0\0\x05\0\0\0\x01\0\0\0\x05\0\0\0\x05\xc0\x40\x41\x40\x42' >>trees
 # A text of each kind of line: one with a comment, a blank one, one that has no line feed at its end.
 printf '::(1, ::(2, [])) (* two *)\n\n#0=::(3, [])' >texts
+# The list of 1.5 and a nan, twice; and texts and a script with decimals.
+for _ in 1 2; do
+    printf '\x84\x95\xa6\xbe\0\0\0\x15\0\0\0\x04\0\0\0\x0c\0\0\0\x0a\xa0\x0c\0\0\0\0\0\0\xf8\x3f\xa0\x0c\x01\0\0\0\0\0\xf8\x7f\x40'
+done >doubles
+printf '::(1.5, []) (* 2.5 *)\n\n::(-1e-7, ::(0.1, []))' >decimals
+printf '0 set .0 = 0.1\n1 set . = ::(2.5, [])\n' >decimal_script
 # A certificate of three times the list, the last section of which states a fault that is none.
 cat >certificate <<'END'
 value 0 yes
@@ -89,6 +95,11 @@ refuse 'check --cert' check --cert types t
 refuse dump dump
 refuse same same
 refuse verify verify types t certificate
+input=doubles
+refuse 'show --decimal' show --decimal types 'float list'
+refuse 'edit --decimal' edit --decimal types 'float list' decimal_script
+input=decimals
+refuse 'build --decimal' build --decimal types 'float list'
 input=trees
 refuse trees trees types tree
 input=texts

@@ -39,23 +39,25 @@ mkdir "$work/files" && cd "$work/files" && : >shop.types && : >shop.script
 completes 'same scan show' s
 completes 'build check dump edit gen get same scan show trees verify' ''
 completes 'shop.script shop.types' build ''
-completes '--lines' build -
+completes '--decimal --lines' build -
 completes '' gen -
 completes 'shop.script shop.types' check ''
 completes 'shop.types' show shop.t
 completes '' check shop.types ''
 completes 'shop.script' edit --limit 5 shop.types int shop.s
 completes 'shop.script' verify shop.types int shop.s
-completes '--compat32 --limit --lines --skip' edit --
+completes '--compat32 --decimal --limit --lines --skip' edit --
 completes '--limit' scan --
 completes '--cert --limit --lines --only --skip' check shop.types --
 completes 'shop.types' check --cert shop.t
-completes '--limit --lines --only --pretty --skip' show shop.types --
+completes '--decimal --limit --lines --only --pretty --skip' show shop.types --
+completes '--decimal' get shop.types --d
 completes '--limit --lines --skip' trees shop.types --
 completes '--limit --only --skip' dump --
 completes '--limit --skip' same --
 completes 'shop.types' get --pretty shop.t
 completes 'shop.types' build --lines shop.t
+completes 'shop.script' edit --decimal shop.types int shop.s
 completes '' same ''
 completes '' get shop.types --limit ''
 completes '' dump --skip ''

@@ -8,14 +8,14 @@ _omarshal() {
     fi
     case $command in
     gen) options= ;;
-    build) options=--lines ;;
+    build) options='--lines --decimal' ;;
     check) options+=' --only --lines --cert' ;;
-    get | show) options+=' --only --lines --pretty' ;;
+    get | show) options+=' --only --lines --pretty --decimal' ;;
     dump) options+=' --only' ;;
     same) ;;
     trees | verify) options+=' --lines' ;;
     scan) options=--limit ;;
-    edit) options+=' --lines --compat32' ;;
+    edit) options+=' --lines --compat32 --decimal' ;;
     *) return ;;
     esac
     # The number of the word among FILE, TYPE and what follows.
