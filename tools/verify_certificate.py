@@ -30,9 +30,10 @@ class Table:
         self.classes = [known.classes[form] for form in self.types]
 
     def fit(self, value, t, objects):
-        """Whether the value fits type t, whether it is mutable there, and the types of its fields by number."""
+        """Whether the value fits type t, whether it is mutable there, and the types of its fields by number, but `_`."""
         good, mutable, needs = fit(self.shapes[self.types[t]], value, objects)
-        return good, good and mutable, {i: self.numbers[form] for i, form in sorted(needs.items())} if good else {}
+        asked = {i: form for i, form in sorted(needs.items()) if good and self.shapes[form][0] != "any"}
+        return good, good and mutable, {i: self.numbers[form] for i, form in asked.items()}
 
 
 def read_sections(data):
