@@ -1,8 +1,7 @@
 //! The digits that are tried first. Nothing is known of them: they are tested.
 
-ghost use Rattle.om_decimal.specs.Doubles.{IsSome};
-
 use crate::reads::BIAS;
+use crate::size::Size;
 use fast_float::Numeral;
 use ryu::Buffer;
 
@@ -31,10 +30,8 @@ fn decimal_of(numeral: &Numeral<'_>) -> (u64, u64) {
 }
 
 /// A decimal that should read as the double of this size.
-pub fn hint(size: u64) -> (u64, u64)
-    requires { IsSome size }
-{
-    let double = f64::from_bits(size);
+pub fn hint(size: Size) -> (u64, u64) {
+    let double = f64::from_bits(size.bits);
     let mut buffer = Buffer::new();
     decimal_of(&Numeral::scan(buffer.format(double).as_bytes()))
 }

@@ -12,6 +12,7 @@ mod read;
 mod reads;
 mod search;
 mod shortest;
+mod size;
 mod write;
 
 pub use laws::{doubles_are_read_back, doubles_have_one_text};

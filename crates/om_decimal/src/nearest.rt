@@ -2,31 +2,30 @@
 
 ghost use Rattle.std.specs.Prelude.{◌≡◌, ◌*◌, ◌+◌, ◌-◌, ◌<◌, ◌^◌, true, false};
 ghost use Rattle.std.specs.Ordering.{nat_cmp};
-ghost use Rattle.om_decimal.specs.Doubles.{IsSome, Reads, units_of, double_units, decimal_units, IsNoBetterAbove, IsNoBetterBelow};
+ghost use Rattle.om_decimal.specs.Doubles.{Reads, units_of, double_units, decimal_units, IsNoBetterAbove, IsNoBetterBelow};
 
 use crate::big::Big;
 use crate::reads::{BIAS, reads};
+use crate::size::Size;
 use std::cmp::Ordering;
 
 /// The digits of the double's size, as an integer, and the power of two that they are times.
-fn parts_of(size: u64) -> (u64, u64)
-    requires { IsSome size }
-    ensures value { result.0 * 2 ^ result.1 ≡ units_of size }
+fn parts_of(size: Size) -> (u64, u64)
+    ensures value { result.0 * 2 ^ result.1 ≡ units_of size.bits }
     ensures small { (result.0 < 2 ^ 53) × (result.1 < 2046) }
 {
-    let field = size >> 52;
+    let field = size.bits >> 52;
     if field == 0 {
-        return (size, 0);
+        return (size.bits, 0);
     }
-    ((1 << 52) + (size & ((1 << 52) - 1)), field - 1)
+    ((1 << 52) + (size.bits & ((1 << 52) - 1)), field - 1)
 }
 
 /// Twice the double against the decimal halfway between these digits and the next ones, twice.
-fn against_halfway(size: u64, digits: u64, power: u64) -> Ordering
-    requires some { IsSome size }
+fn against_halfway(size: Size, digits: u64, power: u64) -> Ordering
     requires small { power < 651 }
     ensures { result
-        ≡ nat_cmp (2 * double_units size power) (decimal_units (2 * digits + 1) power) }
+        ≡ nat_cmp (2 * double_units size.bits power) (decimal_units (2 * digits + 1) power) }
 {
     let (significand, exponent) = parts_of(size);
     let mut double = Big::new(significand);
@@ -40,11 +39,10 @@ fn against_halfway(size: u64, digits: u64, power: u64) -> Ordering
 }
 
 /// Whether the next digits are better.
-fn is_better_above(size: u64, digits: u64, power: u64) -> bool
-    requires some { IsSome size }
-    requires reads { Reads size digits power }
-    ensures so { result ≡ true → Reads size (digits + 1) power }
-    ensures not { result ≡ false → IsNoBetterAbove size digits power }
+fn is_better_above(size: Size, digits: u64, power: u64) -> bool
+    requires reads { Reads size.bits digits power }
+    ensures so { result ≡ true → Reads size.bits (digits + 1) power }
+    ensures not { result ≡ false → IsNoBetterAbove size.bits digits power }
 {
     if !reads(size, digits + 1, power) {
         return false;
@@ -57,12 +55,11 @@ fn is_better_above(size: u64, digits: u64, power: u64) -> bool
 }
 
 /// Whether the digits before are better; then those themselves are no better than they.
-fn is_better_below(size: u64, digits: u64, power: u64) -> bool
-    requires some { IsSome size }
-    requires reads { Reads size digits power }
-    ensures so { result ≡ true → Reads size (digits - 1) power }
-    ensures turned { result ≡ true → IsNoBetterAbove size (digits - 1) power }
-    ensures not { result ≡ false → IsNoBetterBelow size digits power }
+fn is_better_below(size: Size, digits: u64, power: u64) -> bool
+    requires reads { Reads size.bits digits power }
+    ensures so { result ≡ true → Reads size.bits (digits - 1) power }
+    ensures turned { result ≡ true → IsNoBetterAbove size.bits (digits - 1) power }
+    ensures not { result ≡ false → IsNoBetterBelow size.bits digits power }
 {
     if !reads(size, digits - 1, power) {
         return false;
@@ -75,11 +72,10 @@ fn is_better_below(size: u64, digits: u64, power: u64) -> bool
 }
 
 /// Goes up while the next digits are better.
-fn up(size: u64, digits: u64, power: u64) -> u64
-    requires some { IsSome size }
-    requires reads { Reads size digits power }
-    ensures reads { Reads size result power }
-    ensures above { IsNoBetterAbove size result power }
+fn up(size: Size, digits: u64, power: u64) -> u64
+    requires reads { Reads size.bits digits power }
+    ensures reads { Reads size.bits result power }
+    ensures above { IsNoBetterAbove size.bits result power }
 {
     let mut digits = digits;
     while is_better_above(size, digits, power) {
@@ -89,13 +85,12 @@ fn up(size: u64, digits: u64, power: u64) -> u64
 }
 
 /// Goes down while the digits before are better.
-fn down(size: u64, digits: u64, power: u64) -> u64
-    requires some { IsSome size }
-    requires reads { Reads size digits power }
-    requires above { IsNoBetterAbove size digits power }
-    ensures reads { Reads size result power }
-    ensures above { IsNoBetterAbove size result power }
-    ensures below { IsNoBetterBelow size result power }
+fn down(size: Size, digits: u64, power: u64) -> u64
+    requires reads { Reads size.bits digits power }
+    requires above { IsNoBetterAbove size.bits digits power }
+    ensures reads { Reads size.bits result power }
+    ensures above { IsNoBetterAbove size.bits result power }
+    ensures below { IsNoBetterBelow size.bits result power }
 {
     let mut digits = digits;
     while is_better_below(size, digits, power) {
@@ -105,12 +100,11 @@ fn down(size: u64, digits: u64, power: u64) -> u64
 }
 
 /// From a decimal that reads as the double, one with the same power that is nearest to it.
-pub fn nearest(size: u64, digits: u64, power: u64) -> u64
-    requires some { IsSome size }
-    requires reads { Reads size digits power }
-    ensures reads { Reads size result power }
-    ensures above { IsNoBetterAbove size result power }
-    ensures below { IsNoBetterBelow size result power }
+pub fn nearest(size: Size, digits: u64, power: u64) -> u64
+    requires reads { Reads size.bits digits power }
+    ensures reads { Reads size.bits result power }
+    ensures above { IsNoBetterAbove size.bits result power }
+    ensures below { IsNoBetterBelow size.bits result power }
 {
     down(size, up(size, digits, power), power)
 }

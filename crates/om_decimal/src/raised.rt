@@ -1,17 +1,17 @@
 //! The greatest power of the decimals that read as a double.
 
 ghost use Rattle.std.specs.Prelude.{ℕ, ◌+◌, ◌<◌, MatchOption};
-ghost use Rattle.om_decimal.specs.Doubles.{IsSome, IsNearest, Reads, IsHighest};
+ghost use Rattle.om_decimal.specs.Doubles.{IsNearest, Reads, IsHighest};
 
 use crate::reads::reads;
+use crate::size::Size;
 
 /// The digits of a decimal with the next power that reads as the double, if one does.
-fn higher(size: u64, digits: u64, power: u64) -> Option<u64>
-    requires some { IsSome size }
-    requires reads { Reads size digits power }
+fn higher(size: Size, digits: u64, power: u64) -> Option<u64>
+    requires reads { Reads size.bits digits power }
     ensures { MatchOption result
-        ((other : ℕ) → 0 < other → ¬ IsNearest size other (power + 1))
-        (λ next. Reads size next (power + 1)) }
+        ((other : ℕ) → 0 < other → ¬ IsNearest size.bits other (power + 1))
+        (λ next. Reads size.bits next (power + 1)) }
 {
     let below = digits / 10;
     if reads(size, below, power + 1) {
@@ -24,11 +24,10 @@ fn higher(size: u64, digits: u64, power: u64) -> Option<u64>
 }
 
 /// From a decimal that reads as the double, one with the greatest power that does.
-pub fn raised(size: u64, digits: u64, power: u64) -> (u64, u64)
-    requires some { IsSome size }
-    requires reads { Reads size digits power }
-    ensures reads { Reads size result.0 result.1 }
-    ensures highest { IsHighest size result.1 }
+pub fn raised(size: Size, digits: u64, power: u64) -> (u64, u64)
+    requires reads { Reads size.bits digits power }
+    ensures reads { Reads size.bits result.0 result.1 }
+    ensures highest { IsHighest size.bits result.1 }
 {
     let mut digits = digits;
     let mut power = power;

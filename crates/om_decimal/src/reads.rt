@@ -1,8 +1,9 @@
 //! Whether a decimal reads as a double.
 
 ghost use Rattle.std.specs.Prelude.{◌≡◌, true, false};
-ghost use Rattle.om_decimal.specs.Doubles.{IsSome, Reads};
+ghost use Rattle.om_decimal.specs.Doubles.{Reads};
 
+use crate::size::Size;
 use fast_float::nearest_bits;
 
 /// The size of infinity.
@@ -19,13 +20,12 @@ pub const TOO_MANY: u64 = 10_000_000_000_000_000_000;
 
 /// Whether a decimal of at most 19 digits reads as the double of this size.
 #[inline]
-pub fn reads(size: u64, digits: u64, power: u64) -> bool
-    requires { IsSome size }
-    ensures so { result ≡ true → Reads size digits power }
-    ensures not { result ≡ false → ¬ Reads size digits power }
+pub fn reads(size: Size, digits: u64, power: u64) -> bool
+    ensures so { result ≡ true → Reads size.bits digits power }
+    ensures not { result ≡ false → ¬ Reads size.bits digits power }
 {
     if digits == 0 || digits >= TOO_MANY || power >= POWERS {
         return false;
     }
-    nearest_bits::<f64>(digits, power) == size
+    nearest_bits::<f64>(digits, power) == size.bits
 }

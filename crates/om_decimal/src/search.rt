@@ -1,10 +1,11 @@
 //! A decimal that reads as a double, where the one that was tried does not.
 
 ghost use Rattle.std.specs.Prelude.{ℕ, ◌+◌, ◌<◌, ◌≤◌, ◌^◌, MatchOption};
-ghost use Rattle.om_decimal.specs.Doubles.{IsSome, IsNearest, Reads, HasNone};
+ghost use Rattle.om_decimal.specs.Doubles.{IsNearest, Reads, HasNone};
 
 use crate::hint::hint;
 use crate::reads::{POWERS, TOO_MANY, reads};
+use crate::size::Size;
 use fast_float::nearest_bits;
 
 /// The least digits with which the decimal of this power reads as no lesser double than that of this
@@ -34,13 +35,12 @@ fn least_digits(size: u64, power: u64) -> u64
 /// come here.
 #[cold]
 #[inline(never)]
-fn search(size: u64) -> Option<(u64, u64)>
-    requires { IsSome size }
-    ensures { MatchOption result (HasNone size) (λ d. Reads size d.0 d.1) }
+fn search(size: Size) -> Option<(u64, u64)>
+    ensures { MatchOption result (HasNone size.bits) (λ d. Reads size.bits d.0 d.1) }
 {
     for power in 0..POWERS {
-        let digits = least_digits(size, power);
-        if nearest_bits::<f64>(digits, power) == size {
+        let digits = least_digits(size.bits, power);
+        if nearest_bits::<f64>(digits, power) == size.bits {
             return Some((digits, power));
         }
     }
@@ -48,9 +48,8 @@ fn search(size: u64) -> Option<(u64, u64)>
 }
 
 /// A decimal that reads as the double of this size, if one does.
-pub fn some_decimal(size: u64) -> Option<(u64, u64)>
-    requires { IsSome size }
-    ensures { MatchOption result (HasNone size) (λ d. Reads size d.0 d.1) }
+pub fn some_decimal(size: Size) -> Option<(u64, u64)>
+    ensures { MatchOption result (HasNone size.bits) (λ d. Reads size.bits d.0 d.1) }
 {
     let (digits, power) = hint(size);
     if reads(size, digits, power) {

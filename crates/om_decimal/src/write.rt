@@ -9,6 +9,7 @@ ghost use Rattle.om_decimal.specs.Shortest.{double_text};
 use crate::layout::put_size;
 use crate::reads::INFINITE;
 use crate::shortest::shortest;
+use crate::size::Size;
 use om_leaves::{put, put_float};
 use om_model::Memory;
 
@@ -52,7 +53,7 @@ pub fn put_double(text: &mut Vec<u8>, bits: u64) -> Result<(), Memory>
     if size >= INFINITE {
         return put_float(text, bits);
     }
-    match shortest(size) {
+    match shortest(Size { bits: size }) {
         Some((digits, power)) => put_signed(text, bits, digits, power),
         None => put_float(text, bits),
     }

@@ -32,7 +32,7 @@ returns c =
     let p = c.parts_of-significand in
     let a = c.args in
     let twice : a.digits * 2 + 1 ≡ 2 * a.digits + 1 = omega arith in
-    let d : c.times_ten_to.new.self ≡ 2 * double_units a.size a.power = rw (c.times_ten_to.ensures, c.times_two_to.ensures, c.new-double.ensures, c.saturating_sub.ensures) (double_is a.size a.power p.result.0 p.result.1 p.ensures.value) in
+    let d : c.times_ten_to.new.self ≡ 2 * double_units a.size.bits a.power = rw (c.times_ten_to.ensures, c.times_two_to.ensures, c.new-double.ensures, c.saturating_sub.ensures) (double_is a.size.bits a.power p.result.0 p.result.1 p.ensures.value) in
     let e : c.times_two_to-2.new.self ≡ decimal_units (2 * a.digits + 1) a.power =
     rw (c.times_two_to-2.ensures, c.times_ten_to-2.ensures, c.mul_add.ensures, c.new-decimal.ensures, c.saturating_sub-2.ensures) (ap (λ n. n * 10 ^ (a.power - 342) * 2 ^ 1074) twice) in
     c.compare.ensures ∙ (λ i. nat_cmp (d i) (e i))

@@ -1,8 +1,8 @@
 use Rattle.om_decimal.specs.Doubles.{Reads, IsNoBetterAbove}
 use Rattle.om_decimal.proofs.nearest.down.Given as goal
 
-abbrev pub invariant-loop-digits : goal.invariant-loop-digits
-invariant-loop-digits l = Reads l.size l.digits l.power × IsNoBetterAbove l.size l.digits l.power
+abbrev pub invariant-loop-size : goal.invariant-loop-size
+invariant-loop-size l = Reads l.size.bits l.digits l.power × IsNoBetterAbove l.size.bits l.digits l.power
 
-abbrev pub decreases-loop-digits : goal.decreases-loop-digits
-decreases-loop-digits l = l.digits
+abbrev pub decreases-loop-size : goal.decreases-loop-size
+decreases-loop-size l = l.digits

@@ -4,11 +4,11 @@ use Rattle.om_decimal.proofs.RaisedLemmas.{none_higher}
 use Rattle.om_decimal.proofs.raised.higher.Goals as goal
 
 pub overflow_add-power : goal.overflow_add-power
-overflow_add-power c = record { fits = omega (arith, few_powers c.args.size c.args.digits c.args.power c.requires.some c.requires.reads) }
+overflow_add-power c = record { fits = omega (arith, few_powers c.args.size.bits c.args.digits c.args.power c.args.size.some c.requires.reads) }
 
 pub overflow_add-power-else-reads : goal.overflow_add-power-else-reads
-overflow_add-power-else-reads c = record { fits = omega (arith, few_powers c.args.size c.args.digits c.args.power c.requires.some c.requires.reads) }
+overflow_add-power-else-reads c = record { fits = omega (arith, few_powers c.args.size.bits c.args.digits c.args.power c.args.size.some c.requires.reads) }
 
 pub returns-else-reads-2 : goal.returns-else-reads-2
 returns-else-reads-2 c =
-    none_higher c.args.size c.args.digits c.args.power c.requires.some c.requires.reads (c.reads.ensures.not c.if-reads.false) (c.reads-else-reads.ensures.not c.if-reads-2.false)
+    none_higher c.args.size.bits c.args.digits c.args.power c.args.size.some c.requires.reads (c.reads.ensures.not c.if-reads.false) (c.reads-else-reads.ensures.not c.if-reads-2.false)

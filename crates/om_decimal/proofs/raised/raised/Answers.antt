@@ -4,10 +4,10 @@ use Rattle.om_decimal.proofs.RaisedLemmas.{highest_is}
 use Rattle.om_decimal.proofs.raised.raised.Goals as goal
 
 pub overflow_add-power : goal.overflow_add-power
-overflow_add-power c = record { fits = omega (arith, few_powers c.args.size c.loop-next.digits c.loop-next.power c.requires.some c.loop-next.invariant) }
+overflow_add-power c = record { fits = omega (arith, few_powers c.args.size.bits c.loop-next.digits c.loop-next.power c.args.size.some c.loop-next.invariant) }
 
 pub loop-next-smaller : goal.loop-next-smaller
-loop-next-smaller c = omega (arith, few_powers c.args.size c.loop-next.digits c.loop-next.power c.requires.some c.loop-next.invariant)
+loop-next-smaller c = omega (arith, few_powers c.args.size.bits c.loop-next.digits c.loop-next.power c.args.size.some c.loop-next.invariant)
 
 pub returns-clause-highest : goal.returns-clause-highest
-returns-clause-highest c = highest_is c.args.size c.loop-next.power c.in_default.ensures
+returns-clause-highest c = highest_is c.args.size.bits c.loop-next.power c.in_default.ensures

@@ -11,7 +11,7 @@ returns-then-digits-eq0-clause-not c e r =
       | then-digits-eq0-via-then-digits-eq0 w ↦ omega (arith, r.some, w.if-digits-eq0.true)
       | then-digits-eq0-via-else-digits-eq0+then-digits-ge-TOO_MANY w ↦ omega (arith, r.few, w.if-digits-ge-TOO_MANY.true)
       | then-digits-eq0-via-else-digits-eq0+else-digits-ge-TOO_MANY+then-power-ge-POWERS w ↦
-          omega (arith, few_powers c.args.size c.args.digits c.args.power c.requires r, w.if-power-ge-POWERS.true)
+          omega (arith, few_powers c.args.size.bits c.args.digits c.args.power c.args.size.some r, w.if-power-ge-POWERS.true)
     ]
 
 pub returns-clause-not : goal.returns-clause-not

@@ -6,7 +6,7 @@ use Rattle.om_decimal.proofs.SearchLemmas.{none_at}
 use Rattle.om_decimal.proofs.search.search.Goals as goal
 
 pub returns : goal.returns
-returns c digits power r = c.loop-power.invariant digits power (omega (arith, few_powers c.args.size digits power c.requires r, c.loop-power-test.false)) r
+returns c digits power r = c.loop-power.invariant digits power (omega (arith, few_powers c.args.size.bits digits power c.args.size.some r, c.loop-power-test.false)) r
 
 pub loop-power-preserved : goal.loop-power-preserved
 loop-power-preserved c digits p l r =
@@ -15,6 +15,6 @@ loop-power-preserved c digits p l r =
       | inl a ↦ c.loop-power.invariant digits p a r
       | inr b ↦
           let e : p ≡ c.loop-power.power = omega arith in
-          none_at c.args.size c.loop-power.power d.result c.nearest_bits.result d.ensures.range.1 d.ensures.least d.ensures.reaches c.nearest_bits.ensures c.if-nearest_bits-size.false digits
-          (subst (Reads c.args.size digits) e r)
+          none_at c.args.size.bits c.loop-power.power d.result c.nearest_bits.result d.ensures.range.1 d.ensures.least d.ensures.reaches c.nearest_bits.ensures c.if-nearest_bits-size.false digits
+          (subst (Reads c.args.size.bits digits) e r)
     ]
