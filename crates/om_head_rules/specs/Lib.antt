@@ -1,4 +1,5 @@
 pub mod Broken
 pub mod Numbered
+pub mod Ordered
 pub mod Rules
 pub mod Apart

@@ -2,7 +2,7 @@
 
 ghost use Rattle.std.specs.Prelude.{◌++◌, All, IfOk, OnOk, List as Seq};
 ghost use Rattle.std.specs.List.{flat_map};
-ghost use Rattle.om_types.specs.Nodes.{types_of, AreOrdered};
+ghost use Rattle.om_types.specs.Nodes.{types_of};
 ghost use Rattle.om_types.specs.Occurrence.{PlacedItem};
 ghost use Rattle.om_scope.specs.Brackets.{items_told, type_told, all_told, IsOrdered};
 ghost use Rattle.om_store.specs.Held.{Grows};
@@ -10,26 +10,25 @@ ghost use Rattle.om_store.specs.Instance.{HasNumbers};
 ghost use Rattle.om_head_rules.specs.Numbered.{AreNumbered, AreAllNumbered};
 
 use crate::item::{NumberedItem, number_item};
+use crate::nodes::Nodes;
 use om_model::Memory;
 use om_model::list::List;
 use om_scope::{BracketItem, TypeBrackets};
 use om_store::Types;
-use om_types::ty::Node;
 use std::alloc::Global;
 
 /// The items of a bracket.
 fn number_items(
     alloc: Global,
     types: &mut Types,
-    nodes: &[Node],
+    nodes: &Nodes<'_>,
     numbers: &[usize],
     items: &[BracketItem],
 ) -> Result<List<NumberedItem>, Memory>
-    requires ordered { AreOrdered nodes.now }
-    requires numbers { HasNumbers types.old (types_of nodes.now) numbers.now }
+    requires numbers { HasNumbers types.old (types_of nodes.now.all.now) numbers.now }
     ensures grown { Grows types.old types.new }
     ensures ok { IfOk result
-        (λ all. AreNumbered types.new all (items_told (types_of nodes.now) items.now)) }
+        (λ all. AreNumbered types.new all (items_told (types_of nodes.now.all.now) items.now)) }
 {
     let mut all = List::new(alloc);
     for item in items {
@@ -51,15 +50,10 @@ fn put_type(
         ((all : Seq (Seq PlacedItem)) → AreAllNumbered types.old brackets.old all
         → AreAllNumbered types.new brackets.new (all ++ type_told found.now)) }
 {
-    let numbers = types.add_nodes(alloc, found.nodes)?;
+    let nodes = Nodes { all: found.nodes };
+    let numbers = types.add_nodes(alloc, nodes.all)?;
     for items in found.brackets.as_slice() {
-        brackets.push(number_items(
-            alloc,
-            types,
-            found.nodes,
-            numbers.as_slice(),
-            items.as_slice(),
-        )?)?;
+        brackets.push(number_items(alloc, types, &nodes, numbers.as_slice(), items.as_slice())?)?;
     }
     Ok(())
 }

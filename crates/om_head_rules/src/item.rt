@@ -2,12 +2,13 @@
 
 ghost use Rattle.std.specs.Prelude.{◌≡◌, ◌<◌, Some, length, slice_get, IfOk};
 ghost use Rattle.om_types.specs.Ty.{bracket, tag, tag_of, including};
-ghost use Rattle.om_types.specs.Nodes.{type_at, types_of, AreOrdered};
+ghost use Rattle.om_types.specs.Nodes.{type_at, types_of};
 ghost use Rattle.om_scope.specs.Brackets.{item_of, item_told};
 ghost use Rattle.om_store.specs.Held.{Grows};
 ghost use Rattle.om_store.specs.Instance.{HasNumbers};
 ghost use Rattle.om_head_rules.specs.Numbered.{IsNumbered};
 
+use crate::nodes::Nodes;
 use om_model::Memory;
 use om_scope::BracketItem;
 use om_store::Types;
@@ -56,18 +57,17 @@ fn including_number(types: &mut Types, included: usize) -> Result<usize, Memory>
 /// The number of the item that a node adds.
 fn node_number(
     types: &mut Types,
-    nodes: &[Node],
+    nodes: &Nodes<'_>,
     numbers: &[usize],
     n: usize,
 ) -> Result<usize, Memory>
-    requires ordered { AreOrdered nodes.now }
-    requires numbers { HasNumbers types.old (types_of nodes.now) numbers.now }
-    requires below { n < length nodes.now }
+    requires numbers { HasNumbers types.old (types_of nodes.now.all.now) numbers.now }
+    requires below { n < length nodes.now.all.now }
     ensures grown { Grows types.old types.new }
     ensures ok { IfOk result
-        (λ i. slice_get types.new i ≡ Some (item_of (type_at (types_of nodes.now) n))) }
+        (λ i. slice_get types.new i ≡ Some (item_of (type_at (types_of nodes.now.all.now) n))) }
 {
-    match &nodes[n] {
+    match &nodes.all[n] {
         Node::Tag(_, x) => tag_number(types, x.as_slice()),
         Node::TagOf(_, x, a) => tag_of_number(types, x.as_slice(), numbers[*a]),
         Node::Including(_, u) => including_number(types, numbers[*u]),
@@ -78,17 +78,16 @@ fn node_number(
 /// The number of the item that a node adds, where it is there.
 fn item_number(
     types: &mut Types,
-    nodes: &[Node],
+    nodes: &Nodes<'_>,
     numbers: &[usize],
     n: usize,
 ) -> Result<usize, Memory>
-    requires ordered { AreOrdered nodes.now }
-    requires numbers { HasNumbers types.old (types_of nodes.now) numbers.now }
+    requires numbers { HasNumbers types.old (types_of nodes.now.all.now) numbers.now }
     ensures grown { Grows types.old types.new }
     ensures ok { IfOk result
-        (λ i. slice_get types.new i ≡ Some (item_of (type_at (types_of nodes.now) n))) }
+        (λ i. slice_get types.new i ≡ Some (item_of (type_at (types_of nodes.now.all.now) n))) }
 {
-    if n < nodes.len() {
+    if n < nodes.all.len() {
         node_number(types, nodes, numbers, n)
     } else {
         types.add_tuple()
@@ -98,15 +97,14 @@ fn item_number(
 /// An item with the number of its type.
 pub fn number_item(
     types: &mut Types,
-    nodes: &[Node],
+    nodes: &Nodes<'_>,
     numbers: &[usize],
     item: &BracketItem,
 ) -> Result<NumberedItem, Memory>
-    requires ordered { AreOrdered nodes.now }
-    requires numbers { HasNumbers types.old (types_of nodes.now) numbers.now }
+    requires numbers { HasNumbers types.old (types_of nodes.now.all.now) numbers.now }
     ensures grown { Grows types.old types.new }
     ensures ok { IfOk result
-        (λ i. IsNumbered types.new i (item_told (types_of nodes.now) item.now)) }
+        (λ i. IsNumbered types.new i (item_told (types_of nodes.now.all.now) item.now)) }
 {
     Ok(NumberedItem {
         place: item.place,

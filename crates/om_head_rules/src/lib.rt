@@ -9,6 +9,7 @@ mod clash;
 mod first;
 mod flat;
 mod item;
+mod nodes;
 mod tags;
 mod variant;
 

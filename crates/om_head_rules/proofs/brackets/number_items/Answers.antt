@@ -4,14 +4,15 @@ use Rattle.om_store.proofs.InstanceLemmas.{numbers_kept}
 use Rattle.om_head_rules.proofs.NumberedLemmas.{items_turn, all_items}
 use Rattle.om_head_rules.proofs.brackets.number_items.Goals as goal
 
-pub number_item-requires-clause-numbers : goal.number_item-requires-clause-numbers
-number_item-requires-clause-numbers c =
-    numbers_kept c.args.types.now c.loop-item.types (types_of c.args.nodes.now) c.args.numbers.now c.requires.numbers
-    c.loop-item.invariant.grown
+pub number_item-requires : goal.number_item-requires
+number_item-requires c = record {
+  numbers = numbers_kept c.args.types.now c.loop-item.types (types_of c.args.nodes.now.all.now) c.args.numbers.now
+      c.requires.numbers c.loop-item.invariant.grown;
+}
 
 pub loop-item-preserved : goal.loop-item-preserved
 loop-item-preserved c =
-    let tree = types_of c.args.nodes.now in
+    let tree = types_of c.args.nodes.now.all.now in
     record {
       grown = Grows-then c.args.types.now c.loop-item.types c.number_item.new.types c.loop-item.invariant.grown
           c.in_ok-number_item.ensures.grown;
@@ -23,5 +24,5 @@ loop-item-preserved c =
 
 pub returns-clause-ok : goal.returns-clause-ok
 returns-clause-ok c =
-    all_items c.loop-item.types (types_of c.args.nodes.now) c.loop-item.all c.args.items.now c.loop-item.item-index
+    all_items c.loop-item.types (types_of c.args.nodes.now.all.now) c.loop-item.all c.args.items.now c.loop-item.item-index
     c.loop-item-test.false c.loop-item.invariant.told

@@ -8,5 +8,5 @@ use Rattle.om_head_rules.proofs.brackets.number_items.Given as goal
 abbrev pub invariant-loop-item : goal.invariant-loop-item
 invariant-loop-item l = record {
   grown : Grows l.initial.types l.types;
-  told : AreNumbered l.types l.all (items_told (types_of l.nodes) (take l.item-index l.items));
+  told : AreNumbered l.types l.all (items_told (types_of l.nodes.all.now) (take l.item-index l.items));
 }

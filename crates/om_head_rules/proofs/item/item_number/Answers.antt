@@ -5,5 +5,5 @@ use Rattle.om_head_rules.proofs.item.item_number.Goals as goal
 pub returns-else-n-nodes-clause-ok : goal.returns-else-n-nodes-clause-ok
 returns-else-n-nodes-clause-ok c =
     held_item c.add_tuple.result c.add_tuple.new.self _ _
-    (none_item c.args.nodes.now c.args.n c.if-n-nodes.false)
+    (none_item c.args.nodes.now.all.now c.args.n c.if-n-nodes.false)
     (held_there c.add_tuple.result c.args.types.now c.add_tuple.new.self tuple c.add_tuple.ensures.ok)
