@@ -20,7 +20,7 @@ use Rattle.om_picking.specs.Told.{said_of_one}
 use Rattle.om_picking.proofs.ToldLemmas.{is_told, on_up_to, said_before, said_at, say_count, first_of_one}
 use Rattle.om_work.proofs.FirstLemmas.{first_stays}
 use Rattle.om_work.specs.Works.{Has, ItemsStay, HaltsIn, FinishesIn, Halts, Feeds, PutsLast, EndsAt}
-use Rattle.om_picker.specs.Picked.{HasPicked, nowhere, FeedsUnsaid, EndsBefore}
+use Rattle.om_picker.specs.Picked.{HasPicked, nowhere, EndsBefore}
 
 module _ {A : Type 0} (picked_by : Request → Option ℕ) (c : Commands A) (a : A) where
   abbrev one : Commands (Option ℕ × A)
@@ -58,6 +58,15 @@ stops_too k c a items bytes stop few (inl at) = inl (inl (few, at))
 stops_too k c a items bytes stop few (inr memory) = inr memory
 
 -- ---- bytes in hand
+
+module _ {A : Type 0} (c : Commands A) (a : A) where
+  -- bytes in hand are taken as ever, and nothing of it is put
+  abbrev pub FeedsUnsaid : Has → Has → List ℕ → Result ℕ Halt → Type 0
+  FeedsUnsaid before after in_hand (Ok n) =
+      Feeds c a before after in_hand (change nowhere nowhere) (Ok n)
+  FeedsUnsaid before after in_hand (Err (halts.Stop stop)) =
+      Feeds c a before after in_hand (change nowhere nowhere) (Err (halts.Stop stop))
+  FeedsUnsaid before after in_hand (Err halts.WriteFault) = ⊥
 
 module _ {A : Type 0} (picked_by : Request → Option ℕ) (c : Commands A) (a : A) (k : ℕ) (has : Has) where
   abbrev There : List ℕ → List Said → Type 0
@@ -349,6 +358,14 @@ module _ {A : Type 0} (c : Commands A) (a : A) (has : Has) where
     by bytes said (inl (holds, next, are_said, part)) =
         inl (holds, inr refl, puts_nothing nowhere)
     by bytes said (inr f) = let e = f.is in absurd (cc e)
+
+-- the same of a command that holds the number
+pub fed_picked : {A : Type 0} (picked_by : Request → Option ℕ) (c : Commands A) (a : A) (picked : Option ℕ) (k : ℕ)
+    → picked ≡ Some k → (has new : Has) (in_hand : List ℕ) (out : Change ByteState) (result : Result ℕ Halt)
+    → Feeds (picking picked_by c) (Some k, a) (HasPicked (Some k) has) (HasPicked (Some k) new) in_hand out result
+    → Feeds (picking picked_by c) (picked, a) (HasPicked picked has) (HasPicked picked new) in_hand out result
+fed_picked picked_by c a picked k is has new in_hand out result fed =
+    subst (λ p. Feeds (picking picked_by c) (p, a) (HasPicked p has) (HasPicked p new) in_hand out result) (sym is) fed
 
 -- ---- each item, or one
 

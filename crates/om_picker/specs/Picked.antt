@@ -2,14 +2,14 @@
 use Rattle.std.specs.Prelude.{ℕ, ◌≤◌, ◌≡◌, ◌⊎◌, Bool, List, length, Option, Some, None, Result, Ok, Err}
 use Rattle.om_outcome.specs.Outcome.{Said, Reply, stops}
 use Rattle.om_outcome.specs.declared.stop.Stop.TheVariants.{Memory as out_of_memory}
-use Rattle.om_edge.specs.State.{ByteState, change}
+use Rattle.om_edge.specs.State.{ByteState}
 use Rattle.om_picking.specs.Picking.{missing}
 use Rattle.om_picking.specs.Told.{said_of_one}
 use Rattle.om_promises.specs.Account.{HoldNoStop}
 use Rattle.om_promises.specs.Commands.{Commands}
 use Rattle.om_stops.specs.declared.stop.Halt.{Halt}
 use Rattle.om_stops.specs.declared.stop.Halt.TheVariants as halts
-use Rattle.om_work.specs.Works.{Has, Feeds}
+use Rattle.om_work.specs.Works.{Has}
 
 abbrev pub said_by : Option ℕ → List Said → List Said
 said_by None told = told
@@ -33,14 +33,6 @@ abbrev pub nowhere : ByteState
 nowhere = record { bytes = None; faults = 0 }
 
 module _ {A : Type 0} (c : Commands A) (a : A) where
-  -- bytes in hand are taken as ever, and nothing of it is put
-  abbrev pub FeedsUnsaid : Has → Has → List ℕ → Result ℕ Halt → Type 0
-  FeedsUnsaid before after in_hand (Ok n) =
-      Feeds c a before after in_hand (change nowhere nowhere) (Ok n)
-  FeedsUnsaid before after in_hand (Err (halts.Stop stop)) =
-      Feeds c a before after in_hand (change nowhere nowhere) (Err (halts.Stop stop))
-  FeedsUnsaid before after in_hand (Err halts.WriteFault) = ⊥
-
   -- the run stops where the input ends before the item that is asked for, or memory ran out
   abbrev pub EndsBefore : Has → Result Bool Halt → Type 0
   EndsBefore has (Ok well) = ⊥

@@ -3,7 +3,7 @@
 ghost use Rattle.std.specs.Prelude.{◌≡◌, ◌<◌, ◌+◌, ◌^◌, List, [], ℕ, Option, Some, length};
 ghost use Rattle.om_outcome.specs.Outcome.{Said};
 ghost use Rattle.om_edge.specs.State.{change};
-ghost use Rattle.om_picker.specs.Picked.{nowhere, HasPicked, FeedsUnsaid, EndsBefore};
+ghost use Rattle.om_picker.specs.Picked.{nowhere, HasPicked, EndsBefore};
 ghost use Rattle.om_picking.specs.Picking.{picking};
 ghost use Rattle.om_work.specs.Works.{Feeds};
 
@@ -50,24 +50,6 @@ impl<P: PicksOne, W: Counts> Picking<P, W> {
             picked,
             asked: PhantomData,
         }
-    }
-}
-
-/// Takes some bytes in hand, up to the end of an item at most, of which nothing is to be said.
-fn feed_unsaid<W: Work>(alloc: Global, work: &mut W, in_hand: &[u8]) -> Result<usize, Halt>
-    requires some { 0 < length in_hand.now }
-    requires has { (bytes : List ℕ) × (said : List Said) × W.has work.old bytes said
-        × (length bytes + length in_hand.now < 2 ^ 63) }
-    ensures kept { W.act work.new ≡ W.act work.old }
-    ensures feeds { W.commands.Reads (W.act work.old)
-        → FeedsUnsaid W.commands (W.act work.old) (W.has work.old) (W.has work.new) in_hand.now
-        result }
-{
-    let mut sink = Nowhere {};
-    match work.feed(alloc, in_hand, &mut sink) {
-        Ok(taken) => Ok(taken),
-        Err(Halt::Stop(stop)) => Err(Halt::Stop(stop)),
-        Err(Halt::WriteFault) => Err(Halt::Stop(Stop::Memory)),
     }
 }
 
@@ -118,32 +100,6 @@ fn feed_last<P: PicksOne, W: Counts, K: Sink>(
     Ok(taken)
 }
 
-/// Takes some bytes in hand, where the item of this number alone is told of.
-fn feed_one<P: PicksOne, W: Counts, K: Sink>(
-    alloc: Global,
-    work: &mut W,
-    number: u64,
-    in_hand: &[u8],
-    out: &mut K,
-) -> Result<usize, Halt>
-    requires some { 0 < length in_hand.now }
-    requires has { (bytes : List ℕ) × (said : List Said)
-        × HasPicked (Some number) (W.has work.old) bytes said
-        × (length bytes + length in_hand.now < 2 ^ 63) }
-    ensures kept { W.act work.new ≡ W.act work.old }
-    ensures feeds { W.commands.Reads (W.act work.old)
-        → Feeds (picking P.picked_by W.commands) (Some number, W.act work.old)
-        (HasPicked (Some number) (W.has work.old)) (HasPicked (Some number) (W.has work.new))
-        in_hand.now (change (K.state out.old) (K.state out.new)) result }
-{
-    let count = work.count();
-    if count < number {
-        work.never_finishes();
-        return feed_unsaid(alloc, work, in_hand);
-    }
-    feed_last::<P, W, K>(alloc, work, number, in_hand, out)
-}
-
 impl<P: PicksOne, W: Counts> Work for Picking<P, W> {
     ghost Act = { Option ℕ × W.Act };
 
@@ -158,9 +114,18 @@ impl<P: PicksOne, W: Counts> Work for Picking<P, W> {
     }
 
     fn feed<K: Sink>(&mut self, alloc: Global, in_hand: &[u8], out: &mut K) -> Result<usize, Halt> {
-        match self.picked {
-            None => self.work.feed(alloc, in_hand, out),
-            Some(number) => feed_one::<P, W, K>(alloc, &mut self.work, number, in_hand, out),
+        let Some(number) = self.picked else {
+            return self.work.feed(alloc, in_hand, out);
+        };
+        if number <= self.work.count() {
+            return feed_last::<P, W, K>(alloc, &mut self.work, number, in_hand, out);
+        }
+        self.work.never_finishes();
+        let mut unsaid = Nowhere {};
+        match self.work.feed(alloc, in_hand, &mut unsaid) {
+            Ok(taken) => Ok(taken),
+            Err(Halt::Stop(stop)) => Err(Halt::Stop(stop)),
+            Err(Halt::WriteFault) => Err(Halt::Stop(Stop::Memory)),
         }
     }
 
