@@ -1,12 +1,12 @@
 -- What single tokens add to a graph.
-use Rattle.std.proofs.Common.{ℕ, ◌≡◌, ◌-◌, List, [], ◌∷◌, ◌++◌, length, Option, ℤ, ap, sym, subst, append-nil}
+use Rattle.std.proofs.Common.{ℕ, zero, suc, ◌≡◌, ◌-◌, ◌≤◌, List, [], ◌∷◌, ◌++◌, length, Option, ℤ, arith, ap, sym, subst, append-nil}
 use Rattle.om_model.specs.declared.value.Val.{Val}
 use Rattle.om_model.specs.declared.value.Val.TheVariants as vals
 use Rattle.om_model.specs.declared.value.Obj.{Obj}
-use Rattle.om_format.specs.Token.{integer, atom, shared}
+use Rattle.om_format.specs.Token.{Token, integer, atom, shared, block_or_atom, IsToken}
 use Rattle.om_read.specs.declared.build.OpenBlock.{OpenBlock}
 use Rattle.om_read.specs.Build.{Building, Bounded, building, in_room, fill, fill_in, absorb_in, WellOpen}
-use Rattle.om_read.proofs.BuildLemmas.{AreOpen-append}
+use Rattle.om_read.proofs.BuildLemmas.{AreOpen-append, WellOpen-fill, WellOpen-absorb}
 
 -- a value with no object of its own
 placed : (s : Bounded) (v : Val) → in_room (fill v (s.built.objects ++ []) s.built.open_blocks s.built.root) s.room ≡ fill_in v s
@@ -25,8 +25,23 @@ absorbed_shared s offset = placed s (vals.Ref (length s.built.objects - offset))
 pub WellOpen-append : (s : Building) (more : List Obj) → WellOpen s → WellOpen (building (s.objects ++ more) s.open_blocks s.root)
 WellOpen-append s more h = record { are_open = AreOpen-append s.objects more s.open_blocks h.are_open; rooted = h.rooted }
 
-pub well_added : (heap new : List Obj) (open_blocks : List OpenBlock) (root : Option Val) (room : ℕ) (object : Obj) (s : Bounded)
-    → in_room (building heap open_blocks root) room ≡ s → new ≡ heap ++ object ∷ [] → WellOpen s.built → WellOpen (building new open_blocks root)
-well_added heap new open_blocks root room object s e n h =
-    subst (λ (all : List Obj). WellOpen (building all open_blocks root)) (sym n)
-    (WellOpen-append (building heap open_blocks root) (object ∷ []) (subst (λ (x : Bounded). WellOpen x.built) (sym e) h))
+pub well_added : (heap new : List Obj) (open_blocks : List OpenBlock) (root : Option Val) (object : Obj) → new ≡ heap ++ object ∷ [] → WellOpen (building heap open_blocks root)
+    → WellOpen (building new open_blocks root)
+well_added heap new open_blocks root object e h =
+    subst (λ (all : List Obj). WellOpen (building all open_blocks root)) (sym e) (WellOpen-append (building heap open_blocks root) (object ∷ []) h)
+
+-- a value comes
+pub well_filled : (v : Val) (all : List Obj) (open_blocks same : List OpenBlock) (root : Option Val) (new : Building) → WellOpen (building all open_blocks root) → same ≡ open_blocks
+    → new ≡ fill v all same root → WellOpen new
+well_filled v all open_blocks same root new h s e =
+    subst WellOpen (sym e) (subst (λ (blocks : List OpenBlock). WellOpen (fill v all blocks root)) (sym s) (WellOpen-fill v all open_blocks root h))
+
+-- a token comes
+pub well_absorbed : (inside old new : Bounded) (t : Token) → inside ≡ old → WellOpen inside.built → IsToken t → new ≡ absorb_in old t → WellOpen new.built
+well_absorbed inside old new t v h k e =
+    subst (λ (s : Bounded). WellOpen s.built) (sym e) (WellOpen-absorb old.built t k (subst (λ (s : Bounded). WellOpen s.built) v h))
+
+-- a block or an atom is a token
+pub block_is_token : (tag size : ℕ) → tag ≤ 243 → IsToken (block_or_atom tag size)
+block_is_token tag zero h = h
+block_is_token tag (suc n) h = (h, omega arith)

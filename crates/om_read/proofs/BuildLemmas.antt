@@ -137,6 +137,16 @@ WellOpen-absorb state t h k = record {
   rooted = λ e. absurd (keeps_root state.objects state.open_blocks state.root t k.rooted e);
 }
 
+no_blocks : (b : OpenBlock) (outer : List OpenBlock) → b ∷ outer ≡ [] → ⊥
+no_blocks b outer e = cc
+
+pub WellOpen-fill : (v : Val) (all : List Obj) (bs : List OpenBlock) (r : Option Val) → WellOpen (building all bs r) → WellOpen (fill v all bs r)
+WellOpen-fill v all [] r h = record { are_open = tt; rooted = λ e. refl }
+WellOpen-fill v all (b ∷ outer) r h = record {
+  are_open = AreOpen-still_open (set_field all b.object b.next v) b outer (AreOpen-set_field all b.object b.next v (b ∷ outer) h.are_open);
+  rooted = λ e. absurd (no_blocks b outer (h.rooted e));
+}
+
 pub WellOpen-start : WellOpen start
 WellOpen-start = record { are_open = tt; rooted = λ e. refl }
 

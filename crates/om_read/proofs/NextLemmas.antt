@@ -20,10 +20,10 @@ use Rattle.om_read.specs.declared.totals.Totals.{Totals}
 use Rattle.om_read.specs.declared.unread.Unread.{Unread}
 use Rattle.om_read.specs.declared.unread.Unread.TheVariants.{NeedMore, Refused}
 use Rattle.om_read.specs.Totals.{AreTotals, IsNext, after}
-use Rattle.om_read.specs.Build.{Building, Bounded, start, absorb, absorb_in, WellOpen, Fits}
+use Rattle.om_read.specs.Build.{Building, Bounded, start, absorb, absorb_in, Fits}
 use Rattle.om_read.specs.Reading.{Builds, NextOf}
 use Rattle.om_heap.specs.Heap.{heap_words}
-use Rattle.om_read.proofs.BuildLemmas.{WellOpen-from_start, length-from_start, absorb_all_push}
+use Rattle.om_read.proofs.BuildLemmas.{length-from_start, absorb_all_push}
 use Rattle.om_read.proofs.RoomLemmas.{heap_words-from_start}
 
 -- ---- where the next token leads
@@ -75,9 +75,6 @@ next_fits header before place next state rest h sums within =
     let same : next.head ≡ place.head = sym sums.head ∙ h.sums.head in
     let room : state.room ≡ next.head.w64 = h.room ∙ ap (λ x. x.w64) (sym same) in
     omega (arith, sums.w64)
-
-pub built_well : (header : List ℕ) (before : List (List ℕ)) (place : Totals) (state : Bounded) → Builds header before place state → WellOpen state.built
-built_well header before place state h = subst WellOpen (sym h.builds) (WellOpen-from_start h.tokens h.are_tokens)
 
 -- the next token spells one that refers back
 pub next_spelled : (header : List ℕ) (before : List (List ℕ)) (place : Totals) (state : Bounded) (rest : List ℕ) → AreBytes rest → Builds header before place state

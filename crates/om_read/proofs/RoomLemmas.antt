@@ -1,7 +1,7 @@
 -- How many words on 64 bits the objects have that tokens build.
-use Rattle.std.proofs.Common.{◌≡◌, ℕ, ◌+◌, ◌<◌, ◌≤◌, List, [], ◌∷◌, ◌++◌, length, map, take, pos, Option, arith, ap, sym, ◌∙◌, refl, length-append}
+use Rattle.std.proofs.Common.{◌≡◌, ℕ, zero, suc, ◌+◌, ◌<◌, ◌≤◌, List, [], ◌∷◌, ◌++◌, length, map, take, pos, Option, Some, arith, ap, sym, subst, ◌∙◌, refl, length-append}
 use Rattle.std.specs.List.{concat}
-use Rattle.std.specs.Prelude.{All}
+use Rattle.std.specs.Prelude.{All, replicate}
 use Rattle.std.proofs.lemmas.List.{length-replicate, length-take, take_at}
 use Rattle.std.proofs.lemmas.List.Elements.{All-head, All-tail}
 use Rattle.std.proofs.lemmas.List.Sums.{sum_by-cons, sum_by-set}
@@ -9,18 +9,22 @@ use Rattle.om_model.specs.declared.value.Val.{Val}
 use Rattle.om_model.specs.declared.value.Val.TheVariants as vals
 use Rattle.om_model.specs.declared.value.Obj.{Obj}
 use Rattle.om_model.specs.declared.value.Obj.TheVariants as objs
+use Rattle.om_model.specs.declared.code.Measure.TheVariants as measures
+use Rattle.om_model.specs.declared.code.Custom.{Custom}
+use Rattle.om_model.specs.declared.code.Custom.TheVariants as customs
 use Rattle.om_format.specs.Words.{of_object, words64, all_words64}
+use Rattle.om_format.specs.Raw.{block_measure}
 use Rattle.om_format.specs.Header.{header_length, head_of}
-use Rattle.om_format.specs.Token.{Token, integer, atom, shared, block, leaf, IsToken, measure_of}
+use Rattle.om_format.specs.Token.{Token, integer, atom, shared, block, leaf, IsToken, leaf_measure, measure_of}
 use Rattle.om_format.specs.Tree.{Tree, IsTree, tokens, value_of, objects_of}
 use Rattle.om_format.specs.Spelled.{SpelledUnder}
 use Rattle.om_format.proofs.SpellValues.{IsToken-all_spelled}
 use Rattle.om_format.proofs.TokenStepLemmas.{header_length-from, header_length-take, head_of-take}
 use Rattle.om_format.proofs.OneJudgement.{header_length-append}
-use Rattle.om_heap.specs.Heap.{object_at, with_field, set_field, object_words, heap_words}
+use Rattle.om_heap.specs.Heap.{object_at, with_field, set_field, object_words, heap_words, custom_object}
 use Rattle.om_heap.proofs.ReadLemmas.{object_words-with_field}
 use Rattle.om_heap.proofs.WriteLemmas.{heap_words-append}
-use Rattle.om_read.specs.Build.{Building, start, fill, blank, blank_fields, absorb, absorb_all, AreOpen, WellOpen}
+use Rattle.om_read.specs.Build.{Building, Bounded, building, in_room, Fits, start, fill, blank, blank_fields, absorb, absorb_all, AreOpen, WellOpen}
 use Rattle.om_read.specs.declared.build.OpenBlock.{OpenBlock}
 use Rattle.om_read.proofs.BuildLemmas.{AreOpen-append, WellOpen-absorb, WellOpen-start}
 use Rattle.om_read.proofs.TreeLemmas.{absorb_start}
@@ -40,6 +44,32 @@ heap_words-one o = let s = sum_by-cons object_words o [] in omega arith
 
 pub heap_words-push : (all : List Obj) (o : Obj) → heap_words (all ++ o ∷ []) ≡ heap_words all + object_words o
 heap_words-push all o = heap_words-append all (o ∷ []) ∙ ap (λ n. heap_words all + n) (heap_words-one o)
+
+-- an object that fits has room
+pub within_added : (all new : List Obj) (object : Obj) (bs : List OpenBlock) (r : Option Val) (room : ℕ) (s : Bounded) → in_room (building all bs r) room ≡ s → new ≡ all ++ object ∷ []
+    → heap_words s.built.objects + object_words object ≤ s.room → heap_words new ≤ room
+within_added all new object bs r room s v e h =
+    let fits : heap_words all + object_words object ≤ room = subst (λ (x : Bounded). heap_words x.built.objects + object_words object ≤ x.room) (sym v) h in
+    let words : heap_words new ≡ heap_words all + object_words object = ap heap_words e ∙ heap_words-push all object in
+    subst (λ n. n ≤ room) (sym words) fits
+
+-- a block of new fields
+pub within_fields : (all new : List Obj) (tag size : ℕ) (bs : List OpenBlock) (r : Option Val) (room : ℕ) (s : Bounded) → in_room (building all bs r) room ≡ s
+    → new ≡ all ++ objs.Block tag (replicate size (vals.Int (pos 0))) ∷ [] → Fits s (Some (measures.Block size)) → heap_words new ≤ room
+within_fields all new tag size bs r room s v e h =
+    within_added all new (objs.Block tag (replicate size (vals.Int (pos 0)))) bs r room s v e
+    (subst (λ n. heap_words s.built.objects + (1 + n) ≤ s.room) (sym (length-replicate size (vals.Int (pos 0)))) h)
+
+pub within_block : (all new : List Obj) (tag size : ℕ) (bs : List OpenBlock) (r : Option Val) (room : ℕ) (s : Bounded) → in_room (building all bs r) room ≡ s
+    → new ≡ all ++ objs.Block tag (replicate size (vals.Int (pos 0))) ∷ [] → 0 < size → Fits s (block_measure size) → heap_words new ≤ room
+within_block all new tag zero bs r room s v e some h = absurd (omega arith)
+within_block all new tag (suc n) bs r room s v e some h = within_fields all new tag (suc n) bs r room s v e h
+
+-- a custom has the words of its measure
+pub custom_words64 : (c : Custom) → of_object words64 (leaf_measure (custom_object c)) ≡ object_words (custom_object c)
+custom_words64 (customs.I32 z) = refl
+custom_words64 (customs.I64 z) = refl
+custom_words64 (customs.Native z) = refl
 
 -- the object that a token makes has the words of its measure
 heap_words-blank : (t : Token) → IsToken t → heap_words (blank t) ≡ of_object words64 (measure_of t)
@@ -61,6 +91,13 @@ heap_words-blank (leaf (objs.Native z)) h = heap_words-one (objs.Native z)
 heap_words-fill : (v : Val) (all : List Obj) (bs : List OpenBlock) (r : Option Val) → AreOpen all bs → heap_words (fill v all bs r).objects ≡ heap_words all
 heap_words-fill v all [] r h = refl
 heap_words-fill v all (b ∷ outer) r h = heap_words-set_field all b.object b.next v h.0.object
+
+-- a value that comes takes no words
+pub within_filled : (v : Val) (all : List Obj) (bs same : List OpenBlock) (r : Option Val) (room : ℕ) (new : Building) → AreOpen all bs → same ≡ bs → new ≡ fill v all same r
+    → heap_words all ≤ room → heap_words new.objects ≤ room
+within_filled v all bs same r room new h s e w =
+    subst (λ (b : Building). heap_words b.objects ≤ room) (sym e)
+    (subst (λ (blocks : List OpenBlock). heap_words (fill v all blocks r).objects ≤ room) (sym s) (subst (λ n. n ≤ room) (sym (heap_words-fill v all bs r h)) w))
 
 pub heap_words-absorb : (state : Building) (t : Token) → IsToken t → WellOpen state
     → heap_words (absorb state t).objects ≡ heap_words state.objects + of_object words64 (measure_of t)

@@ -144,6 +144,11 @@ abbrev pub fill_in : Val → Bounded → Bounded
 fill_in v state =
     in_room (fill v state.built.objects state.built.open_blocks state.built.root) state.room
 
+-- always so of what a builder holds: the words have room, and the open blocks are open
+pub record IsBuilt (state : Bounded) : Type 0 where
+  pub within : heap_words state.built.objects ≤ state.room
+  pub well : WellOpen state.built
+
 -- a token comes
 abbrev pub absorb_in : Bounded → Token → Bounded
 absorb_in state token = in_room (absorb state.built token) state.room

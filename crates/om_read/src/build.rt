@@ -1,7 +1,7 @@
 //! The graph that tokens build, one token after another: a block's fields come after it
 //! (`intern.c`).
 
-ghost use Rattle.std.specs.Prelude.{◌≡◌, ◌≢◌, ◌+◌, ◌≤◌, ◌<◌, ◌^◌, ◌∷◌, length, OnOk, vec_len, vec_capacity, IsSome, Some, MatchBool};
+ghost use Rattle.std.specs.Prelude.{◌≡◌, ◌≢◌, ◌+◌, ◌≤◌, ◌<◌, ◌^◌, ◌∷◌, length, OnOk, vec_len, vec_capacity, IsSome, Some, MatchBool, MatchResult};
 ghost use Rattle.om_model.specs.Graph.{IsValue};
 ghost use Rattle.om_heap.specs.Heap.{word_of};
 ghost use Rattle.om_read.specs.Build.{building, stack, fill as fill_next_of, AreOpen, WellOpen};
@@ -37,15 +37,14 @@ pub struct Builder {
 }
 
 impl Model for Builder {
-    ghost use Rattle.std.specs.Prelude.{◌≤◌};
-    ghost use Rattle.om_heap.specs.Heap.{heap_words};
-    ghost use Rattle.om_read.specs.Build.{Bounded, building, in_room, stack};
+    ghost use Rattle.om_read.specs.Build.{Bounded, building, in_room, stack, IsBuilt};
 
     ghost Value = { Bounded };
 
     ghost view = { λ b. in_room (building b.heap (stack b.inner b.outer.items) b.root) b.room };
 
-    ghost invariant = { λ b. heap_words b.heap ≤ b.room };
+    ghost invariant = { λ b.
+        IsBuilt (in_room (building b.heap (stack b.inner b.outer.items) b.root) b.room) };
 }
 
 /// Where the innermost block is full, the next one takes its place.
@@ -54,6 +53,8 @@ fn settle(_heap: &Heap, inner: &mut OpenBlock, outer: &mut Vec<OpenBlock>)
     requires { AreOpen _heap.now (stack inner.old outer.old.items) }
     ensures same { stack inner.new outer.new.items ≡ stack inner.old outer.old.items }
     ensures settled { inner.new.next ≡ inner.new.size → vec_len outer.new ≡ 0 }
+    ensures room { vec_len outer.old < vec_capacity outer.old
+        → vec_len outer.new < vec_capacity outer.new }
 {
     if inner.next == inner.size {
         if let Some(block) = outer.pop() {
@@ -102,20 +103,19 @@ fn open_in_room(inner: &mut OpenBlock, outer: &mut Vec<OpenBlock>, block: OpenBl
     *inner = block;
 }
 
-/// A block becomes the innermost.
+/// A block becomes the innermost, with room for one in it; out of memory nothing has changed.
 fn open_block(
     inner: &mut OpenBlock,
     outer: &mut Vec<OpenBlock>,
     block: OpenBlock,
 ) -> Result<(), Memory>
     requires { block.next ≢ block.size }
-    ensures { OnOk result
-        (stack inner.new outer.new.items ≡ block ∷ stack inner.old outer.old.items) }
+    ensures { MatchResult result
+        (λ _. stack inner.new outer.new.items ≡ block ∷ stack inner.old outer.old.items)
+        (λ _. stack inner.new outer.new.items ≡ stack inner.old outer.old.items) }
 {
-    if inner.next != inner.size {
-        outer.push(*inner)?;
-    }
-    *inner = block;
+    outer.reserve(1)?;
+    open_in_room(inner, outer, block);
     Ok(())
 }
 
@@ -124,7 +124,8 @@ impl Builder {
     ghost use Rattle.om_model.specs.declared.value.Obj.TheVariants as objects;
     ghost use Rattle.om_heap.specs.Heap.{custom_object, heap_words};
     ghost use Rattle.om_model.specs.declared.code.Measure.TheVariants as measures;
-    ghost use Rattle.om_format.specs.Token.{leaf_measure};
+    ghost use Rattle.om_format.specs.Raw.{block_measure};
+    ghost use Rattle.om_format.specs.Token.{leaf_measure, block_or_atom};
     ghost use Rattle.om_read.specs.Build.{empty, in_room, fill_in, absorb_in, Fits};
     ghost use Rattle.om_model.specs.Graph.{IsInteger};
 
@@ -168,8 +169,7 @@ impl Builder {
     /// A value comes.
     #[inline(always)]
     fn fill(&mut self, v: Val)
-        requires well { WellOpen self.old.built }
-        requires valid { IsValue (length self.old.built.objects) v }
+        requires { IsValue (length self.old.built.objects) v }
         ensures { self.new ≡ fill_in v self.old }
     {
         let word = self.heap.word(v);
@@ -187,8 +187,7 @@ impl Builder {
     /// An integer.
     #[tactic(auto, using(crate::proofs::AbsorbLemmas::absorbed_integer))]
     pub fn integer(&mut self, value: i64)
-        requires well { WellOpen self.old.built }
-        requires range { IsInteger value }
+        requires { IsInteger value }
         ensures { self.new ≡ absorb_in self.old (integer_token value) }
     {
         self.fill(Val::Int(value));
@@ -197,8 +196,7 @@ impl Builder {
     /// An atom.
     #[tactic(auto, using(crate::proofs::AbsorbLemmas::absorbed_atom))]
     pub fn atom(&mut self, tag: u8)
-        requires well { WellOpen self.old.built }
-        requires range { tag ≤ 243 }
+        requires { tag ≤ 243 }
         ensures { self.new ≡ absorb_in self.old (atom_token tag) }
     {
         self.fill(Val::Atom(tag));
@@ -207,7 +205,6 @@ impl Builder {
     /// A reference to the object so many places before the next one.
     #[tactic(auto, using(crate::proofs::AbsorbLemmas::absorbed_shared))]
     pub fn shared(&mut self, offset: u64)
-        requires well { WellOpen self.old.built }
         requires some { 1 ≤ offset }
         requires there { offset ≤ length self.old.built.objects }
         ensures { self.new ≡ absorb_in self.old (shared_token offset) }
@@ -216,16 +213,18 @@ impl Builder {
         self.fill(Val::Ref(count - offset));
     }
 
-    /// A block, whose fields are to come.
+    /// A block, whose fields are to come, or an atom where it has none.
     #[inline(always)]
     pub fn block(&mut self, tag: u8, size: u64) -> Result<(), Memory>
-        requires well { WellOpen self.old.built }
         requires range { tag ≤ 243 }
-        requires some { 0 < size }
         requires small { size < 2 ^ 53 }
-        requires fits { Fits self.old (Some (measures.Block size)) }
-        ensures { OnOk result (self.new ≡ absorb_in self.old (block_token tag size)) }
+        requires fits { Fits self.old (block_measure size) }
+        ensures { OnOk result (self.new ≡ absorb_in self.old (block_or_atom tag size)) }
     {
+        if size == 0 {
+            self.atom(tag);
+            return Ok(());
+        }
         let object = self.heap.add_block(tag, size)?;
         let at = self.heap.word(Val::Ref(object));
         self.fill(Val::Ref(object));
@@ -235,13 +234,13 @@ impl Builder {
             size,
             at,
         };
-        open_block(&mut self.inner, &mut self.outer, block)
+        open_block(&mut self.inner, &mut self.outer, block)?;
+        Ok(())
     }
 
-    /// The same, if no memory is needed for it.
+    /// A block, whose fields are to come, if no memory is needed for it.
     #[inline(always)]
     pub fn block_in_room(&mut self, tag: u8, size: u64) -> bool
-        requires well { WellOpen self.old.built }
         requires range { tag ≤ 243 }
         requires some { 0 < size }
         requires small { size < 2 ^ 53 }
@@ -249,15 +248,14 @@ impl Builder {
         ensures { MatchBool result (self.new ≡ absorb_in self.old (block_token tag size))
             (self.new ≡ self.old) }
     {
-        settle(&self.heap, &mut self.inner, &mut self.outer);
-        let fields = self.inner.size.saturating_sub(self.inner.next);
-        if fields > 1 && self.outer.len() == self.outer.capacity() {
+        if self.outer.len() == self.outer.capacity() {
             return false;
         }
         let object = self.heap.count();
         let Some(at) = self.heap.add_block_in_room(tag, size) else {
             return false;
         };
+        settle(&self.heap, &mut self.inner, &mut self.outer);
         fill_next(
             &mut self.heap,
             &mut self.inner,
@@ -278,7 +276,6 @@ impl Builder {
 
     /// A string.
     pub fn bytes(&mut self, content: &[u8]) -> Result<(), Memory>
-        requires well { WellOpen self.old.built }
         requires small { length content.now < 2 ^ 53 }
         requires fits { Fits self.old (Some (measures.Bytes (length content.now))) }
         ensures { OnOk result (self.new ≡ absorb_in self.old (leaf (objects.Bytes content.now))) }
@@ -291,7 +288,6 @@ impl Builder {
     /// The same, if no memory is needed for it.
     #[inline(always)]
     pub fn bytes_in_room(&mut self, content: &[u8]) -> bool
-        requires well { WellOpen self.old.built }
         requires small { length content.now < 2 ^ 53 }
         requires fits { Fits self.old (Some (measures.Bytes (length content.now))) }
         ensures { MatchBool result
@@ -316,8 +312,7 @@ impl Builder {
 
     /// A double.
     pub fn double(&mut self, bits: u64) -> Result<(), Memory>
-        requires well { WellOpen self.old.built }
-        requires fits { Fits self.old (Some measures.Double) }
+        requires { Fits self.old (Some measures.Double) }
         ensures { OnOk result (self.new ≡ absorb_in self.old (leaf (objects.Double bits))) }
     {
         let object = self.heap.add_double(bits)?;
@@ -328,8 +323,7 @@ impl Builder {
     /// The same, if no memory is needed for it.
     #[inline(always)]
     pub fn double_in_room(&mut self, bits: u64) -> bool
-        requires well { WellOpen self.old.built }
-        requires fits { Fits self.old (Some measures.Double) }
+        requires { Fits self.old (Some measures.Double) }
         ensures { MatchBool result (self.new ≡ absorb_in self.old (leaf (objects.Double bits)))
             (self.new ≡ self.old) }
     {
@@ -351,7 +345,6 @@ impl Builder {
 
     /// An array of doubles.
     pub fn doubles(&mut self, all: Vec<u64>) -> Result<(), Memory>
-        requires well { WellOpen self.old.built }
         requires some { 0 < vec_len all }
         requires small { vec_len all < 2 ^ 53 }
         requires fits { Fits self.old (Some (measures.Doubles (vec_len all))) }
@@ -364,8 +357,7 @@ impl Builder {
 
     /// A custom.
     pub fn custom(&mut self, value: Custom) -> Result<(), Memory>
-        requires well { WellOpen self.old.built }
-        requires fits { Fits self.old (leaf_measure (custom_object value)) }
+        requires { Fits self.old (leaf_measure (custom_object value)) }
         ensures { OnOk result (self.new ≡ absorb_in self.old (leaf (custom_object value))) }
     {
         let object = self.heap.add_custom(value)?;

@@ -6,9 +6,9 @@ ghost use Rattle.om_model.specs.Bytes.{number, SpellsDoubles};
 ghost use Rattle.om_format.specs.Code.{IsKind};
 ghost use Rattle.om_model.specs.declared.code.Measure.TheVariants as measures;
 ghost use Rattle.om_format.specs.Raw.{measure_after, block_measure};
-ghost use Rattle.om_format.specs.Token.{Token, leaf, block_or_atom as block_or_atom_token, word_token, SpellsAfter};
+ghost use Rattle.om_format.specs.Token.{Token, leaf, word_token, SpellsAfter};
 ghost use Rattle.om_format.specs.Words.{of_object, fields};
-ghost use Rattle.om_read.specs.Build.{absorb_in, WellOpen, Fits};
+ghost use Rattle.om_read.specs.Build.{absorb_in, Fits};
 ghost use Rattle.om_read.specs.Contents.{SpellsTokenAfter};
 
 use crate::build::Builder;
@@ -19,26 +19,8 @@ use om_model::bytes::{big_endian, double, signed, skip};
 use om_model::code::CodeKind;
 use std::alloc::Global;
 
-/// A block, or an atom where it has no fields.
-#[inline(always)]
-fn block_or_atom(builder: &mut Builder, tag: u8, size: u64) -> Result<(), Memory>
-    requires well { WellOpen builder.old.built }
-    requires range { tag ≤ 243 }
-    requires small { size < 2 ^ 53 }
-    requires fits { Fits builder.old (block_measure size) }
-    ensures { OnOk result (builder.new ≡ absorb_in builder.old (block_or_atom_token tag size)) }
-{
-    if size == 0 {
-        builder.atom(tag);
-        Ok(())
-    } else {
-        builder.block(tag, size)
-    }
-}
-
 /// A block or an atom, by its header word.
 fn word(builder: &mut Builder, bytes: &[u8]) -> Result<(), Memory>
-    requires well { WellOpen builder.old.built }
     requires few { length bytes.now ≤ 8 }
     requires range { number bytes.now % 256 ≤ 243 }
     requires small { number bytes.now / 1024 < 2 ^ 53 }
@@ -46,7 +28,7 @@ fn word(builder: &mut Builder, bytes: &[u8]) -> Result<(), Memory>
     ensures { OnOk result (builder.new ≡ absorb_in builder.old (word_token (number bytes.now))) }
 {
     let header = big_endian(bytes);
-    block_or_atom(builder, (header % 256) as u8, header / 1024)
+    builder.block((header % 256) as u8, header / 1024)
 }
 
 /// An array of so many doubles.
@@ -57,7 +39,6 @@ fn doubles(
     count: u64,
     little: bool,
 ) -> Result<(), Memory>
-    requires well { WellOpen builder.old.built }
     requires some { 0 < count }
     requires small { count < 2 ^ 53 }
     requires fits { Fits builder.old (Some (measures.Doubles count)) }
@@ -74,7 +55,6 @@ fn doubles(
 /// and no memory is needed for it.
 #[inline(always)]
 pub fn decode_in_room(builder: &mut Builder, kind: CodeKind, rest: &[u8]) -> bool
-    requires well { WellOpen builder.old.built }
     requires known { IsKind kind }
     requires small { length rest.now < 2 ^ 53 }
     requires size { of_object fields (measure_after kind rest.now) < 2 ^ 53 }
@@ -122,7 +102,6 @@ pub fn decode(
     kind: CodeKind,
     rest: &[u8],
 ) -> Result<(), Memory>
-    requires well { WellOpen builder.old.built }
     requires known { IsKind kind }
     requires small { length rest.now < 2 ^ 53 }
     requires size { of_object fields (measure_after kind rest.now) < 2 ^ 53 }
@@ -132,7 +111,7 @@ pub fn decode(
         ((t : Token) → SpellsAfter kind rest.now t → builder.new ≡ absorb_in builder.old t) }
 {
     match kind {
-        CodeKind::SmallBlock(tag, size) => block_or_atom(builder, tag, u64::from(size)),
+        CodeKind::SmallBlock(tag, size) => builder.block(tag, u64::from(size)),
         CodeKind::SmallInt(value) => {
             builder.integer(i64::from(value));
             Ok(())

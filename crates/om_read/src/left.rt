@@ -83,7 +83,10 @@ impl Left {
         let fields = fields_of(measure);
         let (w32, w64) = words_of(measure);
         let need = n - 1 + fields;
-        if self.slack < need || self.w32 < w32 || self.w64 < w64 || self.pending - 1 + fields == 0 {
+        if self.slack < need || self.w32 < w32 || self.w64 < w64 {
+            return false;
+        }
+        if fields == 0 && self.pending == 1 {
             return false;
         }
         *self = Left {

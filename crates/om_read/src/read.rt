@@ -5,7 +5,7 @@ ghost use Rattle.om_format.specs.Words.{of_object, fields};
 ghost use Rattle.om_format.specs.Raw.{raw_measure};
 ghost use Rattle.om_format.specs.Token.{Token, Spells};
 ghost use Rattle.om_format.specs.Tree.{RefersBack};
-ghost use Rattle.om_read.specs.Build.{WellOpen, absorb_in, Fits};
+ghost use Rattle.om_read.specs.Build.{absorb_in, Fits};
 ghost use Rattle.om_read.specs.Reading.{Builds, NextOf};
 
 use crate::build::Builder;
@@ -19,7 +19,6 @@ use std::alloc::Global;
 
 /// Adds what a whole token spells, whose object has room in the graph.
 fn add(alloc: Global, builder: &mut Builder, token: &[u8]) -> Result<(), Memory>
-    requires well { WellOpen builder.old.built }
     requires short { length token.now < 2 ^ 53 }
     requires small { of_object fields (raw_measure token.now) < 2 ^ 53 }
     requires fits { Fits builder.old (raw_measure token.now) }

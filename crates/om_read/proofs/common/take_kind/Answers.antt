@@ -13,7 +13,7 @@ use Rattle.om_read.specs.Left.{Leaves, Stands, Spends}
 use Rattle.om_read.specs.Contents.{SpellsTokenAfter}
 use Rattle.om_read.proofs.SizeLemmas.{few_words32, few_words64}
 use Rattle.om_read.proofs.LeftLemmas.{goes_on}
-use Rattle.om_read.proofs.NextLemmas.{built_well, objects_built}
+use Rattle.om_read.proofs.NextLemmas.{objects_built}
 use Rattle.om_read.proofs.CommonLemmas.{advance_fits, common_taken, common_spelled, passes_from}
 use Rattle.om_read.proofs.common.take_kind.Goals as goal
 use Rattle.om_read.proofs.common.take_kind.Goals.{After-spend}
@@ -51,11 +51,6 @@ passes c n header before place next h advances =
 -- the bytes after its code
 after_code : (c : After-spend) → take (fixed_bytes c.args.kind + variable_bytes c.args.kind (drop 1 c.args.bytes.now)) (drop 1 c.args.bytes.now) ≡ take c.in-Some.len c.skip-rest.result.now
 after_code c = ap (λ n. take n (drop 1 c.args.bytes.now)) (sym (len_is c)) ∙ ap (take c.in-Some.len) (sym c.skip-rest.ensures)
-
-pub decode_in_room-requires-clause-well : goal.decode_in_room-requires-clause-well
-decode_in_room-requires-clause-well c =
-    let r = c.requires.stands in
-    built_well r.1 r.2 r.3 c.args.builder.now r.4.builds
 
 pub decode_in_room-requires-clause-fits : goal.decode_in_room-requires-clause-fits
 decode_in_room-requires-clause-fits c =

@@ -34,8 +34,8 @@ returns-in-Custom c =
     on_ok_weaker c.custom.result (λ e t s.
     e ∙ ap (absorb_in c.args.builder.now) (sym (c.custom_value.ensures t (subst (λ (k : CodeKind). SpellsAfter k c.args.rest.now t) c.in-Custom.is s)))) c.custom.ensures
 
-pub custom-requires-clause-fits : goal.custom-requires-clause-fits
-custom-requires-clause-fits c =
+pub custom-requires : goal.custom-requires
+custom-requires c =
     let h = c.requires.spelled in
     let spelled : SpellsAfter (kinds.Custom c.in-Custom.field-0) c.args.rest.now h.0 = subst (λ (k : CodeKind). SpellsAfter k c.args.rest.now h.0) c.in-Custom.is h.1 in
     let same : measure_after c.args.kind c.args.rest.now ≡ leaf_measure (custom_object c.custom_value.result) =

@@ -12,7 +12,7 @@ use Rattle.om_read.specs.Totals.{IsNext, context_of}
 use Rattle.om_read.specs.Reading.{Builds}
 use Rattle.om_read.proofs.TotalsLemmas.{next_there}
 use Rattle.om_read.specs.Build.{absorb_in, Fits}
-use Rattle.om_read.proofs.NextLemmas.{next_taken, next_fields, built_well, next_spelled, next_leads, next_fits, nothing_left, judged_next}
+use Rattle.om_read.proofs.NextLemmas.{next_taken, next_fields, next_spelled, next_leads, next_fits, nothing_left, judged_next}
 use Rattle.om_read.proofs.read.next_token.Goals as goal
 use Rattle.om_read.proofs.read.next_token.Goals.{In_ok-next}
 
@@ -48,9 +48,6 @@ pub slice_bounds-add-end : goal.slice_bounds-add-end
 slice_bounds-add-end c =
     let d = (goal.at.slice_bounds-add-end c).In_ok-next in
     sym (length-take-le (c.in_ok-next.next.taken - c.args.place.now.taken) c.args.rest.now (omega (arith, length_is d, whole d)))
-
-pub add-requires-clause-well : goal.add-requires-clause-well
-add-requires-clause-well c = built_well c.requires.leads.0 c.requires.leads.1 c.args.place.now c.args.builder.now c.requires.leads.2
 
 pub add-requires-clause-small : goal.add-requires-clause-small
 add-requires-clause-small c =
