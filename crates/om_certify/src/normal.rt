@@ -17,7 +17,7 @@ pub fn normal_pairs(alloc: Global, typing: &Typing, leasts: &[usize]) -> Result<
     ensures increasing { IfOk result AreIncreasing }
 {
     let pairs = at_leasts(alloc, typing, leasts)?;
-    Ok(in_order(pairs))
+    Ok(in_order(alloc, pairs))
 }
 
 /// The pairs in the order in which they come, each at the least number of its type.
@@ -34,11 +34,11 @@ fn at_leasts(alloc: Global, typing: &Typing, leasts: &[usize]) -> Result<Vec<(u6
 }
 
 /// The same pairs in order, each once. They are sorted in place, so this takes no memory.
-fn in_order(mut pairs: Vec<(u64, u64)>) -> Pairs
+fn in_order(alloc: Global, mut pairs: Vec<(u64, u64)>) -> Pairs
     ensures same { (pair : ℕ × ℕ) → Contains result pair ↔ Contains pairs.items pair }
     ensures increasing { AreIncreasing result }
 {
     pairs.sort_unstable();
     pairs.dedup();
-    Pairs::of(pairs)
+    Pairs::of(alloc, pairs)
 }

@@ -14,6 +14,7 @@ use Rattle.om_section.specs.Numbers.{IsNumber}
 use Rattle.om_section.specs.Format.{IsStated, AreStated, pair_line, pair_lines, head_line, section_lines, lines_from, text_of, IsCertificate, AreFront, AreWhole, IsSyntaxAt}
 use Rattle.om_section.specs.Reading.{BeginsAt, IsCut, AreNumbers, IsPairLine, IsHead, IsNoHead, HasOneMore, HasNoMore, open_lines, lines_read, IsReading, IsAt, GoesOn, GoesNowhere}
 use Rattle.om_section.specs.Runs.{HasMorePairs, HasReadMore}
+use Rattle.om_section.proofs.SectionLemmas.{increasing_push}
 use Rattle.om_section.proofs.TextLemmas.{pair_is_one, AreAlike, verdicts_are_alike, head_tells_verdict}
 use Rattle.om_section.proofs.LineLemmas.{HasPair, pairs_go_on, pairs_have_end, Begin, begin_with, lines_from-push}
 use Rattle.om_section.proofs.FaultLemmas.{fault_at_line, fault_behind}
@@ -49,6 +50,20 @@ next_is_above pairs pair rest increasing k one at =
 all_at : (pairs : List (ℕ × ℕ)) (pair : ℕ × ℕ) (rest : List (ℕ × ℕ)) → All AreNumbers (pairs ++ (pair ∷ rest)) → AreNumbers pair
 all_at [] pair rest all = All-head AreNumbers pair rest all
 all_at (p ∷ pairs) pair rest all = all_at pairs pair rest (λ k d inside. all (suc k) d (omega (arith, inside)))
+
+-- a pair that is larger than all is one more
+pub has_one_more :
+    (pairs longer : List (ℕ × ℕ)) (pair : ℕ × ℕ) (line : List ℕ) → IsStated (sections.Pairs pairs) → IsAbove pairs pair
+    → IsPairLine line pair → longer ≡ pairs ++ pair ∷ [] → HasOneMore (sections.Pairs pairs) line (sections.Pairs longer)
+has_one_more pairs longer pair line own above is more = record {
+  stated = (
+    subst AreIncreasing (sym more) (increasing_push pairs pair own.0 above),
+    subst (λ (z : List (ℕ × ℕ)). All AreNumbers z) (sym more) (All-push AreNumbers pairs pair own.1 is.0),
+  );
+  spelled = ap (map pair_line) more
+      ∙ (map-append pair_line pairs (pair ∷ []) ∙ ap (λ (l : List ℕ). map pair_line pairs ++ l ∷ []) (sym is.1));
+  same = refl;
+}
 
 pub no_longer :
     (pairs : List (ℕ × ℕ)) (pair : ℕ × ℕ) (line : List ℕ) → IsPairLine line pair → ¬ IsAbove pairs pair → HasNoMore (sections.Pairs pairs) line

@@ -1,7 +1,8 @@
 -- A text that goes to a sink through a buffer.
-use Rattle.std.proofs.Common.{ℕ, suc, ◌≡◌, ◌+◌, ◌<◌, ◌≤◌, ◌∙◌, true, false, List, [], ◌∷◌, ◌++◌, length, take, drop, get_or, Option, Some, None, Result, Ok, Err, sym, ap, subst, arith, append_assoc, append-nil, length-append}
-use Rattle.std.specs.Prelude.{IfSome, IsErr, map, codes}
+use Rattle.std.proofs.Common.{ℕ, suc, ◌≡◌, ◌+◌, ◌≤◌, ◌∙◌, true, false, List, [], ◌∷◌, ◌++◌, length, take, drop, Option, Some, None, Result, Ok, Err, sym, ap, subst, arith, append_assoc, append-nil, length-append}
+use Rattle.std.specs.Prelude.{IfSome, IsErr, map, codes, slice_get}
 use Rattle.std.proofs.lemmas.List.{take-append-le, take-append-drop, take_more, map-append}
+use Rattle.std.proofs.lemmas.Option.{slice_get_within, get_or_from_slice_get}
 use Rattle.std.proofs.lemmas.Result.{MatchResult-from_err}
 use Rattle.std.proofs.lemmas.List.Concat.{flat_map-append}
 use Rattle.om_edge.specs.State.{ByteState, change}
@@ -108,13 +109,17 @@ lines_both one other =
     ap text_of (map-append pair_line one other) ∙ flat_map-append (λ (l : List ℕ). l ++ 10 ∷ []) (map pair_line one) (map pair_line other)
 
 pub lines_more :
-    (text : List ℕ) (pairs : List (ℕ × ℕ)) (i : ℕ) (d : ℕ × ℕ) → i < length pairs
-    → (text ++ lines_of (take i pairs)) ++ (pair_line (get_or pairs i d) ++ 10 ∷ []) ≡ text ++ lines_of (take (i + 1) pairs)
-lines_more text pairs i d inside =
-    append_assoc text (lines_of (take i pairs)) (pair_line (get_or pairs i d) ++ 10 ∷ [])
+    (text : List ℕ) (pairs : List (ℕ × ℕ)) (i : ℕ) (pair : ℕ × ℕ) → slice_get pairs i ≡ Some pair
+    → (text ++ lines_of (take i pairs)) ++ (pair_line pair ++ 10 ∷ []) ≡ text ++ lines_of (take (i + 1) pairs)
+lines_more text pairs i pair at_i =
+    append_assoc text (lines_of (take i pairs)) (pair_line pair ++ 10 ∷ [])
     ∙ ap (λ (t : List ℕ). text ++ t)
-    (ap (λ (t : List ℕ). lines_of (take i pairs) ++ t) (sym (append-nil (pair_line (get_or pairs i d) ++ 10 ∷ [])))
-    ∙ (sym (lines_both (take i pairs) (get_or pairs i d ∷ [])) ∙ ap lines_of (sym (take_more pairs i d inside))))
+    (ap (λ (t : List ℕ). lines_of (take i pairs) ++ t) (sym (append-nil (pair_line pair ++ 10 ∷ [])))
+    ∙ (sym (lines_both (take i pairs) (pair ∷ [])) ∙ ap lines_of (sym more))) where
+      more : take (i + 1) pairs ≡ take i pairs ++ pair ∷ []
+      more =
+          take_more pairs i pair (slice_get_within pairs i pair at_i)
+          ∙ ap (λ (p : ℕ × ℕ). take i pairs ++ p ∷ []) (get_or_from_slice_get pairs i pair pair at_i)
 
 -- a part of the first lines is one of all
 pub part_of_lines : (a b : ByteState) (text : List ℕ) (pairs : List (ℕ × ℕ)) (i : ℕ) → PutsPart (change a b) (text ++ lines_of (take i pairs))

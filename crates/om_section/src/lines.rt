@@ -5,6 +5,7 @@ ghost use Rattle.om_edge.specs.State.{change};
 ghost use Rattle.om_section.specs.Format.{pair_line, text_of};
 ghost use Rattle.om_section.specs.Putting.{PutsFront};
 
+use crate::section::Pairs;
 use itoa::Buffer;
 use om_edge::{Failed, Sink, put_all};
 
@@ -62,11 +63,7 @@ pub fn make_room<K: Sink>(text: &mut Vec<u8>, out: &mut K) -> Result<(), Failed>
 
 /// Puts the text and the lines of pairs behind it, but for the last of them, which the text has
 /// then.
-pub fn put_lines<K: Sink>(
-    text: &mut Vec<u8>,
-    pairs: &[(u64, u64)],
-    out: &mut K,
-) -> Result<(), Failed>
+pub fn put_lines<K: Sink>(text: &mut Vec<u8>, pairs: &Pairs, out: &mut K) -> Result<(), Failed>
     requires { 64 ≤ vec_capacity text.old }
     ensures puts { PutsFront (change (K.state out.old) (K.state out.new))
         (text.old.items ++ text_of (map pair_line pairs.now)) text.new.items result }
@@ -74,7 +71,7 @@ pub fn put_lines<K: Sink>(
 {
     for i in 0..pairs.len() {
         make_room(text, out)?;
-        let (object, ty) = pairs[i];
+        let (object, ty) = pairs.at(i);
         append_pair(text, object, ty);
     }
     Ok(())

@@ -9,21 +9,23 @@ use std::alloc::Global;
 use std::marker::Model;
 
 /// Pairs of objects and types, by their numbers. They increase by the object, then by the type.
+/// Those before the first number that is not below 2^32 take half the room of the others.
 #[derive(Drop)]
 pub struct Pairs {
-    pairs: Vec<(u64, u64)>,
+    small: Vec<(u32, u32)>,
+    large: Vec<(u64, u64)>,
 }
 
 impl Model for Pairs {
-    ghost use Rattle.std.specs.Prelude.{List, ℕ};
+    ghost use Rattle.std.specs.Prelude.{List, ℕ, ◌++◌};
 
     ghost Value = { List (ℕ × ℕ) };
 
-    ghost view = { λ p. p.pairs.items };
+    ghost view = { λ p. p.small.items ++ p.large.items };
 
     ghost use Rattle.om_section.specs.Increasing.{AreIncreasing};
 
-    ghost invariant = { λ p. AreIncreasing p.pairs.items };
+    ghost invariant = { λ p. AreIncreasing (p.small.items ++ p.large.items) };
 }
 
 impl Pairs {
@@ -32,16 +34,20 @@ impl Pairs {
         ensures { result ≡ [] }
     {
         Pairs {
-            pairs: Vec::new(alloc),
+            small: Vec::new(alloc),
+            large: Vec::new(alloc),
         }
     }
 
     /// Pairs that increase.
-    pub fn of(pairs: Vec<(u64, u64)>) -> Pairs
+    pub fn of(alloc: Global, pairs: Vec<(u64, u64)>) -> Pairs
         requires { AreIncreasing pairs.items }
         ensures { result ≡ pairs.items }
     {
-        Pairs { pairs }
+        Pairs {
+            small: Vec::new(alloc),
+            large: pairs,
+        }
     }
 
     /// How many there are. They increase.
@@ -50,7 +56,7 @@ impl Pairs {
         ensures count { result ≡ length self.now }
         ensures increasing { AreIncreasing self.now }
     {
-        self.pairs.len()
+        self.small.len() + self.large.len()
     }
 
     /// Pair number i.
@@ -59,23 +65,24 @@ impl Pairs {
         requires { i < length self.now }
         ensures { slice_get self.now i ≡ Some (result.0, result.1) }
     {
-        self.pairs[i]
+        let many = self.small.len();
+        if i < many {
+            let (object, ty) = self.small[i];
+            return (u64::from(object), u64::from(ty));
+        }
+        self.large[i - many]
     }
 
-    /// The pairs, lent.
-    pub(crate) fn as_slice(&self) -> &[(u64, u64)]
-        ensures same { result.now ≡ self.now }
-        ensures increasing { AreIncreasing result.now }
-    {
-        self.pairs.as_slice()
-    }
-
-    /// Whether a pair is larger than all that are there.
+    /// Whether a pair is larger than all that are there: than the last of them.
     #[inline(always)]
     pub fn is_above(&self, object: u64, ty: u64) -> bool
         ensures { IsTrue result ↔ IsAbove self.now (object, ty) }
     {
-        is_last_below(self.as_slice(), object, ty)
+        let many = self.len();
+        if many == 0 {
+            return true;
+        }
+        is_smaller(self.at(many - 1), object, ty)
     }
 
     /// Puts a pair at the end that is larger than all before it. After `Memory` nothing has
@@ -86,9 +93,35 @@ impl Pairs {
         ensures ok { OnOk result (self.new ≡ self.old ++ (object, ty) ∷ []) }
         ensures err { OnErr result (self.new ≡ self.old) }
     {
-        self.pairs.push((object, ty))?;
+        append(&mut self.small, &mut self.large, object, ty)?;
         Ok(())
     }
+}
+
+/// Puts a pair behind small ones, where it is small and there are no others; else behind the
+/// others.
+#[inline(always)]
+fn append(
+    small: &mut Vec<(u32, u32)>,
+    large: &mut Vec<(u64, u64)>,
+    object: u64,
+    ty: u64,
+) -> Result<(), Memory>
+    ensures ok { OnOk result (small.new.items ++ large.new.items
+        ≡ (small.old.items ++ large.old.items) ++ (object, ty) ∷ []) }
+    ensures err { OnErr result
+        ((small.new.items ≡ small.old.items) × (large.new.items ≡ large.old.items)) }
+{
+    if large.is_empty() && object < 1 << 32 && ty < 1 << 32 {
+        let Ok(()) = small.push((object as u32, ty as u32)) else {
+            return Err(Memory);
+        };
+    } else {
+        let Ok(()) = large.push((object, ty)) else {
+            return Err(Memory);
+        };
+    }
+    Ok(())
 }
 
 /// Whether a pair is smaller than another one.
@@ -101,18 +134,6 @@ fn is_smaller(one: (u64, u64), object: u64, ty: u64) -> bool
     } else {
         one.0 < object
     }
-}
-
-/// Whether pairs that increase are all smaller than this one: the last of them is.
-#[inline(always)]
-fn is_last_below(pairs: &[(u64, u64)], object: u64, ty: u64) -> bool
-    requires { AreIncreasing pairs.now }
-    ensures { IsTrue result ↔ IsAbove pairs.now (object, ty) }
-{
-    if pairs.len() == 0 {
-        return true;
-    }
-    is_smaller(pairs[pairs.len() - 1], object, ty)
 }
 
 /// Pairs that justify one another; or the paths of a fault.

@@ -18,7 +18,7 @@ fn room_of(section: &Section) -> usize
     ensures { result ≤ 65536 }
 {
     match section {
-        Section::Pairs(pairs) => (64 * pairs.as_slice().len().min(1023)) + 64,
+        Section::Pairs(pairs) => (64 * pairs.len().min(1023)) + 64,
         Section::Misfit(_) => 64,
         Section::Clash(_, _) => 64,
     }
@@ -80,7 +80,7 @@ fn put_body<K: Sink>(text: &mut Vec<u8>, section: &Section, out: &mut K) -> Resu
     ensures room { OnOk result (64 ≤ vec_capacity text.new) }
 {
     match section {
-        Section::Pairs(pairs) => put_lines(text, pairs.as_slice(), out),
+        Section::Pairs(pairs) => put_lines(text, pairs, out),
         Section::Misfit(_) => Ok(()),
         Section::Clash(_, _) => Ok(()),
     }

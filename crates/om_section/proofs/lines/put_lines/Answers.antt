@@ -12,12 +12,11 @@ returns-in_err-make_room-clause-puts g c =
 
 pub loop-i-preserved : goal.loop-i-preserved
 loop-i-preserved g c =
-    let inside = c.loop-i-test.true in
     let room = c.in_ok-make_room.ensures.room in
     let kept = c.append_pair.ensures.room in record {
       leaves = subst
           (λ (t : List ℕ). Leaves (change (g.K.Sink.state c.args.out.now) (g.K.Sink.state c.make_room.new.out)) t c.append_pair.new.text.items)
-          (lines_more c.args.text.now.items c.args.pairs.now c.loop-i.i (0, 0) (omega (arith, inside)))
+          (lines_more c.args.text.now.items c.args.pairs.now c.loop-i.i (c.at-object.result.0, c.at-object.result.1) c.at-object.ensures)
           (leaves_more _ _ _ _ _ _ (leaves_then _ _ _ _ _ c.loop-i.invariant.leaves _ c.in_ok-make_room.ensures.puts) c.append_pair.ensures.text);
       room = omega (arith, room, kept);
     }
