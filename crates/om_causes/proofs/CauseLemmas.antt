@@ -18,6 +18,7 @@ use Rattle.om_promises.specs.Outside.{IsHonest, IsUnsaid, IsOutside}
 use Rattle.om_promises.specs.Promises.{told_files, HoldEnd, HasOutcome, Headline, StopsBefore, Means, IfStop, IfEnd, IfUsage}
 use Rattle.om_promises.proofs.FileLemmas.{all_of}
 use Rattle.om_promises.proofs.OnceLemmas.{prepares_once}
+use Rattle.om_promises.proofs.OutcomeLemmas.{is_memory}
 use Rattle.om_promises.proofs.SettledLemmas.{Goes, IsStatus, settled, stop_status}
 use Rattle.om_promises.proofs.ToldLemmas.{lawful_at, either, stop_comes, end_comes}
 use Rattle.om_causes.specs.Causes.{Tables, AreExact, Show, IsBarred, IsCaused, OnlyCaused, IfBadWords, IfBarred, IsToBeDone, IfShown, IsDue, HasWhatIsDue}
@@ -30,21 +31,6 @@ read_whole :
 read_whole None text h = absurd h
 read_whole (Some bytes) text (rest, takes) =
     ap (λ b. Some b) (all_of bytes (whole text) rest takes refl)
-
-is_memory : (s : Status) → (s ≡ statuses.Memory) ⊎ (s ≢ statuses.Memory)
-is_memory statuses.Memory = inl refl
-is_memory statuses.Well = inr (λ e. cc e)
-is_memory statuses.No = inr (λ e. cc e)
-is_memory statuses.Usage = inr (λ e. cc e)
-is_memory statuses.Types = inr (λ e. cc e)
-is_memory statuses.Value = inr (λ e. cc e)
-is_memory statuses.Script = inr (λ e. cc e)
-is_memory statuses.ReadFault = inr (λ e. cc e)
-is_memory statuses.WriteFault = inr (λ e. cc e)
-is_memory statuses.OpenFault = inr (λ e. cc e)
-is_memory statuses.TooLong = inr (λ e. cc e)
-is_memory statuses.Compat = inr (λ e. cc e)
-is_memory statuses.Certificate = inr (λ e. cc e)
 
 module _ {A : Type 0} (c : Commands A) (tables : Tables A) (exact : AreExact c tables)
     (words : List (List ℕ)) (call : Call) where

@@ -1,5 +1,5 @@
 -- What is said of a value, where the run stops and how the input ends are one, and stay.
-use Rattle.std.proofs.Common.{◌≡◌, ◌<◌, ℕ, List, [], ◌∷◌, ◌++◌, length, sym, ap, ◌∙◌, subst}
+use Rattle.std.proofs.Common.{◌≡◌, ℕ, List, ◌++◌, length, sym, ap, ◌∙◌, subst}
 use Rattle.om_model.specs.Bytes.{AreBytes}
 use Rattle.om_model.specs.declared.refusal.ReadRefusal.{ReadRefusal}
 use Rattle.om_format.specs.Stream.{End, clean, refused, cut, IsTail}
@@ -8,12 +8,10 @@ use Rattle.om_outcome.specs.Outcome.{stops, Language}
 use Rattle.om_outcome.specs.RefusalText.{refusal_text, truncated_text}
 use Rattle.om_outcome.specs.declared.stop.Stop.{Stop}
 use Rattle.om_outcome.specs.declared.stop.Stop.TheVariants.{Value as value}
-use Rattle.om_promises.specs.Commands.{Item, value as value_item, GoesOn}
+use Rattle.om_promises.specs.Commands.{Item, GoesOn}
 use Rattle.om_promises.specs.Lawful.{IsOnce, IsInner, AreLawfulAt}
-use Rattle.om_promises.proofs.LengthLemmas.{spelled_some}
-use Rattle.om_promises.proofs.ValueLemmas.{spell_after}
 use Rattle.om_commands.specs.Tasks.{IsFirstValue}
-use Rattle.om_commands.proofs.ItemLemmas.{tree_once, value_once, end_once, no_tail}
+use Rattle.om_commands.proofs.ItemLemmas.{tree_once, end_once, no_tail, first_once, first_front, first_stays}
 use Rattle.om_commands.proofs.StayLemmas.{tail_after}
 use Rattle.om_certification.specs.Certification.{Certification, SaysSections, SaysOf, StopsHere, EndsBy, EndsHere, certifying}
 
@@ -66,11 +64,7 @@ module _ {T : Type 0} (SectionOf : SaysSections T) (a : Certification T) where
         (bytes : List ℕ) (item : Item) (more later : List ℕ)
         → IsFirstValue language a.limit bytes item more
         → IsFirstValue language a.limit (bytes ++ later) item (more ++ later)
-    item_stays bytes item more later h = record {
-      tree = h.tree;
-      is = h.is;
-      spelled = spell_after a.limit bytes more later (h.tree ∷ []) h.spelled;
-    }
+    item_stays bytes item more later h = first_stays language a.limit bytes item more later h
 
     module _ (items : List Item) (rest : List ℕ) (are_bytes : AreBytes rest) (end : End)
         (tail : IsTail a.limit rest end)
@@ -91,31 +85,14 @@ module _ {T : Type 0} (SectionOf : SaysSections T) (a : Certification T) where
         once (length items) k.tree said other
         (subst (λ t. SectionOf a.type (length items) t said) same h.section) k.section
 
-    item_once :
-        (bytes : List ℕ) → AreBytes bytes → (item other : Item) (more rest : List ℕ)
-        → IsFirstValue language a.limit bytes item more
-        → IsFirstValue language a.limit bytes other rest
-        → (item ≡ other) × (more ≡ rest)
-    item_once bytes are_bytes item other more rest h k =
-        let one = value_once a.limit bytes are_bytes h.tree k.tree more rest h.spelled k.spelled in
-        (h.is ∙ (ap value_item one.0 ∙ sym k.is), one.1)
-
-    item_front :
-        (bytes : List ℕ) (item : Item) (more : List ℕ)
-        → IsFirstValue language a.limit bytes item more
-        → (first : List ℕ) × (bytes ≡ first ++ more) × (0 < length first)
-    item_front bytes item more h =
-        let s = h.spelled in
-        (s.0, s.2 ∙ ap (λ m. s.0 ++ m) s.4, spelled_some a.limit s.0 h.tree s.3)
-
     pub lawful_at : AreLawfulAt (certifying language SectionOf) a
     lawful_at = record {
-      first_once = λ items. item_once;
+      first_once = λ items. first_once language a.limit;
       says_once = said_once;
       stops_once = stop_once;
       ends_once = end_reply_once;
-      front = λ items. item_front;
-      item_stays = λ items. item_stays language;
+      front = λ items. first_front language a.limit;
+      item_stays = λ items. first_stays language a.limit;
       stop_stays = stop_stays;
       stops_inside = stop_inner;
       ends_inside = λ items bytes stop h. end_inner (length items) h.0 stop h.2;

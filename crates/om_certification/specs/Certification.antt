@@ -5,7 +5,8 @@ use Rattle.om_model.specs.declared.refusal.ReadRefusal.{ReadRefusal}
 use Rattle.om_format.specs.Stream.{End, clean, refused, cut, IsTail}
 use Rattle.om_format.specs.Tree.{Tree}
 use Rattle.om_outcome.specs.CommandLine.{certify}
-use Rattle.om_outcome.specs.Outcome.{Request, AskedType, asked_type, own, Said, nothing_said, Reply, says, stops, Language, Then, ReadsTypeOf}
+use Rattle.om_outcome.specs.Outcome.{Request, AskedType, asked_type, own, Said, nothing_said, Reply}
+use Rattle.om_outcome.specs.Outcome.{says, stops, Language, Then, ReadsTypeOf}
 use Rattle.om_outcome.specs.RefusalText.{refusal_text, truncated_text}
 use Rattle.om_outcome.specs.declared.stop.Stop.{Stop}
 use Rattle.om_outcome.specs.declared.stop.Stop.TheVariants.{Value as value}

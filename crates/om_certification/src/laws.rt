@@ -1,8 +1,12 @@
 //! The laws. Each function does nothing: what it ensures is the law.
 
 ghost use Rattle.om_outcome.specs.Outcome.{Language};
-ghost use Rattle.om_promises.specs.CommandLaws.{HaveOneOutcome, HaveOneStop, StopsStay, StopsAreLast, ArePromised, Follow};
-ghost use Rattle.om_promises.specs.Causes.{AreAsTold, AreMeant, IfWords, IfFiles, OnlyOpenFault, IfMissing, OnlyTooLong, IfFileTooLong, IfInputTooLong, IfInputFails, IfMemory, IfWriteFault, IsDecided, IsExact, IsComplete};
+ghost use Rattle.om_promises.specs.CommandLaws.{HaveOneOutcome, HaveOneStop, StopsStay};
+ghost use Rattle.om_promises.specs.CommandLaws.{StopsAreLast, ArePromised, Follow};
+ghost use Rattle.om_promises.specs.Causes.{AreAsTold, AreMeant, IfWords, IfFiles, OnlyOpenFault};
+ghost use Rattle.om_promises.specs.Causes.{IfMissing, OnlyTooLong, IfFileTooLong, IfInputTooLong};
+ghost use Rattle.om_promises.specs.Causes.{IfInputFails, IfMemory, IfWriteFault, IsDecided};
+ghost use Rattle.om_promises.specs.Causes.{IsExact, IsComplete};
 ghost use Rattle.om_promises.specs.Lawful.{AreLawful, AreInTurns};
 ghost use Rattle.om_promises.specs.LawfulLanguage.{IsLawful};
 ghost use Rattle.om_promises.specs.Outside.{OnlyReadFault, OnlyWriteFault};
@@ -10,7 +14,8 @@ ghost use Rattle.om_promises.specs.Promises.{IfStop, IfEnd, IfUsage};
 ghost use Rattle.om_causes.specs.Causes.{AreExact, Causes};
 ghost use Rattle.om_certification.specs.Laws.{IsIdleElsewhere};
 ghost use Rattle.om_certification.specs.Meanings.{certifying_tables, IsNeverRejected};
-ghost use Rattle.om_certification.specs.Certification.{Certification, SaysSections, certifying, AreCertifiedOnce};
+ghost use Rattle.om_certification.specs.Certification.{Certification, SaysSections, certifying};
+ghost use Rattle.om_certification.specs.Certification.{AreCertifiedOnce};
 
 use om_causes::laws::{Meant, causes_of_tables};
 use om_promises::laws::{Act, files_in_turns, lawful_commands, promised, promises_of_commands};

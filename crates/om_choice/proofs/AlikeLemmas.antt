@@ -172,14 +172,18 @@ module _ {A B : Type 0} (c : Commands A) (d : Commands B) where
 
   -- ---- the words and the files
 
-  module _ (words : List (List ℕ)) (alike : AreAlike c d (Asks words)) where
+  -- the same files are wanted
+  module _ (words : List (List ℕ))
+      (wants : (request : Request) → Asks words request
+      → (files : Fetches) (turn : ℕ) (name : List ℕ)
+      → c.Wants request files turn name ↔ d.Wants request files turn name) where
     wanted_too : (found : Fetches) (turn : ℕ) (name : List ℕ) → IsWanted c words found turn name
         → IsWanted d words found turn name
     wanted_too found turn name w =
         record {
           request = w.request;
           asks = w.asks;
-          wants = (alike.wants w.request w.asks found turn name).0 w.wants;
+          wants = (wants w.request w.asks found turn name).0 w.wants;
         }
 
     wanted_back : (found : Fetches) (turn : ℕ) (name : List ℕ) → IsWanted d words found turn name
@@ -188,30 +192,8 @@ module _ {A B : Type 0} (c : Commands A) (d : Commands B) where
         record {
           request = w.request;
           asks = w.asks;
-          wants = (alike.wants w.request w.asks found turn name).1 w.wants;
+          wants = (wants w.request w.asks found turn name).1 w.wants;
         }
-
-    -- the other does alike what is to be done
-    abbrev Alike : Fetches → A → Type 0
-    Alike files a = (b : B) × IsAlike c d a b × Prepares d words files (Ok b)
-
-    prepares_too : (files : Fetches) (a : A) → Prepares c words files (Ok a) → Alike files a
-    prepares_too files a (Err s, h, is) = absurd (cc is)
-    prepares_too files a (Ok request, asks, h) =
-        let f = alike.finds request asks files a h in (f.0, f.1, (Ok request, asks, f.2))
-
-    prepares_back : (files : Fetches) (b : B) → Prepares d words files (Ok b)
-        → (a : A) × IsAlike c d a b × Prepares c words files (Ok a)
-    prepares_back files b (Err s, h, is) = absurd (cc is)
-    prepares_back files b (Ok request, asks, h) =
-        let f = alike.finds_back request asks files b h in (f.0, f.1, (Ok request, asks, f.2))
-
-    prepares_stop : (files : Fetches) (s : Stop) → Prepares c words files (Err s)
-        → Prepares d words files (Err s)
-    prepares_stop files s (Err t, h, is) =
-        (Err t, h, let same : s ≡ t = cc is in ap (λ s. Err s) same)
-    prepares_stop files s (Ok request, asks, h) =
-        (Ok request, asks, (alike.stops request asks files s).0 h)
 
     in_too : (files : Change FilesState) (found : Fetches) (turn : ℕ)
         → FetchesIn c words files found turn → FetchesIn d words files found turn
@@ -220,9 +202,9 @@ module _ {A B : Type 0} (c : Commands A) (d : Commands B) where
     in_too files found turn (inr (same, none)) =
         inr (same, λ name w. none name (wanted_back found turn name w))
 
-    pub fetches_too : (files : Change FilesState) (found : Fetches) → FetchesFor c words files found
-        → FetchesFor d words files found
-    fetches_too files found h = record {
+    pub wanted_fetches : (files : Change FilesState) (found : Fetches)
+        → FetchesFor c words files found → FetchesFor d words files found
+    wanted_fetches files found h = record {
       turns = h.turns;
       state = h.state;
       begins = h.begins;
@@ -233,13 +215,30 @@ module _ {A B : Type 0} (c : Commands A) (d : Commands B) where
       all = λ turn name w. h.all turn name (wanted_back found turn name w);
     }
 
+  module _ (words : List (List ℕ)) (alike : AreAlike c d (Asks words)) where
+    -- the other does alike what is to be done
+    abbrev Alike : Fetches → A → Type 0
+    Alike files a = (b : B) × IsAlike c d a b × Prepares d words files (Ok b)
+
+    prepares_too : (files : Fetches) (a : A) → Prepares c words files (Ok a) → Alike files a
+    prepares_too files a (Err s, h, is) = absurd (cc is)
+    prepares_too files a (Ok request, asks, h) =
+        let f = alike.finds request asks files a h in (f.0, f.1, (Ok request, asks, f.2))
+
+    prepares_stop : (files : Fetches) (s : Stop) → Prepares c words files (Err s)
+        → Prepares d words files (Err s)
+    prepares_stop files s (Err t, h, is) =
+        (Err t, h, let same : s ≡ t = cc is in ap (λ s. Err s) same)
+    prepares_stop files s (Ok request, asks, h) =
+        (Ok request, asks, (alike.stops request asks files s).0 h)
+
     -- ---- the call
 
     module _ (call : Call) where
       may_be_too : (given : Given) → MayBe c words call given → MayBe d words call given
       may_be_too given h = record {
         input = h.input;
-        files = fetches_too call.files given.files h.files;
+        files = wanted_fetches words alike.wants call.files given.files h.files;
         untaken =
             λ none. h.untaken (λ a prepared reads.
             let p = prepares_too given.files a prepared in none p.0 p.2 (p.1.reads.0 reads));

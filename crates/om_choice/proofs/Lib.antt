@@ -1,3 +1,4 @@
 pub mod ChoiceLemmas
 pub mod AlikeLemmas
 pub mod PartLemmas
+pub mod BesideLemmas

@@ -2,7 +2,8 @@
 
 ghost use Rattle.std.specs.Prelude.{◌⊎◌};
 ghost use Rattle.om_promises.specs.Lawful.{AreLawful, AreInTurns};
-ghost use Rattle.om_choice.specs.Choice.{choice, AreApart, AreIdleTogether, HaveAccountsOfFirst, PromiseAsFirst, HaveAccountsOfSecond, PromiseAsSecond};
+ghost use Rattle.om_choice.specs.Choice.{choice, AreApart, AreIdleTogether, HaveAccountsOfFirst};
+ghost use Rattle.om_choice.specs.Choice.{PromiseAsFirst, HaveAccountsOfSecond, PromiseAsSecond};
 
 use om_promises::laws::Act;
 use std::marker::PhantomData;

@@ -6,12 +6,19 @@ use Rattle.om_outcome.specs.Outcome.{Found, opened, whole, Request, AskedType, a
 use Rattle.om_outcome.specs.declared.stop.Stop.{Stop}
 use Rattle.om_outcome.specs.declared.stop.Stop.TheVariants.{Declarations as declarations, RequestedType as requested_type, Script as script_line}
 use Rattle.om_promises.specs.Commands.{Fetches}
-use Rattle.om_promises.specs.Lawful.{IsOnce, IsInner, FailsAtFile}
+use Rattle.om_promises.specs.Lawful.{IsOnce, IsInner, IsWhole, FailsAtFile}
 use Rattle.om_promises.specs.LawfulLanguage.{IsLawful}
 use Rattle.om_promises.proofs.ExampleLemmas.{reads_once}
 use Rattle.om_promises.proofs.OnceLemmas.{Then_once}
 use Rattle.om_commands.specs.Tasks.{by_turns, WantsFile, WantsScript, Wants, Finds, commands}
 use Rattle.om_commands.proofs.GivenLemmas.{IsGivenWork, work_given}
+
+-- a file that is read is whole
+pub whole_or :
+    {S : Type 0} (found : Found) → ((bytes : List ℕ) × (found ≡ opened (whole bytes))) ⊎ S
+    → IsWhole found ⊎ S
+whole_or found (inl read) = inl (inl read)
+whole_or found (inr stops) = inr stops
 
 -- what is read of a text, or the stop that tells its refusal, is one
 pub refusal_once :

@@ -4,14 +4,15 @@ use Rattle.om_model.specs.Bytes.{AreBytes}
 use Rattle.om_model.specs.declared.refusal.ReadRefusal.{ReadRefusal}
 use Rattle.om_format.proofs.JudgementLaws.{one_judgement_lem}
 use Rattle.om_format.specs.Front.{IsFront}
-use Rattle.om_format.specs.Stream.{SpellAll, End, clean, refused, cut, IsTail}
+use Rattle.om_format.specs.Stream.{End, clean, refused, cut, IsTail}
 use Rattle.om_format.specs.Tree.{Tree}
 use Rattle.om_outcome.specs.Outcome as outcome
 use Rattle.om_outcome.specs.Outcome.{Said, Language, Task, SayFirst, StopsAt}
 use Rattle.om_outcome.specs.declared.stop.Stop.{Stop}
-use Rattle.om_promises.specs.Commands.{Item, value, Cut, AllSay, SaysFirst, GoesOn}
+use Rattle.om_promises.specs.Commands.{Item, value, AllSay, SaysFirst, GoesOn}
 use Rattle.om_promises.proofs.StreamLemmas.{value_or_tail, streams_once}
 use Rattle.om_commands.specs.Tasks.{items_of, IsRefused, StopsHere, commands}
+use Rattle.om_commands.proofs.FrontLemmas.{cut_of}
 use Rattle.om_commands.proofs.ItemLemmas.{items_once, items_more}
 
 -- a front is nothing, or a value that is cut
@@ -23,18 +24,6 @@ front_end limit (b ∷ rest) front =
 
 module _ {D T E : Type 0} (language : Language D T E) where
   module _ (a : Task T E) where
-    -- values at the front are items at the front
-    cut_of :
-        (before : List Item) (bytes : List ℕ) (trees : List Tree) (rest : List ℕ)
-        → SpellAll a.limit bytes trees rest
-        → Cut (commands language) a before bytes (items_of trees) rest
-    cut_of before bytes [] rest same = same
-    cut_of before bytes (tree ∷ trees) rest (first, more, same, spelled, all) = (
-      more,
-      record { tree = tree; is = refl; spelled = (first, more, same, spelled, refl) },
-      cut_of (before ++ value tree ∷ []) more trees rest all,
-    )
-
     say_of :
         (before : List Item) (earlier : List Tree) → before ≡ items_of earlier
         → (trees : List Tree) (said : List Said)
@@ -55,7 +44,8 @@ module _ {D T E : Type 0} (language : Language D T E) where
         → SayFirst language a bytes trees said rest
         → SaysFirst (commands language) a bytes (items_of trees) said rest
     says_first bytes trees said rest h = record {
-      cut = cut_of [] bytes trees rest h.spelled;
+      cut = cut_of language a.limit (commands language) a (λ items bytes item more. (λ h. h, λ h. h))
+          [] bytes trees rest h.spelled;
       all_say = say_of [] [] refl trees said h.all_say;
     }
 

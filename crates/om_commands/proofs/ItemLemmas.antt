@@ -6,7 +6,7 @@ use Rattle.om_format.proofs.JudgementLaws.{one_judgement_lem}
 use Rattle.om_format.specs.Stream.{SpellAll, End, clean, refused, cut, IsTail}
 use Rattle.om_format.specs.Tree.{Tree}
 use Rattle.om_outcome.specs.Outcome as outcome
-use Rattle.om_outcome.specs.Outcome.{Unedited, untyped, refused_line, too_large, unedited_stop, Said, says, Reply, stops, Language, Work, tells, edits, dumps, compares, Task, task, line_past, ends_script, comparison, AreSame, IsUnedited, Finishes}
+use Rattle.om_outcome.specs.Outcome.{Unedited, untyped, refused_line, too_large, unedited_stop, Said, says, stops, Language, Work, tells, edits, dumps, compares, Task, task, line_past, ends_script, comparison, Finishes}
 use Rattle.om_outcome.specs.RefusalText.{refusal_text, truncated_text}
 use Rattle.om_outcome.specs.declared.stop.Stop.{Stop}
 use Rattle.om_outcome.specs.declared.stop.Stop.TheVariants.{NotTwoValues as not_two_values, Value as value, Script as script_line}
@@ -71,17 +71,43 @@ module _ (limit : ℕ) (bytes : List ℕ) (are_bytes : AreBytes bytes) where
   no_tail t more end (first, after, same, spelled, rest) tail =
       value_or_tail one_judgement_lem limit first after bytes t end are_bytes spelled same tail
 
--- an item stays one when bytes follow
+-- ---- the next value, as an item
+
+module _ {D T E : Type 0} (language : Language D T E) (limit : ℕ) where
+  -- it is one, and so is the rest
+  pub first_once :
+      (bytes : List ℕ) → AreBytes bytes → (item other : Item) (more rest : List ℕ)
+      → IsFirstValue language limit bytes item more → IsFirstValue language limit bytes other rest
+      → (item ≡ other) × (more ≡ rest)
+  first_once bytes are_bytes item other more rest h k =
+      let one = value_once limit bytes are_bytes h.tree k.tree more rest h.spelled k.spelled in
+      (h.is ∙ (ap value_item one.0 ∙ sym k.is), one.1)
+
+  -- it has bytes
+  pub first_front :
+      (bytes : List ℕ) (item : Item) (more : List ℕ) → IsFirstValue language limit bytes item more
+      → (first : List ℕ) × (bytes ≡ first ++ more) × (0 < length first)
+  first_front bytes item more h =
+      let s = h.spelled in
+      (s.0, s.2 ∙ ap (λ more. s.0 ++ more) s.4, spelled_some limit s.0 h.tree s.3)
+
+  -- it stays one when bytes follow
+  pub first_stays :
+      (bytes : List ℕ) (item : Item) (more later : List ℕ)
+      → IsFirstValue language limit bytes item more
+      → IsFirstValue language limit (bytes ++ later) item (more ++ later)
+  first_stays bytes item more later h = record {
+    tree = h.tree;
+    is = h.is;
+    spelled = spell_after limit bytes more later (h.tree ∷ []) h.spelled;
+  }
+
 pub item_stays :
     {D T E : Type 0} (language : Language D T E) (a : Task T E)
     (bytes : List ℕ) (item : Item) (more later : List ℕ)
     → IsFirstValue language a.limit bytes item more
     → IsFirstValue language a.limit (bytes ++ later) item (more ++ later)
-item_stays language a bytes item more later h = record {
-  tree = h.tree;
-  is = h.is;
-  spelled = spell_after a.limit bytes more later (h.tree ∷ []) h.spelled;
-}
+item_stays language a = first_stays language a.limit
 
 -- ---- what is said
 
@@ -244,14 +270,6 @@ module _ {D T E : Type 0} (language : Language D T E) (lawful : IsLawful languag
   -- ---- the laws of a task
 
   module _ (a : Task T E) (given : IsGivenWork language a.work) where
-    item_once :
-        (bytes : List ℕ) → AreBytes bytes → (item other : Item) (more rest : List ℕ)
-        → IsFirstValue language a.limit bytes item more → IsFirstValue language a.limit bytes other rest
-        → (item ≡ other) × (more ≡ rest)
-    item_once bytes are_bytes item other more rest h k =
-        let one = value_once a.limit bytes are_bytes h.tree k.tree more rest h.spelled k.spelled in
-        (h.is ∙ (ap value_item one.0 ∙ sym k.is), one.1)
-
     said_once : (items : List Item) (item : Item) → IsOnce (SaysOf language a.work items item)
     said_once items item said other h k =
         let same = tree_once item h.tree k.tree h.is k.is in
@@ -279,13 +297,6 @@ module _ {D T E : Type 0} (language : Language D T E) (lawful : IsLawful languag
         (subst (λ e. EndsBy language a.work k.trees e last) end
         (subst (λ trees. EndsBy language a.work trees h.end last) same h.ends))
         k.ends
-
-    item_front :
-        (bytes : List ℕ) (item : Item) (more : List ℕ) → IsFirstValue language a.limit bytes item more
-        → (first : List ℕ) × (bytes ≡ first ++ more) × (0 < length first)
-    item_front bytes item more h =
-        let s = h.spelled in
-        (s.0, s.2 ∙ ap (λ more. s.0 ++ more) s.4, spelled_some a.limit s.0 h.tree s.3)
 
     why_stays :
         (trees : List Tree) (bytes later : List ℕ) (stop : Stop)
@@ -331,12 +342,12 @@ module _ {D T E : Type 0} (language : Language D T E) (lawful : IsLawful languag
 
     pub lawful_at : AreLawfulAt (commands language) a
     lawful_at = record {
-      first_once = λ items. item_once;
+      first_once = λ items. first_once language a.limit;
       says_once = said_once;
       stops_once = stop_once;
       ends_once = end_reply_once;
-      front = λ items. item_front;
-      item_stays = λ items. item_stays language a;
+      front = λ items. first_front language a.limit;
+      item_stays = λ items. first_stays language a.limit;
       stop_stays = stop_stays;
       stops_inside = λ items bytes stop h. why_inner h.trees bytes stop h.why;
       ends_inside = λ items bytes stop h. ends_inner a.work h.trees h.end stop h.ends;

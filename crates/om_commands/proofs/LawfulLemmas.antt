@@ -1,18 +1,10 @@
 -- The commands on values are lawful, where the language is.
-use Rattle.std.proofs.Common.{◌≡◌, ◌⊎◌, ℕ, List, inl, inr}
-use Rattle.om_outcome.specs.Outcome.{Found, opened, whole, Language}
-use Rattle.om_promises.specs.Lawful.{IsWhole, AreLawful}
+use Rattle.om_outcome.specs.Outcome.{Language}
+use Rattle.om_promises.specs.Lawful.{AreLawful}
 use Rattle.om_promises.specs.LawfulLanguage.{IsLawful}
 use Rattle.om_commands.specs.Tasks.{commands}
-use Rattle.om_commands.proofs.FindLemmas.{finds_once, finds_given, finds_by, wanted_read, finds_inside, wants_once}
+use Rattle.om_commands.proofs.FindLemmas.{whole_or, finds_once, finds_given, finds_by, wanted_read, finds_inside, wants_once}
 use Rattle.om_commands.proofs.ItemLemmas.{lawful_at}
-
--- a file that is read is whole
-whole_or :
-    {S : Type 0} (found : Found) → ((bytes : List ℕ) × (found ≡ opened (whole bytes))) ⊎ S
-    → IsWhole found ⊎ S
-whole_or found (inl read) = inl (inl read)
-whole_or found (inr stops) = inr stops
 
 pub commands_lawful :
     {D T E : Type 0} (language : Language D T E) → IsLawful language

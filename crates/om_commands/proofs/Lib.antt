@@ -3,6 +3,7 @@ pub mod StayLemmas
 pub mod FindLemmas
 pub mod ItemLemmas
 pub mod FetchLemmas
+pub mod FrontLemmas
 pub mod FirstLemmas
 pub mod LawfulLemmas
 pub mod TurnLemmas

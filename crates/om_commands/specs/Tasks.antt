@@ -4,7 +4,9 @@ use Rattle.om_model.specs.declared.refusal.ReadRefusal.{ReadRefusal}
 use Rattle.om_format.specs.Stream.{SpellAll, End, clean, refused, cut, IsTail}
 use Rattle.om_format.specs.Tree.{Tree}
 use Rattle.om_outcome.specs.Outcome as outcome
-use Rattle.om_outcome.specs.Outcome.{Request, AskedType, typed_by, path_of, script_of, limit_of, Said, Reply, stops, Language, Work, tells, edits, dumps, compares, Task, task, Then, ReadsTypeOf, FindsWork}
+use Rattle.om_outcome.specs.Outcome.{Request, AskedType, typed_by, path_of, script_of, limit_of}
+use Rattle.om_outcome.specs.Outcome.{Said, Reply, stops, Language, Work, tells, edits, dumps}
+use Rattle.om_outcome.specs.Outcome.{compares, Task, task, Then, ReadsTypeOf, FindsWork}
 use Rattle.om_outcome.specs.RefusalText.{refusal_text, truncated_text}
 use Rattle.om_outcome.specs.declared.stop.Stop.{Stop}
 use Rattle.om_outcome.specs.declared.stop.Stop.TheVariants.{Value as value}

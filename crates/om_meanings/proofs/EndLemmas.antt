@@ -10,10 +10,10 @@ use Rattle.om_outcome.specs.Outcome.{ending_of, Said, Reply, stops, Replies, rep
 use Rattle.om_outcome.specs.RefusalText.{truncated_text}
 use Rattle.om_outcome.specs.declared.stop.Stop.{Stop}
 use Rattle.om_outcome.specs.declared.stop.Stop.TheVariants.{NotTwoValues as not_two_values, Value as value}
-use Rattle.om_promises.specs.Commands.{GoesOn}
 use Rattle.om_promises.specs.Promises.{HoldEnd}
-use Rattle.om_promises.proofs.StreamLemmas.{value_or_tail, streams_once, spell_bytes}
-use Rattle.om_commands.specs.Tasks.{items_of, MayCome, IsRefused, StopsHere, EndsBy, commands}
+use Rattle.om_promises.proofs.StreamLemmas.{value_or_tail, spell_bytes}
+use Rattle.om_commands.specs.Tasks.{items_of, MayCome, EndsBy, commands}
+use Rattle.om_commands.proofs.FirstLemmas.{goes_on}
 use Rattle.om_commands.proofs.ItemLemmas.{items_once}
 use Rattle.om_causes.specs.Causes.{HaveEnds}
 use Rattle.om_meanings.specs.Tables.{values_tables}
@@ -109,25 +109,6 @@ module _ {D T E : Type 0} (language : Language D T E) where
       (end : End) (tail : IsTail a.limit rest end)
       (fine : (refusal : ReadRefusal) → end ≡ refused refusal → ⊥)
       (may : (rest ≡ []) ⊎ MayCome language a.work (length trees)) where
-    goes_on : GoesOn (commands language) a (items_of trees) rest
-    goes_on = record {
-      no_stop = λ stop h. no_stop stop h h.why;
-      no_item = λ item more h.
-          let s = h.spelled in
-          value_or_tail one_judgement_lem a.limit s.0 s.1 rest h.tree end are_bytes s.3 s.2 tail;
-    } where
-      no_stop : (stop : Stop) (h : StopsHere language a (items_of trees) rest stop)
-          → StopsAt language a.work a.limit h.trees rest stop
-          ⊎ IsRefused language a (length h.trees) rest stop → ⊥
-      no_stop stop h (inl at) =
-          never_stops a.work a.limit trees rest end are_bytes tail may stop
-          (subst (λ t. StopsAt language a.work a.limit t rest stop)
-          (sym (items_once trees h.trees h.are)) at)
-      no_stop stop h (inr r) =
-          let once = streams_once one_judgement_lem a.limit rest [] [] end (refused r.refusal) are_bytes
-          (rest, refl, tail) (rest, refl, r.tail) in
-          fine r.refusal once.1
-
     ended :
         (bytes : List ℕ) (said : List Said) (last : Reply) → SpellAll a.limit bytes trees rest
         → AreSaid language a.work [] trees said → EndsBy language a.work trees end last
@@ -136,7 +117,8 @@ module _ {D T E : Type 0} (language : Language D T E) where
       items = items_of trees;
       rest = rest;
       first = says_first language a bytes trees said rest spelled told;
-      goes_on = goes_on;
+      goes_on = goes_on language a trees rest are_bytes end tail fine
+          (never_stops a.work a.limit trees rest end are_bytes tail may);
       ends = record { trees = trees; are = refl; end = end; tail = tail; ends = ends };
     }
 

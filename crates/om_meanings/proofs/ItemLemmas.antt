@@ -1,10 +1,12 @@
 -- Values at the front of bytes, and what is said of them, are items and what is said of those.
 use Rattle.std.proofs.Common.{◌≡◌, ℕ, suc, ◌+◌, List, [], ◌∷◌, ◌++◌, length, refl, sym, ap, ◌∙◌, subst, length-append, arith}
+use Rattle.std.specs.Prelude.{◌↔◌}
 use Rattle.om_format.specs.Stream.{SpellAll}
 use Rattle.om_format.specs.Tree.{Tree}
 use Rattle.om_outcome.specs.Outcome.{Said, Says, Language, Work, Task}
-use Rattle.om_promises.specs.Commands.{Item, value, Cut, AllSay, SaysFirst}
-use Rattle.om_commands.specs.Tasks.{items_of, commands}
+use Rattle.om_promises.specs.Commands.{Item, value, AllSay, SaysFirst}
+use Rattle.om_commands.specs.Tasks.{items_of, IsFirstValue, commands}
+use Rattle.om_commands.proofs.FrontLemmas.{cut_of, spelled_of}
 use Rattle.om_commands.proofs.ItemLemmas.{items_once, items_more}
 
 -- one item more
@@ -31,29 +33,11 @@ module _ {D T E : Type 0} (language : Language D T E) where
       Says language work earlier tree said × AreSaid work (earlier ++ tree ∷ []) trees more
 
   module _ (a : Task T E) where
-    cut_of :
-        (before : List Item) (bytes : List ℕ) (trees : List Tree) (rest : List ℕ)
-        → SpellAll a.limit bytes trees rest
-        → Cut (commands language) a before bytes (items_of trees) rest
-    cut_of before bytes [] rest same = same
-    cut_of before bytes (tree ∷ trees) rest (first, more, same, spelled, all) = (
-      more,
-      record { tree = tree; is = refl; spelled = (first, more, same, spelled, refl) },
-      cut_of (before ++ value tree ∷ []) more trees rest all,
-    )
-
-    spelled_of :
-        (before : List Item) (bytes : List ℕ) (items : List Item) (rest : List ℕ)
-        → Cut (commands language) a before bytes items rest
-        → (trees : List Tree) × (items ≡ items_of trees) × SpellAll a.limit bytes trees rest
-    spelled_of before bytes [] rest same = ([], refl, same)
-    spelled_of before bytes (item ∷ items) rest (more, is, cut) =
-        let next = spelled_of (before ++ item ∷ []) more items rest cut in
-        let s = is.spelled in (
-          is.tree ∷ next.0,
-          ap (λ items. item ∷ items) next.1 ∙ ap (λ item. item ∷ items_of next.0) is.is,
-          (s.0, s.1, s.2, s.3, subst (λ m. SpellAll a.limit m next.0 rest) (sym s.4) next.2),
-        )
+    -- the next item is a value
+    first : (items : List Item) (bytes : List ℕ) (item : Item) (more : List ℕ)
+        → (commands language).IsFirst a items bytes item more
+        ↔ IsFirstValue language a.limit bytes item more
+    first items bytes item more = (λ h. h, λ h. h)
 
     say_of :
         (before : List Item) (earlier : List Tree) → before ≡ items_of earlier
@@ -91,7 +75,7 @@ module _ {D T E : Type 0} (language : Language D T E) where
         → SpellAll a.limit bytes trees rest → AreSaid a.work [] trees said
         → SaysFirst (commands language) a bytes (items_of trees) said rest
     says_first bytes trees said rest spelled say = record {
-      cut = cut_of [] bytes trees rest spelled;
+      cut = cut_of language a.limit (commands language) a first [] bytes trees rest spelled;
       all_say = say_of [] [] refl trees said say;
     }
 
@@ -102,6 +86,6 @@ module _ {D T E : Type 0} (language : Language D T E) where
         → (trees : List Tree) × (items ≡ items_of trees) × SpellAll a.limit bytes trees rest
         × AreSaid a.work [] trees said
     say_first bytes items said rest h =
-        let s = spelled_of [] bytes items rest h.cut in
+        let s = spelled_of language a.limit (commands language) a first [] bytes items rest h.cut in
         let say = subst (λ items. AllSay (commands language) a [] items said) s.1 h.all_say in
         (s.0, s.1, s.2, told_of [] [] refl s.0 said say)

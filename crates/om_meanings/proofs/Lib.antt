@@ -3,3 +3,4 @@ pub mod ItemLemmas
 pub mod SaidLemmas
 pub mod StageLemmas
 pub mod StopLemmas
+pub mod NumberedLemmas

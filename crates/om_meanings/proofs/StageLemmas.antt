@@ -2,7 +2,7 @@
 use Rattle.std.proofs.Common.{◌≡◌, ◌⊎◌, ℕ, List, Option, Some, Ok, Err, inl, inr, refl, sym, ap, ◌∙◌, subst}
 use Rattle.om_outcome.specs.declared.status.Status.{Status}
 use Rattle.om_outcome.specs.declared.status.Status.TheVariants.{Usage, Types, Script, ReadFault, OpenFault, TooLong}
-use Rattle.om_outcome.specs.Outcome.{InputEnd, at_end, at_fault, at_length, unasked, Found, opened, missing, failed, unfetched, Request, AskedType, asked_with, asked_type, tell, get, edit, dump, compare, own, status_of, fault_of, ReadsFile, ReadsTypeOf, ReadsScriptOf, Saying, the_part, TellsAt, FindsWork, Language}
+use Rattle.om_outcome.specs.Outcome.{InputEnd, at_end, at_fault, at_length, unasked, Found, opened, whole, missing, failed, unfetched, Request, AskedType, asked_with, asked_type, tell, get, edit, dump, compare, own, status_of, fault_of, ReadsFile, ReadsTypeOf, ReadsScriptOf, Saying, the_part, TellsAt, FindsWork, Language}
 use Rattle.om_outcome.specs.declared.stop.Stop.{Stop}
 use Rattle.om_outcome.specs.declared.stop.Stop.TheVariants.{BadPath as bad_path, Declarations as declarations, RequestedType as requested_type, Script as script_line, ReadFault as read_fault, TooLong as too_long}
 use Rattle.om_promises.specs.Commands.{Fetches}
@@ -29,7 +29,52 @@ file_status name missing stop fault = inr (inl (ap status_of fault))
 file_status name failed stop fault = inr (inl (ap status_of fault))
 file_status name unfetched stop fault = absurd fault
 
+-- a file that was not read bars the run with the status of its stop
+pub file_bar :
+    (P Unread : Status → Type 0) → (Unread ReadFault → P ReadFault)
+    → (Unread OpenFault → P OpenFault) → (Unread TooLong → P TooLong)
+    → (name : List ℕ) (found : Found) (stop : Stop) → ReadsFile name found (Err stop)
+    → ((status : Status) → status_of stop ≡ status → Unread status) → P (status_of stop)
+file_bar P Unread at_read at_open at_long name found stop fault so =
+    by (file_status name found stop fault) where
+      by : IsOfFile (status_of stop) → P (status_of stop)
+      by (inl e) = subst P (sym e) (at_read (so ReadFault e))
+      by (inr (inl e)) = subst P (sym e) (at_open (so OpenFault e))
+      by (inr (inr e)) = subst P (sym e) (at_long (so TooLong e))
+
 module _ {D T E : Type 0} (language : Language D T E) where
+  -- ---- FILE and TYPE
+
+  -- a stop is that of the file, or what it holds is refused, or the type
+  pub type_stop :
+      (P : Stop → Type 0) (file : List ℕ → Found) (name : List ℕ) (type : AskedType) (stop : Stop)
+      → ReadsTypeOf language file (name, type) (Err stop)
+      → ((s : Stop) → ReadsFile name (file name) (Err s) → P s)
+      → ((s : Stop) (text : List ℕ) → status_of s ≡ Types → file name ≡ opened (whole text)
+      → IsRefusedType language text type → P s)
+      → P stop
+  type_stop P file name type stop (Err s, fault, is) of_file of_type =
+      let same : s ≡ stop = cc is in subst P same (of_file s fault)
+  type_stop P file name type stop (Ok text, read, (Err s, (refusal, refuses, e), is)) of_file of_type =
+      let same : stop ≡ s = cc is in
+      of_type stop text (ap status_of (same ∙ e)) read (inl (refusal, refuses))
+  type_stop P file name type stop (Ok text, read, (Ok d, reads, (refusal, refuses, e))) of_file of_type =
+      of_type stop text (ap status_of e) read (inr (d, refusal, reads, refuses))
+
+  -- where they are refused there is such a stop
+  pub refused_stop :
+      (file : List ℕ → Found) (name : List ℕ) (type : AskedType) (text : List ℕ)
+      → file name ≡ opened (whole text) → IsRefusedType language text type
+      → (stop : Stop) × (status_of stop ≡ Types)
+      × ReadsTypeOf language file (name, type) (Err stop)
+  refused_stop file name type text read (inl (refusal, refuses)) = (
+    declarations refusal,
+    refl,
+    (Ok text, read, (Err (declarations refusal), (refusal, refuses, refl), refl)),
+  )
+  refused_stop file name type text read (inr (d, refusal, reads, refuses)) =
+      (requested_type refusal, refl, (Ok text, read, (Ok d, reads, (refusal, refuses, refl))))
+
   -- ---- a stop is one of the table
 
   module _ (request : Request) (files : Fetches) where
@@ -41,43 +86,29 @@ module _ {D T E : Type 0} (language : Language D T E) where
         (turn : ℕ) (name : List ℕ) → Wants language request files turn name → (stop : Stop)
         → ReadsFile name (files turn name) (Err stop) → BarBy stop
     unread turn name wants stop fault =
-        by (status_of stop) refl (file_status name (files turn name) stop fault) where
-          so : (status : Status) → status_of stop ≡ status → IsUnread language request files status
-          so status is =
-              record { turn = turn; name = name; wants = wants; stop = stop; fault = fault; is = is }
-
-          by : (status : Status) → status_of stop ≡ status → IsOfFile status
-              → Bar language request files status
-          by status is (inl e) =
-              subst (Bar language request files) (sym e) (so ReadFault (is ∙ e))
-          by status is (inr (inl e)) =
-              subst (Bar language request files) (sym e) (so OpenFault (is ∙ e))
-          by status is (inr (inr e)) =
-              subst (Bar language request files) (sym e) (so TooLong (is ∙ e))
+        file_bar (Bar language request files) (IsUnread language request files) (λ u. u) (λ u. u)
+        (λ u. u) name (files turn name) stop fault (λ status is. record {
+          turn = turn;
+          name = name;
+          wants = wants;
+          stop = stop;
+          fault = fault;
+          is = is;
+        })
 
     type_bar :
         (name : List ℕ) (wants : WantsFile language request name) (stop : Stop)
         → ReadsTypeOf language (files 0) (name, wants.type) (Err stop) → BarBy stop
-    type_bar name wants stop (Err s, fault, is) =
-        let same : s ≡ stop = cc is in
-        subst BarBy same (unread 0 name (inl (refl, wants)) s fault)
-    type_bar name wants stop (Ok text, read, (Err s, (refusal, refuses, e), is)) =
-        let same : stop ≡ s = cc is in
-        subst BarBy (sym (same ∙ e)) (record {
+    type_bar name wants stop reads =
+        type_stop BarBy (files 0) name wants.type stop reads
+        (λ s fault. unread 0 name (inl (refl, wants)) s fault)
+        (λ s text is read refused. subst (Bar language request files) (sym is) (record {
           name = name;
           wants = wants;
           text = text;
           read = read;
-          refused = inl (refusal, refuses);
-        })
-    type_bar name wants stop (Ok text, read, (Ok d, reads, (refusal, refuses, e))) =
-        subst BarBy (sym e) (record {
-          name = name;
-          wants = wants;
-          text = text;
-          read = read;
-          refused = inr (d, refusal, reads, refuses);
-        })
+          refused = refused;
+        }))
 
     tells_bar :
         (name : List ℕ) (wants : WantsFile language request name) (saying : Saying) (stop : Stop)
@@ -216,28 +247,9 @@ module _ {D T E : Type 0} (language : Language D T E) where
   types_found :
       (request : Request) (files : Fetches) → RefusesTypes language request files
       → HasStopBefore request files Types
-  types_found request files r = by r.refused where
-    by : IsRefusedType language r.text r.wants.type → HasStopBefore request files Types
-    by (inl (refusal, refuses)) = (
-      declarations refusal,
-      refl,
-      (
-        Err (declarations refusal),
-        type_work request files r.name r.wants (declarations refusal)
-            (Ok r.text, r.read, (Err (declarations refusal), (refusal, refuses, refl), refl)),
-        refl,
-      ),
-    )
-    by (inr (d, refusal, reads, refuses)) = (
-      requested_type refusal,
-      refl,
-      (
-        Err (requested_type refusal),
-        type_work request files r.name r.wants (requested_type refusal)
-            (Ok r.text, r.read, (Ok d, reads, (refusal, refuses, refl))),
-        refl,
-      ),
-    )
+  types_found request files r =
+      let s = refused_stop (files 0) r.name r.wants.type r.text r.read r.refused in
+      (s.0, s.1, (Err s.0, type_work request files r.name r.wants s.0 s.2, refl))
 
   script_found :
       (request : Request) (files : Fetches) → RefusesScript language request files

@@ -1,3 +1,4 @@
 pub mod Tables
 pub mod Stages
 pub mod Values
+pub mod Numbered

@@ -2,8 +2,10 @@
 -- table, with a row for each status.
 use Rattle.std.specs.Prelude.{ℕ, ◌≡◌, ◌⊎◌, List, None, IsSomeAnd, Ok, Err}
 use Rattle.om_outcome.specs.declared.status.Status.{Status}
-use Rattle.om_outcome.specs.declared.status.Status.TheVariants.{Usage, Types, Script, ReadFault, OpenFault, TooLong}
-use Rattle.om_outcome.specs.Outcome.{whole, opened, Request, AskedType, path_of, status_of, ReadsFile, Language}
+use Rattle.om_outcome.specs.declared.status.Status.TheVariants.{Usage, Types, Script, ReadFault}
+use Rattle.om_outcome.specs.declared.status.Status.TheVariants.{OpenFault, TooLong}
+use Rattle.om_outcome.specs.Outcome.{whole, opened, Request, AskedType, path_of, status_of}
+use Rattle.om_outcome.specs.Outcome.{ReadsFile, Language}
 use Rattle.om_outcome.specs.declared.stop.Stop.{Stop}
 use Rattle.om_promises.specs.Commands.{Fetches}
 use Rattle.om_commands.specs.Tasks.{WantsFile, WantsScript, Wants}

@@ -1,13 +1,16 @@
 -- What each status says of the values of the input, by what is done with them: tables, with a row
 -- for each status that a work gives. A command that does something else adds its rows.
-use Rattle.std.specs.Prelude.{ℕ, ◌<◌, ◌≡◌, ◌≢◌, ◌⊎◌, Bool, true, false, List, [], ◌∷◌, ◌++◌, length, Some, None, Ok, Err}
+use Rattle.std.specs.Prelude.{ℕ, ◌<◌, ◌≡◌, ◌≢◌, ◌⊎◌, Bool, true, false, List, [], ◌∷◌, ◌++◌, length}
+use Rattle.std.specs.Prelude.{Some, None, Ok, Err}
 use Rattle.std.specs.List.{AllByRecursion}
 use Rattle.om_model.specs.declared.refusal.ReadRefusal.{ReadRefusal}
 use Rattle.om_format.specs.Stream.{SpellAll, refused, cut, IsTail}
 use Rattle.om_format.specs.Tree.{Tree}
 use Rattle.om_outcome.specs.declared.status.Status.{Status}
-use Rattle.om_outcome.specs.declared.status.Status.TheVariants.{Well, No, Usage, Value, Script, Compat}
-use Rattle.om_outcome.specs.Outcome.{Language, Saying, Unedited, untyped, refused_line, too_large, Work, tells, edits, dumps, compares, Task, line_past, AreSame}
+use Rattle.om_outcome.specs.declared.status.Status.TheVariants.{Well, No, Usage, Value, Script}
+use Rattle.om_outcome.specs.declared.status.Status.TheVariants.{Compat}
+use Rattle.om_outcome.specs.Outcome.{Language, Saying, Unedited, untyped, refused_line, too_large}
+use Rattle.om_outcome.specs.Outcome.{Work, tells, edits, dumps, compares, Task, line_past, AreSame}
 
 -- this holds of some value
 abbrev pub HoldsOfSome : (Tree → Type 0) → List Tree → Type 0

@@ -1,13 +1,12 @@
 -- Where nothing is passed over, the commands do what they did.
-use Rattle.std.proofs.Common.{◌≡◌, ◌⊎◌, ◌≤◌, ℕ, List, Ok, inl, inr, refl, sym, ◌∙◌, ap, subst, length, drop, arith}
-use Rattle.std.specs.Prelude.{◌↔◌}
-use Rattle.om_outcome.specs.Outcome.{Request, Asks, Said, Reply}
-use Rattle.om_outcome.specs.declared.stop.Stop.{Stop}
+use Rattle.std.proofs.Common.{◌≡◌, ◌≤◌, ℕ, List, inl, inr, sym, subst, length, drop, arith}
+use Rattle.om_outcome.specs.Outcome.{Request, Said, Reply}
 use Rattle.om_promises.specs.Account.{Account}
 use Rattle.om_promises.specs.Call.{Call}
-use Rattle.om_promises.specs.Commands.{Item, Fetches, Commands}
+use Rattle.om_promises.specs.Commands.{Item, Commands}
 use Rattle.om_promises.specs.Promises.{Promises}
-use Rattle.om_choice.proofs.AlikeLemmas.{IsAlike, AreAlike, alike_back, account_too, promises_too}
+use Rattle.om_choice.proofs.AlikeLemmas.{IsAlike}
+use Rattle.om_choice.proofs.BesideLemmas.{account_beside, promises_beside}
 use Rattle.om_passing.specs.Skipping.{Passed, IsFirst, Says, Ends, skipping, PassNothing}
 
 module _ {A : Type 0} (passed_by : Request → Passed) (c : Commands A) where
@@ -65,24 +64,10 @@ module _ {A : Type 0} (passed_by : Request → Passed) (c : Commands A) where
     }
 
   module _ (words : List (List ℕ)) (none : PassNothing passed_by words) where
-    finds_back : (request : Request) → Asks words request → (files : Fetches) (act : Passed × A)
-        → after.Finds request files (Ok act)
-        → (a : A) × IsAlike c after a act × c.Finds request files (Ok a)
-    finds_back request asks files (over, a) (is, h) =
-        (a, alike over a (ap (λ o. o.bytes) is ∙ none request asks), h)
-
-    are_alike : AreAlike c after (Asks words)
-    are_alike = record {
-      wants = λ request asks files turn name. (λ w. w, λ w. w);
-      finds = λ request asks files a h.
-          ((passed_by request, a), alike (passed_by request) a (none request asks), (refl, h));
-      finds_back = finds_back;
-      stops = λ request asks files stop. (λ h. h, λ h. h);
-    }
-
     pub account_at_once : (call : Call) → Account c words call → Account after words call
-    account_at_once call h = account_too c after words are_alike call h
+    account_at_once call h =
+        account_beside passed_by c after words (λ over. over.bytes ≡ 0) none alike call h
 
     pub promises_at_once : (call : Call) → Promises after words call → Promises c words call
     promises_at_once call h =
-        promises_too after c words (alike_back c after (Asks words) are_alike) call h
+        promises_beside passed_by c after words (λ over. over.bytes ≡ 0) none alike call h

@@ -1,14 +1,15 @@
 -- Commands that pass over the first bytes of their input. Each of these bytes is an item of its
 -- own, of which nothing is said, or the byte itself; after them the command begins. How many they
 -- are is asked for by the words: so a set of commands is written without a thought of it.
-use Rattle.std.specs.Prelude.{ℕ, ◌<◌, ◌≤◌, ◌≡◌, ◌⊎◌, Bool, true, false, List, [], ◌∷◌, length, drop, Result, Ok, Err}
+use Rattle.std.specs.Prelude.{ℕ, ◌<◌, ◌≤◌, ◌≡◌, ◌⊎◌, Bool, true, false, List, [], ◌∷◌, length, drop}
 use Rattle.om_outcome.specs.Outcome.{Request, Asks, Said, nothing_said, Reply, stops}
 use Rattle.om_outcome.specs.declared.stop.Stop.{Stop}
 use Rattle.om_outcome.specs.declared.stop.Stop.TheVariants.{Short as short_input}
 use Rattle.om_promises.specs.Account.{Account}
 use Rattle.om_promises.specs.Call.{Call}
-use Rattle.om_promises.specs.Commands.{Item, value as value_item, text as text_item, Fetches, Commands}
+use Rattle.om_promises.specs.Commands.{Item, value as value_item, text as text_item, Commands}
 use Rattle.om_promises.specs.Promises.{Promises}
+use Rattle.om_choice.specs.Beside.{Finds}
 
 -- how many bytes are passed over, and whether they are put as they are
 pub record Passed : Type 0 where
@@ -66,17 +67,11 @@ PassNothing passed_by words =
     (request : Request) → Asks words request → (passed_by request).bytes ≡ 0
 
 module _ {A : Type 0} (passed_by : Request → Passed) (c : Commands A) where
-  -- what is done, with what is passed over before it
-  abbrev pub Finds : Request → Fetches → Result (Passed × A) Stop → Type 0
-  Finds request files (Ok act) =
-      (act.0 ≡ passed_by request) × c.Finds request files (Ok act.1)
-  Finds request files (Err stop) = c.Finds request files (Err stop)
-
   -- the commands, after the bytes that are passed over
   abbrev pub skipping : Commands (Passed × A)
   skipping = record {
     Wants = c.Wants;
-    Finds = Finds;
+    Finds = Finds passed_by c;
     Reads = λ act. c.Reads act.1;
     IsFirst = IsFirst c;
     Says = Says c;

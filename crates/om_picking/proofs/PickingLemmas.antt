@@ -1,15 +1,16 @@
 -- Lawful commands are lawful where one item alone is told of.
-use Rattle.std.proofs.Common.{◌≡◌, ◌⊎◌, ◌++◌, ◌∷◌, ℕ, List, [], Option, Some, None, Result, Ok, Err, inl, inr, refl, sym, ap, ◌∙◌, subst, length, arith}
+use Rattle.std.proofs.Common.{◌≡◌, ◌++◌, ◌∷◌, ℕ, List, [], Option, Some, None, inl, inr, refl, sym, ap, ◌∙◌, subst, length, arith}
 use Rattle.om_model.specs.Bytes.{AreBytes}
-use Rattle.om_outcome.specs.Outcome.{opened, whole, Request, ReadsFile, Said, says, stops}
+use Rattle.om_outcome.specs.Outcome.{Request, Said, says, stops}
 use Rattle.om_outcome.specs.RefusalText.{truncated_text}
 use Rattle.om_outcome.specs.declared.stop.Stop.{Stop}
 use Rattle.om_outcome.specs.declared.stop.Stop.TheVariants.{Value as value, Finished as finished}
-use Rattle.om_promises.specs.Commands.{Item, Fetches, Commands}
-use Rattle.om_promises.specs.Lawful.{IsOnce, IsInner, IsWhole, FailsAtFile, IsFound, AreLawfulAt, AreLawful, AreInTurns}
+use Rattle.om_promises.specs.Commands.{Item, Commands}
+use Rattle.om_promises.specs.Lawful.{IsOnce, IsInner, AreLawfulAt, AreLawful, AreInTurns}
 use Rattle.om_choice.specs.Choice.{IsIdleAt, AreApart}
+use Rattle.om_choice.proofs.BesideLemmas.{lawful_beside, turns_beside, idle_beside, apart_beside}
 use Rattle.om_picking.proofs.ToldLemmas.{told_past}
-use Rattle.om_picking.specs.Picking.{missing, FirstBy, SaysBy, StopsBy, EndsBy, Finds, picking}
+use Rattle.om_picking.specs.Picking.{missing, FirstBy, SaysBy, StopsBy, EndsBy, picking}
 
 -- lists with the same last item
 none_last : (items : List Item) (item : Item) → ◌≡◌ {A = List Item} [] (items ++ item ∷ []) → ⊥
@@ -131,110 +132,16 @@ module _ {A : Type 0} (picked_by : Request → Option ℕ) (c : Commands A) wher
   lawful_at None a law = lawful_of_each a law
   lawful_at (Some k) a law = lawful_of_one k a law
 
-  -- ---- the words and the files
-
-  abbrev found : Option ℕ → A → Result (Option ℕ × A) Stop
-  found picked a = Ok (picked, a)
-
-  abbrev stopped : Stop → Result (Option ℕ × A) Stop
-  stopped stop = Err stop
-
-  finds_once : AreLawful c → (request : Request) (files : Fetches) → IsOnce (Finds picked_by c request files)
-  finds_once law request files (Ok (picked, a)) (Ok (other, b)) (is, h) (same, k) =
-      let e : ◌≡◌ {A = Result A Stop} (Ok a) (Ok b) = law.finds_once request files (Ok a) (Ok b) h k in
-      let same_act : a ≡ b = cc e in
-      let all : picked ≡ other = is ∙ sym same in
-      ap (λ o. found o a) all ∙ ap (λ b. found other b) same_act
-  finds_once law request files (Ok (picked, a)) (Err t) (is, h) k =
-      let e : ◌≡◌ {A = Result A Stop} (Ok a) (Err t) = law.finds_once request files (Ok a) (Err t) h k in absurd (cc e)
-  finds_once law request files (Err s) (Ok (other, b)) h (is, k) =
-      let e : ◌≡◌ {A = Result A Stop} (Err s) (Ok b) = law.finds_once request files (Err s) (Ok b) h k in absurd (cc e)
-  finds_once law request files (Err s) (Err t) h k =
-      let e : ◌≡◌ {A = Result A Stop} (Err s) (Err t) = law.finds_once request files (Err s) (Err t) h k in
-      let as_stop : s ≡ t = cc e in ap stopped as_stop
-
-  by_wanted : AreLawful c → (request : Request) (files others : Fetches) (result : Result (Option ℕ × A) Stop)
-      → ((turn : ℕ) (name : List ℕ) → c.Wants request files turn name → files turn name ≡ others turn name)
-      → Finds picked_by c request files result → Finds picked_by c request others result
-  by_wanted law request files others (Ok (picked, a)) same (is, h) = (is, law.by_wanted request files others (Ok a) same h)
-  by_wanted law request files others (Err s) same h = law.by_wanted request files others (Err s) same h
-
-  -- a file is read, or its stop is the result
-  stop_there : {P : Type 0} (Fails : Stop → Type 0) (result : Result A Stop) (other : Result (Option ℕ × A) Stop)
-      → ((stop : Stop) → result ≡ Err stop → other ≡ Err stop)
-      → P ⊎ ((stop : Stop) × Fails stop × (result ≡ Err stop)) → P ⊎ ((stop : Stop) × Fails stop × (other ≡ Err stop))
-  stop_there Fails result other same (inl read) = inl read
-  stop_there Fails result other same (inr (stop, fails, is)) = inr (stop, fails, same stop is)
-
-  same_stop : (s stop : Stop) → ◌≡◌ {A = Result A Stop} (Err s) (Err stop) → stopped s ≡ stopped stop
-  same_stop s stop e = let as_stop : s ≡ stop = cc e in ap stopped as_stop
-
-  reads_wanted : AreLawful c → (request : Request) (files : Fetches) (result : Result (Option ℕ × A) Stop)
-      → Finds picked_by c request files result → (turn : ℕ) (name : List ℕ) → c.Wants request files turn name
-      → IsWhole (files turn name)
-      ⊎ ((stop : Stop) × ReadsFile name (files turn name) (Err stop) × (result ≡ Err stop))
-  reads_wanted law request files (Ok (picked, a)) (is, h) turn name w =
-      stop_there (λ stop. ReadsFile name (files turn name) (Err stop)) (Ok a) (Ok (picked, a)) (λ stop e. absurd (cc e))
-      (law.reads_wanted request files (Ok a) h turn name w)
-  reads_wanted law request files (Err s) h turn name w =
-      stop_there (λ stop. ReadsFile name (files turn name) (Err stop)) (Err s) (Err s) (same_stop s)
-      (law.reads_wanted request files (Err s) h turn name w)
-
-  fails : (request : Request) (files : Fetches) (s : Stop) → FailsAtFile c request files (Err s)
-      → FailsAtFile one request files (Err s)
-  fails request files s f = record {
-    turn = f.turn;
-    name = f.name;
-    wants = f.wants;
-    stop = f.stop;
-    fault = f.fault;
-    is = same_stop s f.stop f.is;
-  }
-
-  finds_inside : AreLawful c → (request : Request) (files : Fetches) (stop : Stop) → c.Finds request files (Err stop)
-      → IsInner stop ⊎ FailsAtFile one request files (Err stop)
-  finds_inside law request files stop h = from (law.finds_inside request files stop h) where
-    from : IsInner stop ⊎ FailsAtFile c request files (Err stop) → IsInner stop ⊎ FailsAtFile one request files (Err stop)
-    from (inl inner) = inl inner
-    from (inr f) = inr (fails request files stop f)
-
-  at_act : AreLawful c → (act : Option ℕ × A) → IsFound one act → AreLawfulAt one act
-  at_act law (picked, a) (request, files, (is, h)) = lawful_at picked a (law.at a (request, files, h))
+  -- ---- the words, the files and other commands
 
   pub lawful : AreLawful c → AreLawful one
-  lawful law = record {
-    wants_once = law.wants_once;
-    finds_once = finds_once law;
-    by_wanted = by_wanted law;
-    reads_wanted = reads_wanted law;
-    finds_inside = finds_inside law;
-    at = at_act law;
-  }
-
-  reads : AreInTurns c → (request : Request) (files : Fetches) (result : Result (Option ℕ × A) Stop)
-      → Finds picked_by c request files result → (turn : ℕ) (name : List ℕ) → c.Wants request files turn name
-      → ((bytes : List ℕ) × (files turn name ≡ opened (whole bytes)))
-      ⊎ ((stop : Stop) × ReadsFile name (files turn name) (Err stop) × (result ≡ Err stop))
-  reads turns request files (Ok (picked, a)) (is, h) turn name w =
-      stop_there (λ stop. ReadsFile name (files turn name) (Err stop)) (Ok a) (Ok (picked, a)) (λ stop e. absurd (cc e))
-      (turns.reads request files (Ok a) h turn name w)
-  reads turns request files (Err s) h turn name w =
-      stop_there (λ stop. ReadsFile name (files turn name) (Err stop)) (Err s) (Err s) (same_stop s)
-      (turns.reads request files (Err s) h turn name w)
+  lawful law = lawful_beside picked_by c one lawful_at law
 
   pub in_turns : AreInTurns c → AreInTurns one
-  in_turns turns = record { by_earlier = turns.by_earlier; reads = reads turns; after_read = turns.after_read }
-
-  -- ---- other commands
+  in_turns turns = turns_beside picked_by c one turns
 
   pub idle : (request : Request) → IsIdleAt c request → IsIdleAt one request
-  idle request none = record { unwanted = none.unwanted; unfound = unfound } where
-    unfound : (files : Fetches) (result : Result (Option ℕ × A) Stop) → Finds picked_by c request files result → ⊥
-    unfound files (Ok (picked, a)) (is, h) = none.unfound files (Ok a) h
-    unfound files (Err s) h = none.unfound files (Err s) h
+  idle request none = idle_beside picked_by c one request none
 
   pub apart : {B : Type 0} (d : Commands B) → AreApart c d → AreApart one d
-  apart d of_c request = from (of_c request) where
-    from : IsIdleAt c request ⊎ IsIdleAt d request → IsIdleAt one request ⊎ IsIdleAt d request
-    from (inl none) = inl (idle request none)
-    from (inr none) = inr none
+  apart d of_c request = apart_beside picked_by c one d of_c request

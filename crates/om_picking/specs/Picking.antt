@@ -2,15 +2,17 @@
 -- nothing is said of them; with its last byte the run is finished, whatever follows, and no more is
 -- asked for. Which one it is is asked for by the words: so a set of commands is written without a
 -- thought of it.
-use Rattle.std.specs.Prelude.{ℕ, ◌<◌, ◌≤◌, ◌≡◌, ◌⊎◌, ◌∷◌, ◌++◌, Bool, List, [], length, Option, Some, None, Result, Ok, Err}
+use Rattle.std.specs.Prelude.{ℕ, ◌<◌, ◌≤◌, ◌≡◌, ◌⊎◌, ◌∷◌, ◌++◌, Bool, List, [], length, Option}
+use Rattle.std.specs.Prelude.{Some, None}
 use Rattle.om_outcome.specs.Outcome.{Request, Asks, Said, nothing_said, Reply, says, stops}
 use Rattle.om_outcome.specs.RefusalText.{truncated_text}
 use Rattle.om_outcome.specs.declared.stop.Stop.{Stop}
 use Rattle.om_outcome.specs.declared.stop.Stop.TheVariants.{Value as value, Finished as finished}
 use Rattle.om_promises.specs.Account.{Account}
 use Rattle.om_promises.specs.Call.{Call}
-use Rattle.om_promises.specs.Commands.{Item, Fetches, Commands}
+use Rattle.om_promises.specs.Commands.{Item, Commands}
 use Rattle.om_promises.specs.Promises.{Promises}
+use Rattle.om_choice.specs.Beside.{Finds}
 
 -- the last reply where the input ends after so many items, and the one that is asked for is not
 -- among them: where the command would say something, a value with no byte is cut
@@ -63,17 +65,11 @@ PickNothing picked_by words =
     (request : Request) → Asks words request → picked_by request ≡ None
 
 module _ {A : Type 0} (picked_by : Request → Option ℕ) (c : Commands A) where
-  -- what is done, with what is told of
-  abbrev pub Finds : Request → Fetches → Result (Option ℕ × A) Stop → Type 0
-  Finds request files (Ok act) =
-      (act.0 ≡ picked_by request) × c.Finds request files (Ok act.1)
-  Finds request files (Err stop) = c.Finds request files (Err stop)
-
   -- the commands, of one item alone where that is asked for
   abbrev pub picking : Commands (Option ℕ × A)
   picking = record {
     Wants = c.Wants;
-    Finds = Finds;
+    Finds = Finds picked_by c;
     Reads = λ act. c.Reads act.1;
     IsFirst = λ act. FirstBy c act.0 act.1;
     Says = λ act. SaysBy c act.0 act.1;

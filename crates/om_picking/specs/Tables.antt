@@ -1,7 +1,8 @@
 -- What each status means where one item alone is told of: 0 that nothing is wrong with it, 1 that
 -- something is, whatever follows it; 4 also that the input ends before it. Another one is that of
 -- the stop before it or at its end.
-use Rattle.std.specs.Prelude.{ℕ, ◌≤◌, ◌≡◌, ◌⊎◌, List, [], ◌∷◌, ◌++◌, length, Option, Some, None, if◌then◌else◌}
+use Rattle.std.specs.Prelude.{ℕ, ◌≤◌, ◌≡◌, ◌⊎◌, List, [], ◌∷◌, ◌++◌, length, Option, Some, None}
+use Rattle.std.specs.Prelude.{if◌then◌else◌}
 use Rattle.om_outcome.specs.declared.status.Status.{Status}
 use Rattle.om_outcome.specs.declared.status.Status.TheVariants.{Well, No}
 use Rattle.om_outcome.specs.Outcome.{status_of, Said, Reply, replies, ending_of}

@@ -1,23 +1,14 @@
 -- What is counted up to a bracket's closing, byte after byte.
-use Rattle.std.proofs.Common.{◌≡◌, ℕ, suc, ◌+◌, ◌<◌, ◌≤◌, leb, List, [], ◌∷◌, length, get_or, drop, Option, Some, None, refl, ap, sym, ◌∙◌, arith}
+use Rattle.std.proofs.Common.{◌≡◌, ℕ, suc, ◌+◌, ◌<◌, leb, List, [], ◌∷◌, drop, Option, Some, None, refl, ap, sym, ◌∙◌, arith}
 use Rattle.std.specs.Prelude.{option_map}
 use Rattle.std.proofs.lemmas.Bool.{cond-false, lt-leb, cond_both}
-use Rattle.std.proofs.lemmas.List.{at_drop_more, at_drop_all}
 use Rattle.om_pretty.specs.declared.site.Site.{Site}
 use Rattle.om_pretty.specs.Sites.{mark_of, next_site}
-use Rattle.om_pretty.specs.Fit.{closing_length, depth_after, counted, to_close, at_most, within}
+use Rattle.om_pretty.specs.Fit.{closing_length, depth_after, counted, to_close, within}
 
 -- so many more
 abbrev pub more : ℕ → Option ℕ → Option ℕ
 more i found = option_map (λ n. n + i) found
-
-more_suc : (found : Option ℕ) (i : ℕ) → more i (option_map suc found) ≡ more (i + 1) found
-more_suc None i = refl
-more_suc (Some n) i = let same : suc n + i ≡ n + (i + 1) = omega arith in ap Some same
-
-more_none : (found : Option ℕ) → found ≡ more 0 found
-more_none None = refl
-more_none (Some n) = let same : n ≡ n + 0 = omega arith in ap Some same
 
 -- ---- something is counted
 
@@ -49,29 +40,7 @@ too_many left (Some n) positive = cond-false (leb (n + left) left) (n + left) 0 
 -- ---- steps of the count, where so many bytes are counted
 
 module _ (all : Option ℕ) (left : ℕ) (site : Site) (depth : ℕ) (bytes : List ℕ) (i : ℕ) (so_far : all ≡ more i (to_close site depth (drop i bytes))) where
-  pub at_end : length bytes ≤ i → 0 ≡ within left all
-  at_end past = sym (ap (λ o. within left o) (so_far ∙ ap (λ o. more i o) (at_drop_all (to_close site depth) bytes i past)))
-
   pub at_width : i ≡ left → 0 ≡ within left all
   at_width full =
       sym (ap (λ o. within left o) (so_far ∙ ap (λ n. more n (to_close site depth (drop i bytes))) full)
       ∙ too_many left (to_close site depth (drop i bytes)) (close_positive site depth (drop i bytes)))
-
-  abbrev found_at : Option ℕ → Option ℕ
-  found_at after = counted (closing_length (get_or bytes i 0)) after (λ deeper. to_close (next_site site (get_or bytes i 0)) deeper (drop (i + 1) bytes))
-
-  one_byte : i < length bytes → (after : Option ℕ) → after ≡ depth_after (mark_of site (get_or bytes i 0)) depth → all ≡ more i (found_at after)
-  one_byte less after is =
-      so_far ∙ ap (λ o. more i o) (at_drop_more (to_close site depth) bytes i 0 less) ∙ ap (λ o. more i (found_at o)) (sym is)
-
-  pub one_more : i < length bytes → (deeper : ℕ) → Some deeper ≡ depth_after (mark_of site (get_or bytes i 0)) depth → all ≡ more (i + 1) (to_close (next_site site (get_or bytes i 0)) deeper (drop (i + 1) bytes))
-  one_more less deeper is =
-      one_byte less (Some deeper) is ∙ more_suc (to_close (next_site site (get_or bytes i 0)) deeper (drop (i + 1) bytes)) i
-
-  pub closes_here : i < length bytes → None ≡ depth_after (mark_of site (get_or bytes i 0)) depth → at_most left (i + closing_length (get_or bytes i 0)) ≡ within left all
-  closes_here less is =
-      let same : i + closing_length (get_or bytes i 0) ≡ closing_length (get_or bytes i 0) + i = omega arith in
-      ap (at_most left) same ∙ sym (ap (λ o. within left o) (one_byte less None is))
-
-pub begins : (site : Site) (bytes : List ℕ) → to_close site 0 bytes ≡ more 0 (to_close site 0 bytes)
-begins site bytes = more_none (to_close site 0 bytes)

@@ -1,5 +1,6 @@
 -- How many bytes a bracket still has, and whether they have room in a line.
-use Rattle.std.specs.Prelude.{ℕ, suc, ◌+◌, ◌-◌, ◌==◌, nat_le, if◌then◌else◌, List, [], ◌∷◌, Option, Some, None, option_map}
+use Rattle.std.specs.Prelude.{ℕ, suc, ◌+◌, ◌-◌, ◌==◌, nat_le, if◌then◌else◌, List, [], ◌∷◌, Option}
+use Rattle.std.specs.Prelude.{Some, None, option_map}
 use Rattle.om_pretty.specs.declared.site.Site.{Site}
 use Rattle.om_pretty.specs.declared.site.Mark.{Mark}
 use Rattle.om_pretty.specs.declared.site.Mark.TheVariants as marks

@@ -9,7 +9,8 @@
 -- indentation, and the closings stand one behind the other.
 --
 -- The indentation is at most 40, so that a text of n bytes has at most 42 n over lines.
-use Rattle.std.specs.Prelude.{ℕ, ◌+◌, ◌-◌, Bool, true, false, not, ◌&&◌, ◌==◌, nat_lt, if◌then◌else◌, List, [], ◌∷◌, ◌++◌, replicate, Option, Some, None}
+use Rattle.std.specs.Prelude.{ℕ, ◌+◌, ◌-◌, Bool, true, false, not, ◌&&◌, ◌==◌, nat_lt}
+use Rattle.std.specs.Prelude.{if◌then◌else◌, List, [], ◌∷◌, ◌++◌, replicate, Option, Some, None}
 use Rattle.om_pretty.specs.declared.site.Mark.{Mark}
 use Rattle.om_pretty.specs.declared.site.Mark.TheVariants as marks
 use Rattle.om_pretty.specs.declared.site.Site.TheVariants as sites

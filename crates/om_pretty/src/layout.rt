@@ -1,7 +1,9 @@
 //! Where the lines of a text begin.
 
 ghost use Rattle.std.specs.Prelude.{◌≡◌, OnOk};
-ghost use Rattle.om_pretty.specs.Lines.{inner, base, child_indent, closing_line, line_at, line_before, left_behind, passed, opened, list_room, marked, behind, start};
+ghost use Rattle.om_pretty.specs.Lines.{inner, base, child_indent, closing_line, line_at};
+ghost use Rattle.om_pretty.specs.Lines.{line_before, left_behind, passed, opened, list_room};
+ghost use Rattle.om_pretty.specs.Lines.{marked, behind, start};
 
 use crate::bracket::{Bracket, Brackets};
 use crate::fit::{bytes_to_close, closing_length};

@@ -21,7 +21,3 @@ spelled_some limit bytes tree s =
 pub no_bytes : (xs : List ℕ) → true ≡ (length xs == 0) → xs ≡ []
 no_bytes [] e = refl
 no_bytes (x ∷ xs) e = let none : length (x ∷ xs) ≡ 0 = eqb-true (length (x ∷ xs)) 0 (sym e) in absurd (omega arith)
-
-pub some_bytes : (xs : List ℕ) → false ≡ (length xs == 0) → xs ≡ [] → ⊥
-some_bytes [] e = absurd (cc e)
-some_bytes (x ∷ xs) e = λ none. cc

@@ -96,12 +96,6 @@ module _ (law : HasOneJudgement) (limit : ℕ) where
       let next = streams_once more trees others end other (bytes_after first more whole) (tail, rest, is) (tail', subst (λ m. SpellAll limit m others tail') (sym after) rest', is') in
       (let head : t ≡ u = one.0 in let tails : trees ≡ others = next.0 in cc, next.1)
 
-  -- bytes that are values to their end are no other values, and nothing comes after them
-  pub stream_once : (bytes : List ℕ) (trees others : List Tree) (end : End) → AreBytes bytes → SpellAll limit bytes trees [] → Stream bytes limit others end
-      → (trees ≡ others) × (end ≡ clean)
-  stream_once bytes trees others end are_bytes all other =
-      let once = streams_once bytes trees others clean end are_bytes ([], all, refl) other in (once.0, sym once.1)
-
   -- the same number of values is the same values, before the same rest
   pub spell_once : (bytes : List ℕ) (trees others : List Tree) (rest other : List ℕ) → AreBytes bytes → length trees ≡ length others → SpellAll limit bytes trees rest → SpellAll limit bytes others other
       → (trees ≡ others) × (rest ≡ other)

@@ -1,13 +1,13 @@
 -- The command on texts is lawful, where the language is and a line is read in one way.
 use Rattle.std.proofs.Common.{◌≡◌, ◌⊎◌, ◌<◌, ◌+◌, ℕ, List, [], ◌∷◌, ◌++◌, Some, Result, Ok, Err, inl, inr, refl, sym, ap, ◌∙◌, subst, arith}
-use Rattle.om_outcome.specs.Outcome.{Found, opened, whole, Request, AskedType, Said, says, stops, Language, ReadsFile, ReadsTypeOf}
+use Rattle.om_outcome.specs.Outcome.{opened, whole, Request, AskedType, Said, says, stops, Language, ReadsFile, ReadsTypeOf}
 use Rattle.om_outcome.specs.declared.stop.Stop.{Stop}
 use Rattle.om_outcome.specs.declared.stop.Stop.TheVariants.{Untyped as untyped_value}
 use Rattle.om_promises.specs.Commands.{Item, value, text, Fetches}
-use Rattle.om_promises.specs.Lawful.{IsOnce, IsInner, IsWhole, FailsAtFile, AreLawfulAt, AreLawful, AreInTurns}
+use Rattle.om_promises.specs.Lawful.{IsOnce, IsInner, FailsAtFile, AreLawfulAt, AreLawful, AreInTurns}
 use Rattle.om_promises.specs.LawfulLanguage.{IsGiven, IsLawful}
 use Rattle.om_commands.specs.Tasks.{by_turns}
-use Rattle.om_commands.proofs.FindLemmas.{type_once, type_by, type_read, ComesOf, type_inside}
+use Rattle.om_commands.proofs.FindLemmas.{whole_or, type_once, type_by, type_read, ComesOf, type_inside}
 use Rattle.om_commands.proofs.GivenLemmas.{type_given}
 use Rattle.om_texts.specs.Texts.{Built, blank, made, refused, untyped, counted, IsFirstLine, IsSaidOf, AreTexts, StopsBy, SaysLine, StopsAtLine, IsReplyTo, EndsWithLine, built_by, Wants, Finds, building, IsReadOnce}
 use Rattle.om_texts.proofs.LineLemmas.{line_once, line_front, some_line, line_stays, same_text}
@@ -164,12 +164,6 @@ module _ {D T E : Type 0} (language : Language D T E) (TextOf : T → List ℕ �
         subst (λ t. IsRead files result t name) (sym now)
         (subst (λ n. IsRead files result 0 n) (file_is request typed name type is wanted)
         (type_read language lawful (files 0) typed result reads))
-
-    whole_or :
-        {S : Type 0} (found : Found) → ((bytes : List ℕ) × (found ≡ opened (whole bytes))) ⊎ S
-        → IsWhole found ⊎ S
-    whole_or found (inl read) = inl (inl read)
-    whole_or found (inr fails) = inr fails
 
     found_inside :
         (request : Request) (files : Fetches) (stop : Stop)

@@ -1,18 +1,17 @@
 -- The tables of the command on texts are exact.
-use Rattle.std.proofs.Common.{◌≡◌, ◌⊎◌, ℕ, suc, true, List, [], length, Some, Ok, Err, inl, inr, refl, sym, ap, ◌∙◌, subst}
+use Rattle.std.proofs.Common.{◌≡◌, ◌⊎◌, ℕ, suc, true, List, [], length, Some, Err, inl, inr, refl, sym, ap, ◌∙◌, subst}
 use Rattle.std.specs.Prelude.{◌&&◌, if◌then◌else◌}
 use Rattle.std.specs.List.{AllByRecursion}
 use Rattle.om_outcome.specs.declared.status.Status.{Status}
 use Rattle.om_outcome.specs.declared.status.Status.TheVariants.{Well, No, Types, Script, ReadFault, OpenFault, TooLong}
 use Rattle.om_outcome.specs.Outcome.{Request, AskedType, status_of, ending_of, Said, Reply, says, stops, Replies, replies, all_well, Language, ReadsFile, ReadsTypeOf}
 use Rattle.om_outcome.specs.declared.stop.Stop.{Stop}
-use Rattle.om_outcome.specs.declared.stop.Stop.TheVariants.{Declarations as declarations, RequestedType as requested_type, Text as text_line, Untyped as untyped_value}
+use Rattle.om_outcome.specs.declared.stop.Stop.TheVariants.{Text as text_line, Untyped as untyped_value}
 use Rattle.om_promises.specs.Commands.{Item, text as text_item, Cut, AllSay, Fetches, HoldStop, GoesOn}
 use Rattle.om_promises.specs.Promises.{HoldEnd}
 use Rattle.om_promises.proofs.ValueLemmas.{all_well-snoc}
 use Rattle.om_causes.specs.Causes.{HaveStops, HaveEnds, HaveBars, AreExact}
-use Rattle.om_meanings.specs.Stages.{IsRefusedType}
-use Rattle.om_meanings.proofs.StageLemmas.{IsOfFile, file_status}
+use Rattle.om_meanings.proofs.StageLemmas.{file_bar, type_stop, refused_stop}
 use Rattle.om_texts.specs.Texts.{Built, blank, made, refused, untyped, IsUnbroken, IsLine, StopsBy, StopsAtLine, IsReplyTo, EndsWithLine, built_by, Finds, building}
 use Rattle.om_texts.specs.Meanings.{AreLines, IsFine, Break, HoldBreak, AreEnded, RefusesTypes, IsUnread, Bar, texts_tables}
 use Rattle.om_texts.proofs.LineLemmas.{unbroken_is_no_line}
@@ -192,44 +191,29 @@ module _ {D T E : Type 0} (language : Language D T E) (TextOf : T → List ℕ �
 
     module _ (name : List ℕ) (type : AskedType) (asked : built_by request ≡ Some (name, type)) where
       unread : (stop : Stop) → ReadsFile name (files 0 name) (Err stop) → BarBy stop
-      unread stop fault = by (status_of stop) refl (file_status name (files 0 name) stop fault) where
-        so : (status : Status) → status_of stop ≡ status
-            → IsUnread language TextOf request files status
-        so status is =
-            record { name = name; type = type; asked = asked; stop = stop; fault = fault; is = is }
-
-        by : (status : Status) → status_of stop ≡ status → IsOfFile status
-            → Bar language TextOf request files status
-        by status is (inl e) =
-            subst (Bar language TextOf request files) (sym e) (so ReadFault (is ∙ e))
-        by status is (inr (inl e)) =
-            subst (Bar language TextOf request files) (sym e) (so OpenFault (is ∙ e))
-        by status is (inr (inr e)) =
-            subst (Bar language TextOf request files) (sym e) (so TooLong (is ∙ e))
+      unread stop fault =
+          file_bar (Bar language TextOf request files) (IsUnread language TextOf request files)
+          (λ u. u) (λ u. u) (λ u. u) name (files 0 name) stop fault (λ status is. record {
+            name = name;
+            type = type;
+            asked = asked;
+            stop = stop;
+            fault = fault;
+            is = is;
+          })
 
       type_bar :
           (stop : Stop) → ReadsTypeOf language (files 0) (name, type) (Err stop) → BarBy stop
-      type_bar stop (Err s, fault, is) =
-          let same : s ≡ stop = cc is in subst BarBy same (unread s fault)
-      type_bar stop (Ok text, read, (Err s, (refusal, refuses, e), is)) =
-          let same : stop ≡ s = cc is in
-          subst BarBy (sym (same ∙ e)) (record {
+      type_bar stop reads =
+          type_stop language BarBy (files 0) name type stop reads unread
+          (λ s text is read refused. subst (Bar language TextOf request files) (sym is) (record {
             name = name;
             type = type;
             asked = asked;
             text = text;
             read = read;
-            is_refused = inl (refusal, refuses);
-          })
-      type_bar stop (Ok text, read, (Ok d, reads, (refusal, refuses, e))) =
-          subst BarBy (sym e) (record {
-            name = name;
-            type = type;
-            asked = asked;
-            text = text;
-            read = read;
-            is_refused = inr (d, refusal, reads, refuses);
-          })
+            is_refused = refused;
+          }))
 
     bar_of : (stop : Stop) → Finds language TextOf request files (Err stop) → BarBy stop
     bar_of stop (typed, is, reads) = type_bar typed.0 typed.1 is stop reads
@@ -240,22 +224,9 @@ module _ {D T E : Type 0} (language : Language D T E) (TextOf : T → List ℕ �
         (stop : Stop) × (status_of stop ≡ status) × Finds language TextOf request files (Err stop)
 
     types_found : RefusesTypes language TextOf request files → HasStopBefore Types
-    types_found r = by r.is_refused where
-      by : IsRefusedType language r.text r.type → HasStopBefore Types
-      by (inl (refusal, refuses)) = (
-        declarations refusal,
-        refl,
-        (
-          (r.name, r.type),
-          r.asked,
-          (Ok r.text, r.read, (Err (declarations refusal), (refusal, refuses, refl), refl)),
-        ),
-      )
-      by (inr (d, refusal, reads, refuses)) = (
-        requested_type refusal,
-        refl,
-        ((r.name, r.type), r.asked, (Ok r.text, r.read, (Ok d, reads, (refusal, refuses, refl)))),
-      )
+    types_found r =
+        let s = refused_stop language (files 0) r.name r.type r.text r.read r.is_refused in
+        (s.0, s.1, ((r.name, r.type), r.asked, s.2))
 
     unread_found :
         (status : Status) → IsUnread language TextOf request files status → HasStopBefore status

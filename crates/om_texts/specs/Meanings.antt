@@ -14,8 +14,11 @@
 use Rattle.std.specs.Prelude.{ℕ, ◌≡◌, ◌≢◌, ◌⊎◌, List, [], ◌∷◌, Some, Err}
 use Rattle.std.specs.List.{AllByRecursion}
 use Rattle.om_outcome.specs.declared.status.Status.{Status}
-use Rattle.om_outcome.specs.declared.status.Status.TheVariants.{Well, No, Types, Value, Script, ReadFault, OpenFault, TooLong, Compat}
-use Rattle.om_outcome.specs.Outcome.{whole, opened, Request, AskedType, status_of, ReadsFile, Language}
+use Rattle.om_outcome.specs.declared.status.Status.TheVariants.{Well, No, Types, Value, Script}
+use Rattle.om_outcome.specs.declared.status.Status.TheVariants.{ReadFault, OpenFault, TooLong}
+use Rattle.om_outcome.specs.declared.status.Status.TheVariants.{Compat}
+use Rattle.om_outcome.specs.Outcome.{whole, opened, Request, AskedType, status_of, ReadsFile}
+use Rattle.om_outcome.specs.Outcome.{Language}
 use Rattle.om_outcome.specs.declared.stop.Stop.{Stop}
 use Rattle.om_promises.specs.Call.{Call}
 use Rattle.om_promises.specs.Commands.{Fetches}

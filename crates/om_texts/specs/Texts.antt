@@ -1,10 +1,13 @@
 -- The command on the texts of the input, in the general form: an item is a line, and the line feed
 -- behind it. A line is blank, or a text, which becomes bytes.
-use Rattle.std.specs.Prelude.{ℕ, suc, ◌+◌, ◌≡◌, ◌≢◌, true, List, [], ◌∷◌, ◌++◌, length, Option, Some, None, Result}
+use Rattle.std.specs.Prelude.{ℕ, suc, ◌+◌, ◌≡◌, ◌≢◌, true, List, [], ◌∷◌, ◌++◌, length, Option}
+use Rattle.std.specs.Prelude.{Some, None, Result}
 use Rattle.std.specs.List.{AllByRecursion}
-use Rattle.om_outcome.specs.Outcome.{Request, AskedType, asked_with, own, build, Said, nothing_said, Reply, says, stops, Language, ReadsTypeOf}
+use Rattle.om_outcome.specs.Outcome.{Request, AskedType, asked_with, own, build, Said, nothing_said}
+use Rattle.om_outcome.specs.Outcome.{Reply, says, stops, Language, ReadsTypeOf}
 use Rattle.om_outcome.specs.declared.stop.Stop.{Stop}
-use Rattle.om_outcome.specs.declared.stop.Stop.TheVariants.{Text as text_line, Untyped as untyped_value}
+use Rattle.om_outcome.specs.declared.stop.Stop.TheVariants.{Text as text_line}
+use Rattle.om_outcome.specs.declared.stop.Stop.TheVariants.{Untyped as untyped_value}
 use Rattle.om_promises.specs.Commands.{Item, value, text, Fetches, Commands}
 use Rattle.om_promises.specs.Lawful.{IsOnce}
 use Rattle.om_promises.specs.LawfulLanguage.{IsGiven}

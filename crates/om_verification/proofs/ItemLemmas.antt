@@ -1,5 +1,5 @@
 -- What is said of a value, where the run stops and how the input ends are one, and stay.
-use Rattle.std.proofs.Common.{◌≡◌, ◌<◌, ℕ, Bool, true, false, List, [], ◌∷◌, ◌++◌, length, Some, None, inl, inr, sym, ap, ◌∙◌, subst}
+use Rattle.std.proofs.Common.{◌≡◌, ℕ, Bool, true, false, List, [], ◌∷◌, ◌++◌, length, Some, None, inl, inr, sym, ap, ◌∙◌, subst}
 use Rattle.std.specs.Prelude.{if◌then◌else◌, nat_lt, codes}
 use Rattle.om_model.specs.Bytes.{AreBytes}
 use Rattle.om_model.specs.declared.refusal.ReadRefusal.{ReadRefusal}
@@ -9,12 +9,11 @@ use Rattle.om_outcome.specs.Outcome.{Said, nothing_said, says, stops, line, Lang
 use Rattle.om_outcome.specs.RefusalText.{refusal_text, truncated_text}
 use Rattle.om_outcome.specs.declared.stop.Stop.{Stop}
 use Rattle.om_outcome.specs.declared.stop.Stop.TheVariants.{Value as value, Uncertified as uncertified_value, SectionsLeft as sections_left}
-use Rattle.om_promises.specs.Commands.{Item, value as value_item, GoesOn}
+use Rattle.om_promises.specs.Commands.{Item, GoesOn}
 use Rattle.om_promises.specs.Lawful.{IsOnce, IsInner, AreLawfulAt}
-use Rattle.om_promises.proofs.LengthLemmas.{spelled_some}
 use Rattle.om_promises.proofs.ValueLemmas.{spell_after}
 use Rattle.om_commands.specs.Tasks.{IsFirstValue}
-use Rattle.om_commands.proofs.ItemLemmas.{tree_once, value_once, end_once, no_tail, both_same}
+use Rattle.om_commands.proofs.ItemLemmas.{tree_once, value_once, end_once, no_tail, first_once, first_front, first_stays, both_same}
 use Rattle.om_commands.proofs.StayLemmas.{tail_after}
 use Rattle.om_verification.specs.Verification.{Shown, shows, rejects, Verification, IsShown, SaysOf, IsUncertified, ComesUncertified, ComesRefused, StopsHere, EndsBy, EndsHere, ReadsSections, verifying}
 
@@ -49,11 +48,7 @@ module _ {T S : Type 0} (ShownBy : T → S → Tree → Shown → Type 0) (a : V
         (bytes : List ℕ) (item : Item) (more later : List ℕ)
         → IsFirstValue language a.limit bytes item more
         → IsFirstValue language a.limit (bytes ++ later) item (more ++ later)
-    item_stays bytes item more later h = record {
-      tree = h.tree;
-      is = h.is;
-      spelled = spell_after a.limit bytes more later (h.tree ∷ []) h.spelled;
-    }
+    item_stays bytes item more later h = first_stays language a.limit bytes item more later h
 
     module _ (items : List Item) (rest : List ℕ) (are_bytes : AreBytes rest) (end : End)
         (tail : IsTail a.limit rest end)
@@ -178,22 +173,6 @@ module _ {T S : Type 0} (ShownBy : T → S → Tree → Shown → Type 0) (a : V
   -- ---- the laws
 
   module _ {D E : Type 0} (language : Language D T E) (Reads : ReadsSections S) where
-    item_once :
-        (bytes : List ℕ) → AreBytes bytes → (item other : Item) (more rest : List ℕ)
-        → IsFirstValue language a.limit bytes item more
-        → IsFirstValue language a.limit bytes other rest → (item ≡ other) × (more ≡ rest)
-    item_once bytes are_bytes item other more rest h k =
-        let one = value_once a.limit bytes are_bytes h.tree k.tree more rest h.spelled k.spelled in
-        (h.is ∙ (ap value_item one.0 ∙ sym k.is), one.1)
-
-    item_front :
-        (bytes : List ℕ) (item : Item) (more : List ℕ)
-        → IsFirstValue language a.limit bytes item more
-        → (first : List ℕ) × (bytes ≡ first ++ more) × (0 < length first)
-    item_front bytes item more h =
-        let s = h.spelled in
-        (s.0, s.2 ∙ ap (λ m. s.0 ++ m) s.4, spelled_some a.limit s.0 h.tree s.3)
-
     said_apart :
         (items : List Item) (bytes : List ℕ) → AreBytes bytes
         → (item : Item) (more : List ℕ) (said : Said) (stop : Stop)
@@ -211,12 +190,12 @@ module _ {T S : Type 0} (ShownBy : T → S → Tree → Shown → Type 0) (a : V
 
     pub lawful_at : AreLawfulAt (verifying language Reads ShownBy) a
     lawful_at = record {
-      first_once = λ items. item_once;
+      first_once = λ items. first_once language a.limit;
       says_once = said_once;
       stops_once = stop_once;
       ends_once = end_reply_once;
-      front = λ items. item_front;
-      item_stays = λ items. item_stays ShownBy a language Reads;
+      front = λ items. first_front language a.limit;
+      item_stays = λ items. first_stays language a.limit;
       stop_stays = stop_stays ShownBy a;
       stops_inside = stop_inner;
       ends_inside = λ items bytes stop h. end_inner (length items) h.0 stop h.2;

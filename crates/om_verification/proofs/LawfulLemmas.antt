@@ -1,19 +1,12 @@
 -- The command is lawful, where the language is, and what it reads is read in one way.
-use Rattle.std.proofs.Common.{◌≡◌, ◌⊎◌, ℕ, List, inl, inr}
 use Rattle.om_format.specs.Tree.{Tree}
-use Rattle.om_outcome.specs.Outcome.{Found, opened, whole, Language}
-use Rattle.om_promises.specs.Lawful.{IsWhole, AreLawful}
+use Rattle.om_outcome.specs.Outcome.{Language}
+use Rattle.om_promises.specs.Lawful.{AreLawful}
 use Rattle.om_promises.specs.LawfulLanguage.{IsLawful}
+use Rattle.om_commands.proofs.FindLemmas.{whole_or}
 use Rattle.om_verification.specs.Verification.{Shown, ReadsSections, verifying, AreReadOnce}
 use Rattle.om_verification.proofs.FindLemmas.{finds_once, wants_once, finds_by, wanted_read, finds_inside, found_given}
 use Rattle.om_verification.proofs.ItemLemmas.{lawful_at}
-
--- a file that is read is whole
-whole_or :
-    {X : Type 0} (found : Found) → ((bytes : List ℕ) × (found ≡ opened (whole bytes))) ⊎ X
-    → IsWhole found ⊎ X
-whole_or found (inl read) = inl (inl read)
-whole_or found (inr stops) = inr stops
 
 pub verifying_lawful :
     {D T E S : Type 0} (language : Language D T E) (Reads : ReadsSections S)

@@ -9,19 +9,19 @@ use Rattle.om_outcome.specs.declared.status.Status.TheVariants.{Types, ReadFault
 use Rattle.om_outcome.specs.Outcome.{Request, status_of, ending_of, Said, Reply, stops, Replies, replies, Language, ReadsFile, ReadsTypeOf}
 use Rattle.om_outcome.specs.RefusalText.{refusal_text, truncated_text}
 use Rattle.om_outcome.specs.declared.stop.Stop.{Stop}
-use Rattle.om_outcome.specs.declared.stop.Stop.TheVariants.{Declarations as declarations, RequestedType as requested_type, Value as value, Certificate as certificate_line, Uncertified as uncertified_value}
+use Rattle.om_outcome.specs.declared.stop.Stop.TheVariants.{Value as value, Certificate as certificate_line, Uncertified as uncertified_value}
 use Rattle.om_promises.specs.Commands.{Fetches, HoldStop}
 use Rattle.om_promises.specs.Promises.{HoldEnd}
 use Rattle.om_promises.proofs.StreamLemmas.{spell_bytes, spell_append}
 use Rattle.om_causes.specs.Causes.{HaveStops, HaveEnds, HaveBars, AreExact}
 use Rattle.om_commands.specs.Tasks.{items_of}
 use Rattle.om_commands.proofs.ItemLemmas.{items_length}
-use Rattle.om_meanings.specs.Stages.{IsRefusedType}
 use Rattle.om_meanings.proofs.SaidLemmas.{stop_status}
-use Rattle.om_meanings.proofs.StageLemmas.{IsOfFile, file_status}
+use Rattle.om_meanings.proofs.StageLemmas.{file_bar, type_stop, refused_stop}
+use Rattle.om_meanings.specs.Numbered.{HoldsOfAll}
 use Rattle.om_meanings.proofs.StopLemmas.{spell_before}
 use Rattle.om_verification.specs.Verification.{Shown, Verification, IsUncertified, ComesUncertified, ComesRefused, StopsHere, EndsBy, Asked, typed_of, verified_by, ReadsSections, Wants, Finds, verifying}
-use Rattle.om_verification.specs.Meanings.{HoldsOfAll, HasSection, EndWith, StopWith, RefusesTypes, RefusesCertificate, IsUnread, Bar, certificate_tables}
+use Rattle.om_verification.specs.Meanings.{HasSection, EndWith, StopWith, RefusesTypes, RefusesCertificate, IsUnread, Bar, certificate_tables}
 use Rattle.om_verification.proofs.ItemLemmas.{goes_on}
 use Rattle.om_verification.proofs.SaidLemmas.{AreSaid, all_have, finish_of, say_some, finish_said, says_first, say_first}
 
@@ -229,44 +229,29 @@ module _ {D T E S : Type 0} (language : Language D T E) (Reads : ReadsSections S
         (turn : ℕ) (name : List ℕ) → Wants language Reads ShownBy request files turn name
         → (stop : Stop) → ReadsFile name (files turn name) (Err stop) → BarBy stop
     unread turn name wants stop fault =
-        by (status_of stop) refl (file_status name (files turn name) stop fault) where
-          so : (status : Status) → status_of stop ≡ status
-              → IsUnread language Reads ShownBy request files status
-          so status is =
-              record { turn = turn; name = name; wants = wants; stop = stop; fault = fault; is = is }
-
-          by : (status : Status) → status_of stop ≡ status → IsOfFile status
-              → Bar language Reads ShownBy request files status
-          by status is (inl e) =
-              subst (Bar language Reads ShownBy request files) (sym e) (so ReadFault (is ∙ e))
-          by status is (inr (inl e)) =
-              subst (Bar language Reads ShownBy request files) (sym e) (so OpenFault (is ∙ e))
-          by status is (inr (inr e)) =
-              subst (Bar language Reads ShownBy request files) (sym e) (so TooLong (is ∙ e))
+        file_bar (Bar language Reads ShownBy request files) (IsUnread language Reads ShownBy request files)
+        (λ u. u) (λ u. u) (λ u. u) name (files turn name) stop fault (λ status is. record {
+          turn = turn;
+          name = name;
+          wants = wants;
+          stop = stop;
+          fault = fault;
+          is = is;
+        })
 
     module _ (asked : Asked) (is_asked : verified_by request ≡ Some asked) where
       type_bar :
           (stop : Stop) → ReadsTypeOf language (files 0) (typed_of asked) (Err stop) → BarBy stop
-      type_bar stop (Err s, fault, is) =
-          let same : s ≡ stop = cc is in
-          subst BarBy same (unread 0 asked.file (asked, is_asked, inl (refl, refl)) s fault)
-      type_bar stop (Ok text, read, (Err s, (refusal, refuses, e), is)) =
-          let same : stop ≡ s = cc is in
-          subst BarBy (sym (same ∙ e)) (record {
+      type_bar stop reads =
+          type_stop language BarBy (files 0) asked.file asked.type stop reads
+          (λ s fault. unread 0 asked.file (asked, is_asked, inl (refl, refl)) s fault)
+          (λ s text is read refused. subst (Bar language Reads ShownBy request files) (sym is) (record {
             asked = asked;
             is_asked = is_asked;
             text = text;
             read = read;
-            is_refused = inl (refusal, refuses);
-          })
-      type_bar stop (Ok text, read, (Ok d, reads, (refusal, refuses, e))) =
-          subst BarBy (sym e) (record {
-            asked = asked;
-            is_asked = is_asked;
-            text = text;
-            read = read;
-            is_refused = inr (d, refusal, reads, refuses);
-          })
+            is_refused = refused;
+          }))
 
     bar_of : (stop : Stop) → Finds language Reads ShownBy request files (Err stop) → BarBy stop
     bar_of stop (asked, is, (Err s, reads, e)) =
@@ -304,20 +289,10 @@ module _ {D T E S : Type 0} (language : Language D T E) (Reads : ReadsSections S
     by_type asked is stop reads = (asked, is, (Err stop, reads, refl))
 
     types_found : RefusesTypes language Reads ShownBy request files → HasStopBefore Types
-    types_found r = by r.is_refused where
-      by : IsRefusedType language r.text r.asked.type → HasStopBefore Types
-      by (inl (refusal, refuses)) = (
-        declarations refusal,
-        refl,
-        by_type r.asked r.is_asked (declarations refusal)
-            (Ok r.text, r.read, (Err (declarations refusal), (refusal, refuses, refl), refl)),
-      )
-      by (inr (d, refusal, reads, refuses)) = (
-        requested_type refusal,
-        refl,
-        by_type r.asked r.is_asked (requested_type refusal)
-            (Ok r.text, r.read, (Ok d, reads, (refusal, refuses, refl))),
-      )
+    types_found r =
+        let s =
+        refused_stop language (files 0) r.asked.file r.asked.type r.text r.read r.is_refused in
+        (s.0, s.1, by_type r.asked r.is_asked s.0 s.2)
 
     certificate_found :
         RefusesCertificate language Reads ShownBy request files → HasStopBefore Certificate

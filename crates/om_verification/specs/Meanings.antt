@@ -15,29 +15,25 @@
 --
 -- Neither the values nor the files cause another. What 6, 7, 9 and 10 mean of the input, of out and
 -- of memory is the same for all commands: it stands in om_promises.
-use Rattle.std.specs.Prelude.{ℕ, suc, ◌<◌, ◌≡◌, ◌≢◌, ◌⊎◌, Bool, true, false, List, [], ◌∷◌, ◌++◌, length, Some, Ok, Err}
+use Rattle.std.specs.Prelude.{ℕ, ◌<◌, ◌≡◌, ◌≢◌, ◌⊎◌, Bool, true, false, List, [], ◌∷◌, ◌++◌, length}
+use Rattle.std.specs.Prelude.{Some, Ok, Err}
 use Rattle.om_model.specs.declared.refusal.ReadRefusal.{ReadRefusal}
 use Rattle.om_format.specs.Stream.{SpellAll, refused, cut, IsTail}
 use Rattle.om_format.specs.Tree.{Tree}
 use Rattle.om_outcome.specs.declared.status.Status.{Status}
-use Rattle.om_outcome.specs.declared.status.Status.TheVariants.{Well, No, Types, Value, Script, ReadFault, OpenFault, TooLong, Compat, Certificate}
-use Rattle.om_outcome.specs.Outcome.{whole, opened, Request, status_of, ReadsFile, ReadsTypeOf, Language}
+use Rattle.om_outcome.specs.declared.status.Status.TheVariants.{Well, No, Types, Value, Script}
+use Rattle.om_outcome.specs.declared.status.Status.TheVariants.{ReadFault, OpenFault, TooLong}
+use Rattle.om_outcome.specs.declared.status.Status.TheVariants.{Compat, Certificate}
+use Rattle.om_outcome.specs.Outcome.{whole, opened, Request, status_of, ReadsFile, ReadsTypeOf}
+use Rattle.om_outcome.specs.Outcome.{Language}
 use Rattle.om_outcome.specs.declared.stop.Stop.{Stop}
 use Rattle.om_promises.specs.Call.{Call}
 use Rattle.om_promises.specs.Commands.{Fetches}
 use Rattle.om_causes.specs.Causes.{Tables}
+use Rattle.om_meanings.specs.Numbered.{HoldsOfAll, HoldsOfSome}
 use Rattle.om_meanings.specs.Stages.{IsRefusedType}
-use Rattle.om_verification.specs.Verification.{Shown, shows, Verification, IsShown, IsUncertified, Asked, typed_of, verified_by, ReadsSections, Wants}
-
--- this holds of each value with its number, the first of which is given
-abbrev pub HoldsOfAll : (ℕ → Tree → Type 0) → ℕ → List Tree → Type 0
-HoldsOfAll Holds number [] = Unit {0}
-HoldsOfAll Holds number (tree ∷ trees) = Holds number tree × HoldsOfAll Holds (suc number) trees
-
--- it holds of some of them
-abbrev pub HoldsOfSome : (ℕ → Tree → Type 0) → ℕ → List Tree → Type 0
-HoldsOfSome Holds number [] = ⊥
-HoldsOfSome Holds number (tree ∷ trees) = Holds number tree ⊎ HoldsOfSome Holds (suc number) trees
+use Rattle.om_verification.specs.Verification.{Shown, shows, Verification, IsShown, IsUncertified}
+use Rattle.om_verification.specs.Verification.{Asked, typed_of, verified_by, ReadsSections, Wants}
 
 module _ {T S : Type 0} (ShownBy : T → S → Tree → Shown → Type 0) (a : Verification T S) where
   -- the value has a section that is accepted, and shows whether nothing is wrong with it

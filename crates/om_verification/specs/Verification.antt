@@ -1,13 +1,19 @@
 -- The command that verifies a certificate of the values of the input, in the general form: an item
 -- is a value, and the section with its number shows something of it.
-use Rattle.std.specs.Prelude.{ℕ, ◌≡◌, ◌⊎◌, Bool, if◌then◌else◌, nat_lt, List, [], ◌∷◌, ◌++◌, length, slice_get, Option, Some, None, Result, Ok, codes}
+use Rattle.std.specs.Prelude.{ℕ, ◌≡◌, ◌⊎◌, Bool, if◌then◌else◌, nat_lt, List, [], ◌∷◌, ◌++◌, length}
+use Rattle.std.specs.Prelude.{slice_get, Option, Some, None, Result, Ok, codes}
 use Rattle.om_model.specs.declared.refusal.ReadRefusal.{ReadRefusal}
 use Rattle.om_format.specs.Stream.{SpellAll, End, clean, refused, cut, IsTail}
 use Rattle.om_format.specs.Tree.{Tree}
-use Rattle.om_outcome.specs.Outcome.{Found, Request, AskedType, asked_type, own, verify, Said, nothing_said, Reply, says, stops, line, Language, Then, OrRefusal, ReadsFile, ReadsTypeOf}
+use Rattle.om_outcome.specs.Outcome.{Found, Request, AskedType, asked_type, own, verify, Said}
+use Rattle.om_outcome.specs.Outcome.{nothing_said, Reply, says, stops, line, Language, Then}
+use Rattle.om_outcome.specs.Outcome.{OrRefusal, ReadsFile, ReadsTypeOf}
 use Rattle.om_outcome.specs.RefusalText.{refusal_text, truncated_text}
 use Rattle.om_outcome.specs.declared.stop.Stop.{Stop}
-use Rattle.om_outcome.specs.declared.stop.Stop.TheVariants.{Value as value, Certificate as certificate_line, Uncertified as uncertified_value, SectionsLeft as sections_left}
+use Rattle.om_outcome.specs.declared.stop.Stop.TheVariants.{Value as value}
+use Rattle.om_outcome.specs.declared.stop.Stop.TheVariants.{Certificate as certificate_line}
+use Rattle.om_outcome.specs.declared.stop.Stop.TheVariants.{Uncertified as uncertified_value}
+use Rattle.om_outcome.specs.declared.stop.Stop.TheVariants.{SectionsLeft as sections_left}
 use Rattle.om_promises.specs.Commands.{Item, value as value_item, Fetches, Commands}
 use Rattle.om_promises.specs.Lawful.{IsOnce}
 use Rattle.om_promises.specs.LawfulLanguage.{IsGiven}
