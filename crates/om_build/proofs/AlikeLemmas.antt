@@ -9,7 +9,7 @@ use Rattle.om_types.specs.Shape.{shape}
 use Rattle.om_types.specs.Ty.{Ty}
 use Rattle.om_types.specs.TypeText.{type_text}
 use Rattle.om_table.proofs.DecideLemmas.{root_is_first}
-use Rattle.om_type_table.specs.declared.table.TypeTable.{TypeTable}
+use Rattle.om_type_table.specs.declared.tabled.Tabled.{Tabled}
 use Rattle.om_type_table.specs.Made.{types_of, IsTypeTable}
 use Rattle.om_fault.specs.Text.{text_at}
 use Rattle.om_literal.specs.declared.fault.LiteralFault.{LiteralFault}
@@ -64,7 +64,7 @@ reason_is (misfit_at place i) = refl
 reason_is (int_range_at place) = refl
 reason_is (label_at place) = refl
 
-module _ (t : TypeOver) (table : TypeTable) (made : IsTypeTable t.decls t.type table)
+module _ (t : TypeOver) (table : Tabled) (made : IsTypeTable t.decls t.type table)
     (lexemes : List Lexeme) (end : ℕ) where
   abbrev IsPutIn : Answer ℕ → Type 0
   IsPutIn answer =

@@ -37,7 +37,7 @@ use Rattle.om_stops.specs.declared.stop.Halt.TheVariants as halts
 use Rattle.om_declared.specs.Bytes.{PutsBytes}
 use Rattle.om_declared.specs.Language.{TypeOver}
 use Rattle.om_declared.specs.Types.{type_over, IsReady}
-use Rattle.om_declared.specs.declared.types.Requested.{Requested}
+use Rattle.om_declared.specs.declared.requested.Prepared.{Prepared}
 use Rattle.om_declared.proofs.GivenLemmas.{ready_each}
 use Rattle.om_declared.proofs.VerdictLemmas.{is_first, made as made_for}
 use Rattle.om_texts.specs.Texts.{Built, made as made_of, put_bytes}
@@ -88,7 +88,7 @@ few_made graph v tree is_graph valid of =
 
 -- ---- the line
 
-module _ (r : Requested) (ready : IsReady r) (line : List ℕ) (graph : List Obj) (v : Val)
+module _ (r : Prepared) (ready : IsReady r) (line : List ℕ) (graph : List Obj) (v : Val)
     (root_first : TheRootIsFirst) (decide : TablesDecide) (alike : RootsShowAlike)
     (same_types : DeclaredTypesAreKept) (same_texts : DeclaredTextsAreKept)
     (readable : SpelledAreReadable) (again : TextsAreReadAgain)

@@ -9,7 +9,7 @@ use Rattle.om_format.specs.Iso.{IsTreeOf}
 use Rattle.om_format.specs.Compat.{TooLargeFor32, too_large_for_32}
 use Rattle.om_format.specs.Tree.{Tree}
 use Rattle.om_types.specs.TypeText.{type_text}
-use Rattle.om_type_table.specs.declared.table.TypeTable.{TypeTable}
+use Rattle.om_type_table.specs.declared.tabled.Tabled.{Tabled}
 use Rattle.om_lex.specs.declared.lexeme.LexFault.TheVariants as lexer
 use Rattle.om_literal.specs.declared.fault.LiteralFault.TheVariants as literals
 use Rattle.om_lines.specs.Lines.{place_on}
@@ -29,14 +29,14 @@ use Rattle.om_declared.specs.Bytes.{PutsBytes}
 use Rattle.om_declared.specs.Checked.{ChecksType}
 use Rattle.om_declared.specs.Language.{TypeOver, bytes_for, AreBytesOf}
 use Rattle.om_declared.specs.Types.{type_over, IsReady}
-use Rattle.om_declared.specs.declared.types.Requested.{Requested}
+use Rattle.om_declared.specs.declared.requested.Prepared.{Prepared}
 use Rattle.om_texts.specs.Texts.{blank, made, refused, untyped, put_bytes}
 use Rattle.om_build.specs.Given.{given_fault}
 use Rattle.om_build.specs.Lines.{IsText, IsMade, plain_texts, decimals_if, plain_if, told_on}
 use Rattle.om_build.specs.Steps.{IsFaultText, ReadsLine, HaltsBy, PutsValue, PutsBy, PutsLine}
 use Rattle.om_build.proofs.AlikeLemmas.{value_alike, fault_alike}
 
-module _ (r : Requested) (ready : IsReady r) (told : ℕ → ℕ → List ℕ) (line : List ℕ)
+module _ (r : Prepared) (ready : IsReady r) (told : ℕ → ℕ → List ℕ) (line : List ℕ)
     (new : List Obj) where
   -- ---- what is read
 
@@ -86,7 +86,7 @@ module _ (r : Requested) (ready : IsReady r) (told : ℕ → ℕ → List ℕ) (
 
 -- a fault with its places moved has the text of the fault whose places are told so
 pub told_moved :
-    (table : TypeTable) (lines : Bool) (decimals : List Decimal) (number : ℕ) (fault : TextFault)
+    (table : Tabled) (lines : Bool) (decimals : List Decimal) (number : ℕ) (fault : TextFault)
     (result : Result (List ℕ) Memory)
     → IfOk result (IsFaultText table (place_on lines number) (given_fault decimals fault))
     → IfOk result (IsFaultText table (told_on lines decimals number) fault)
@@ -124,7 +124,7 @@ never_none graph root why (tree, of, is) =
     let e : ◌≡◌ {A = Result (List ℕ) Unedited} (Err why) (Ok (canon tree)) =
     is ∙ plain_bytes tree (too_large_for_32 tree) in cc e
 
-module _ (r : Requested) (k : ℕ) (graph : List Obj) (root : Val) where
+module _ (r : Prepared) (k : ℕ) (graph : List Obj) (root : Val) where
   -- the value has not the type, or memory ran out
   pub check_halts :
       (told : ℕ → ℕ → List ℕ) (line : List ℕ) (number : ℕ)
@@ -195,7 +195,7 @@ module _ (r : Requested) (k : ℕ) (graph : List Obj) (root : Val) where
 
 -- ---- a line
 
-module _ (r : Requested) (told : ℕ → ℕ → List ℕ) (line : List ℕ) (number k : ℕ) where
+module _ (r : Prepared) (told : ℕ → ℕ → List ℕ) (line : List ℕ) (number k : ℕ) where
   -- by `?`
   pub line_halts :
       (out : Change ByteState) (halt : Halt) (result : Result ℕ Halt)

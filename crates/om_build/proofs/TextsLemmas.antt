@@ -17,7 +17,7 @@ use Rattle.std.proofs.lemmas.Bool.Decides.{Decides-eqb}
 use Rattle.om_work.proofs.FirstLemmas.{first_stays, first_next}
 use Rattle.om_declared.specs.Language.{TypeOver, declared_types}
 use Rattle.om_declared.specs.Types.{type_over}
-use Rattle.om_declared.specs.declared.types.Requested.{Requested}
+use Rattle.om_declared.specs.declared.requested.Prepared.{Prepared}
 use Rattle.om_texts.specs.Texts.{Built, blank, made, refused, untyped, counted, IsUnbroken, IsLine, IsSaidOf, AreTexts, StopsBy, building}
 use Rattle.om_texts.proofs.LineLemmas.{line_stays}
 use Rattle.om_texts.proofs.SaidLemmas.{fine_of}
@@ -100,7 +100,7 @@ few_texts t (text line ∷ items) n (built, of, more, texts, e) =
       at_most_one (refused refusal) = omega arith
       at_most_one (untyped fault) = omega arith
 
-module _ (r : Requested) (held : List ℕ) (lines texts : ℕ) (bytes : List ℕ) (said : List Said)
+module _ (r : Prepared) (held : List ℕ) (lines texts : ℕ) (bytes : List ℕ) (said : List Said)
     (h : HasTexts r held lines texts bytes said) where
   -- what comes after the last line feed is no whole line
   abbrev pub texts_hold : HoldNoStop (building declared_types declared_texts) (type_over r) bytes said

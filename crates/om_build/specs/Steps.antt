@@ -15,18 +15,18 @@ use Rattle.om_stops.specs.declared.stop.Halt.{Halt}
 use Rattle.om_stops.specs.declared.stop.Halt.TheVariants as halts
 use Rattle.om_promises.specs.Commands.{Item, SaysFirst}
 use Rattle.om_work.specs.Works.{Has, HaltsIn}
-use Rattle.om_type_table.specs.declared.table.TypeTable.{TypeTable}
+use Rattle.om_type_table.specs.declared.tabled.Tabled.{Tabled}
 use Rattle.om_text.specs.declared.text.TextFault.{TextFault}
 use Rattle.om_text.specs.declared.text.TextFault.TheVariants as faults
 use Rattle.om_declared.specs.Checked.{OrMemory}
 use Rattle.om_declared.specs.Language.{TypeOver, declared_types}
 use Rattle.om_declared.specs.Types.{type_over, IsReady}
-use Rattle.om_declared.specs.declared.types.Requested.{Requested}
+use Rattle.om_declared.specs.declared.requested.Prepared.{Prepared}
 use Rattle.om_texts.specs.Texts.{Built, blank, made, refused, untyped, counted, IsUnbroken, IsSaidOf, AreTexts, building}
 use Rattle.om_build.specs.Lines.{declared_texts, plain_texts, IsText}
 
 -- the text of a fault, where places are told so; want of memory has none
-abbrev pub IsFaultText : TypeTable → (told : ℕ → List ℕ) → TextFault → List ℕ → Type 0
+abbrev pub IsFaultText : Tabled → (told : ℕ → List ℕ) → TextFault → List ℕ → Type 0
 IsFaultText table told (faults.Lex fault) text = text ≡ lexer_text told fault
 IsFaultText table told (faults.Literal fault) text =
     text ≡ literal_or_none (text_at table) told (literal_reason fault)
@@ -81,7 +81,7 @@ PutsLine t text line k out result = PutsBy (declared_texts t text) line k out re
 
 -- Of these bytes the lines were taken, each fine, of which this is said; and what comes after the
 -- last line feed is held.
-pub record HasTexts (requested : Requested) (held : List ℕ) (lines texts : ℕ) (bytes : List ℕ)
+pub record HasTexts (requested : Prepared) (held : List ℕ) (lines texts : ℕ) (bytes : List ℕ)
     (said : List Said) : Type 0 where
   pub ready : IsReady requested
   pub items : List Item

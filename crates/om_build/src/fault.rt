@@ -1,6 +1,6 @@
 //! The texts of the faults of lines.
 
-ghost use Rattle.std.specs.Prelude.{◌<◌, ◌^◌, length, All, IfOk};
+ghost use Rattle.std.specs.Prelude.{◌<◌, ◌^◌, IfOk};
 ghost use Rattle.om_lines.specs.Lines.{place_on};
 ghost use Rattle.om_decimal_texts.specs.Plain.{AreWithin};
 ghost use Rattle.om_build.specs.Lines.{told_on};
@@ -26,7 +26,6 @@ fn placed_fault_text(
     number: u64,
     fault: TextFault,
 ) -> Result<List<u8>, Memory>
-    requires { All (λ i. i < length table.now.store) table.now.stored }
     ensures { IfOk result (IsFaultText table.now (place_on lines number) fault) }
 {
     let places = Places::of_line(lines, number);
@@ -47,7 +46,6 @@ pub fn line_fault_text(
     number: u64,
     fault: TextFault,
 ) -> Result<List<u8>, Memory>
-    requires stored { All (λ i. i < length table.now.store) table.now.stored }
     requires within { AreWithin 0 decimals.now (2 ^ 63) }
     ensures { IfOk result
         (IsFaultText table.now (told_on lines decimals.now number) fault) }

@@ -1,12 +1,12 @@
 //! Long texts that `show` put: a value is guessed, and kept where it has the type and the text.
 
-ghost use Rattle.std.specs.Prelude.{◌≡◌, length, IfOk, IfSome, IsTrue};
+ghost use Rattle.std.specs.Prelude.{length, IfOk, IfSome, IsTrue};
 ghost use Rattle.om_model.specs.Graph.{IsValue};
 ghost use Rattle.om_types.specs.Table.{table_shapes};
 ghost use Rattle.om_types.specs.Typing.{HasType};
 ghost use Rattle.om_type_table.specs.Made.{table_of};
 ghost use Rattle.om_guess.specs.Spelled.{AreSpelled};
-ghost use Rattle.om_declared.specs.Types.{type_over, IsReady};
+ghost use Rattle.om_declared.specs.Types.{type_over};
 ghost use Rattle.om_build.specs.Guessed.{IsRight};
 
 use om_check::Verdict;
@@ -20,7 +20,6 @@ use om_show::laws::roots_show_alike;
 use om_table::tables_decide;
 use om_text::texts_are_read_again;
 use om_type_table::TypeTable;
-use om_type_table::laws::tables_are_lawful;
 use std::alloc::Global;
 
 /// The table is looked through for each text that is guessed, which has so many bytes for each of
@@ -29,7 +28,6 @@ const BYTES_A_TYPE: usize = 64;
 
 /// Whether a text is long beside the table, and the names of this are read back.
 fn is_worth_it(table: &TypeTable, line: &[u8]) -> bool
-    requires { length table.now.names ≡ length table.now.nodes }
     ensures { IsTrue result → AreSpelled table.now }
 {
     line.len() / BYTES_A_TYPE >= table.len() && is_spelled(table)
@@ -38,7 +36,6 @@ fn is_worth_it(table: &TypeTable, line: &[u8]) -> bool
 /// Whether a value has the type.
 fn is_typed(alloc: Global, heap: &Heap, root: Val, requested: &Requested) -> Result<bool, Memory>
     requires value { IsValue (length heap.now) root }
-    requires ready { IsReady requested.now }
     ensures { IfOk result
         (λ typed. IsTrue typed
         → HasType (table_shapes (table_of requested.now.table)) heap.now root 0) }
@@ -58,13 +55,12 @@ fn is_told(
     line: &[u8],
 ) -> Result<bool, Memory>
     requires value { IsValue (length heap.now) root }
-    requires ready { IsReady requested.now }
     requires spelled { AreSpelled requested.now.table }
     requires typed { HasType (table_shapes (table_of requested.now.table)) heap.now root 0 }
     ensures { IfOk result
         (λ right. IsTrue right → IsRight (type_over requested.now) line.now heap.now root) }
 {
-    tables_are_lawful();
+    requested.holds();
     tables_decide();
     roots_show_alike();
     the_same_has_the_same_types();
@@ -74,7 +70,7 @@ fn is_told(
     if heap.count() >= 1 << 62 {
         return Ok(false);
     }
-    has_text(alloc, heap, root, &requested.table, line)
+    has_text(alloc, heap, root, requested.table(), line)
 }
 
 /// Whether a value is one that a line stands for: whether it has the type, and the text.
@@ -86,7 +82,6 @@ fn is_right(
     line: &[u8],
 ) -> Result<bool, Memory>
     requires value { IsValue (length heap.now) root }
-    requires ready { IsReady requested.now }
     requires spelled { AreSpelled requested.now.table }
     ensures { IfOk result
         (λ right. IsTrue right → IsRight (type_over requested.now) line.now heap.now root) }
@@ -105,14 +100,14 @@ pub fn guess_line(
     requested: &Requested,
     line: &[u8],
 ) -> Result<Option<Val>, Memory>
-    requires { IsReady requested.now }
     ensures { IfOk result
         (λ found. IfSome found (IsRight (type_over requested.now) line.now heap.new)) }
 {
-    if !is_worth_it(&requested.table, line) {
+    let table = requested.table();
+    if !is_worth_it(table, line) {
         return Ok(None);
     }
-    let Some(root) = guess(alloc, heap, &requested.table, line)? else {
+    let Some(root) = guess(alloc, heap, table, line)? else {
         return Ok(None);
     };
     if !is_right(alloc, heap, root, requested, line)? {

@@ -5,7 +5,7 @@ ghost use Rattle.om_model.specs.Graph.{IsValue};
 ghost use Rattle.om_edge.specs.State.{change};
 ghost use Rattle.om_decimal_texts.specs.Plain.{decimals_in, plain_text, AreWithin};
 ghost use Rattle.om_declared.specs.Language.{TypeOver};
-ghost use Rattle.om_declared.specs.Types.{type_over, IsReady};
+ghost use Rattle.om_declared.specs.Types.{type_over};
 ghost use Rattle.om_build.specs.Guessed.{IsRight};
 ghost use Rattle.om_build.specs.Lines.{IsText, plain_texts, told_on};
 ghost use Rattle.om_build.specs.Steps.{ReadsLine, PutsValue, PutsBy, PutsLine};
@@ -33,24 +33,18 @@ fn read_line(
     decimals: &[Decimal],
     number: u64,
 ) -> Result<Option<Val>, Halt>
-    requires ready { IsReady requested.now }
     requires within { AreWithin 0 decimals.now (2 ^ 63) }
     ensures { ReadsLine (type_over requested.now) (told_on requested.now.lines decimals.now)
         text.now number heap.new result }
 {
     tables_read_alike();
-    match read_text(alloc, heap, &requested.table, text) {
+    requested.holds();
+    let table = requested.table();
+    match read_text(alloc, heap, table, text) {
         Ok(value) => Ok(value),
         Err(TextFault::Memory) => Err(Halt::Stop(Stop::Memory)),
         Err(fault) => {
-            let told = line_fault_text(
-                alloc,
-                &requested.table,
-                requested.lines,
-                decimals,
-                number,
-                fault,
-            )?;
+            let told = line_fault_text(alloc, table, requested.lines(), decimals, number, fault)?;
             Err(Halt::Stop(Stop::Text(number, told)))
         }
     }
@@ -67,7 +61,6 @@ fn put_value<K: Sink>(
     out: &mut K,
 ) -> Result<(), Halt>
     requires value { IsValue (length heap.now) root }
-    requires ready { IsReady requested.now }
     ensures { (text : List ℕ) (told : ℕ → ℕ → List ℕ) (place : ℕ)
         → IsText (type_over requested.now) text (Ok (heap.now, root))
         → PutsValue (plain_texts (type_over requested.now) told text) place number
@@ -89,7 +82,6 @@ fn put_read<K: Sink>(
     texts: u64,
     out: &mut K,
 ) -> Result<u64, Halt>
-    requires ready { IsReady requested.now }
     requires within { AreWithin 0 decimals.now (2 ^ 63) }
     requires few { texts + 1 < 2 ^ 64 }
     ensures { PutsBy (plain_texts (type_over requested.now)
@@ -137,7 +129,6 @@ fn put_text<K: Sink>(
     texts: u64,
     out: &mut K,
 ) -> Result<u64, Halt>
-    requires ready { IsReady requested.now }
     requires within { AreWithin 0 decimals.now (2 ^ 63) }
     requires few { texts + 1 < 2 ^ 64 }
     ensures { PutsBy (plain_texts (type_over requested.now)
@@ -162,7 +153,6 @@ fn put_given<K: Sink>(
     texts: u64,
     out: &mut K,
 ) -> Result<u64, Halt>
-    requires ready { IsReady requested.now }
     requires few { texts + 1 < 2 ^ 64 }
     ensures { PutsBy (plain_texts (type_over requested.now)
         (told_on requested.now.lines (decimals_in line.now)) (plain_text line.now)) number texts
@@ -194,12 +184,11 @@ pub fn put_line<K: Sink>(
     texts: u64,
     out: &mut K,
 ) -> Result<u64, Halt>
-    requires ready { IsReady requested.now }
     requires few { texts + 1 < 2 ^ 64 }
     ensures { PutsLine (type_over requested.now) line.now number texts
         (change (K.state out.old) (K.state out.new)) result }
 {
-    if requested.decimal {
+    if requested.decimal() {
         put_given(alloc, heap, plain, requested, line, number, texts, out)
     } else {
         put_text(alloc, heap, requested, line, &[], number, texts, out)

@@ -3,7 +3,7 @@
 ghost use Rattle.std.specs.Prelude.{◌≡◌, ◌++◌, ◌+◌, ◌<◌, ◌^◌, ℕ, List, [], length, OnOk};
 ghost use Rattle.om_outcome.specs.Outcome.{Said};
 ghost use Rattle.om_edge.specs.State.{change};
-ghost use Rattle.om_declared.specs.Types.{type_over, IsReady};
+ghost use Rattle.om_declared.specs.Types.{type_over};
 ghost use Rattle.om_texts.specs.Texts.{IsUnbroken};
 ghost use Rattle.om_build.specs.Steps.{HasTexts, TakesLine};
 
@@ -42,11 +42,11 @@ pub struct Texts<'a> {
 impl<'a> Texts<'a> {
     /// No byte was taken.
     pub fn new(alloc: Global, requested: &'a Requested) -> Texts<'a>
-        requires { IsReady requested.now }
         ensures requested { result.requested ≡ requested.entry }
         ensures has { HasTexts result.requested.now result.held.items result.lines result.texts
             [] [] }
     {
+        requested.holds();
         Texts {
             requested,
             held: Vec::new(alloc),

@@ -6,15 +6,15 @@ ghost use Rattle.om_model.specs.Graph.{IsValue};
 ghost use Rattle.om_model.specs.declared.value.Val.{Val};
 ghost use Rattle.om_types.specs.Table.{table_shapes};
 ghost use Rattle.om_types.specs.Typing.{IsHeld};
-ghost use Rattle.om_type_table.specs.Made.{table_of, IsLawful};
+ghost use Rattle.om_type_table.specs.Made.{table_of};
 ghost use Rattle.om_heap.specs.Heap.{word_of, IsFieldWord};
 ghost use Rattle.om_scan.specs.Fitting.{table_in};
-ghost use Rattle.om_cert.specs.Testing.{AreAllThere, IsStart, IsPassing, IsSame, IsCrowd, IsAmongAt, IsSettled, IsElsewhere};
+ghost use Rattle.om_cert.specs.Testing.{IsStart, IsPassing, IsSame, IsCrowd, IsAmongAt, IsSettled, IsElsewhere};
 
-use om_heap::Heap;
+use crate::stated::Stated;
 use om_model::Memory;
 use om_model::value::Val;
-use om_scan::{Fitting, fits_type};
+use om_scan::fits_type;
 use om_section::Pairs;
 use om_type_table::TypeTable;
 use std::alloc::Global;
@@ -198,28 +198,22 @@ pub fn is_elsewhere_behind(
 
 /// Whether the value of a word is held at a type: it fits, and where it is a reference some pair has
 /// its object at an equal type.
-pub fn is_held(
-    heap: &Heap,
-    fitting: Fitting<'_>,
-    pairs: &Pairs,
-    crowd: &BTreeSet<(u64, usize)>,
-    word: u64,
-    ty: usize,
-) -> bool
-    requires word { IsFieldWord heap.now word }
-    requires lawful { IsLawful (table_in fitting) }
-    requires there { AreAllThere (table_in fitting) heap.now pairs.now }
-    requires crowd { IsCrowd (table_in fitting) pairs.now crowd.now }
-    requires ty { ty < length fitting.table.now.nodes }
-    ensures { (v : Val) → IsValue (length heap.now) v → word ≡ word_of heap.now v → IsTrue result
-        ↔ IsHeld (table_shapes (table_in fitting.entry)) heap.now pairs.now v ty }
+pub fn is_held(stated: Stated<'_>, crowd: &BTreeSet<(u64, usize)>, word: u64, ty: usize) -> bool
+    requires word { IsFieldWord stated.heap.now word }
+    requires crowd { IsCrowd (table_in stated.fitting) stated.pairs.now crowd.now }
+    requires ty { ty < length stated.fitting.table.now.nodes }
+    ensures { (v : Val) → IsValue (length stated.entry.heap.now) v → word ≡ word_of
+        stated.entry.heap.now v → IsTrue result ↔ IsHeld (table_shapes (table_in
+        stated.entry.fitting)) stated.entry.heap.now stated.entry.pairs.now v ty }
 {
-    let _count = heap.count();
-    if !fits_type(heap, fitting, ty, word) {
+    stated.fitting.table.holds();
+    let _count = stated.heap.count();
+    if !fits_type(stated.heap, stated.fitting, ty, word) {
         return false;
     }
     if word % 8 != 0 {
         return true;
     }
-    is_among(fitting.table, pairs, crowd, heap.number(word), ty)
+    let object = stated.heap.number(word);
+    is_among(stated.fitting.table, stated.pairs, crowd, object, ty)
 }

@@ -2,7 +2,7 @@
 
 ghost use Rattle.std.specs.Prelude.{◌≡◌, ◌<◌, ◌↔◌, length, IfOk, IsTrue, MatchOption};
 ghost use Rattle.om_model.specs.Graph.{IsValue};
-ghost use Rattle.om_type_table.specs.Made.{table_of, IsLawful};
+ghost use Rattle.om_type_table.specs.Made.{table_of};
 ghost use Rattle.om_scan.specs.Fitting.{table_in};
 ghost use Rattle.om_cert.specs.Testing.{AreAllThere, IsFirstOut, IsThereNow};
 ghost use Rattle.om_cert.specs.Verified.{Shows, IsOneAnswer, IsVerified, fault_section};
@@ -10,6 +10,7 @@ ghost use Rattle.om_section.specs.declared.section.Section.TheVariants as sectio
 
 use crate::held::{crowd_of, is_held};
 use crate::right::are_accepted;
+use crate::stated::Stated;
 use crate::test::test_pair;
 use crate::verified::{Verified, Why};
 use om_fault::is_fault;
@@ -33,11 +34,11 @@ pub fn verify(
     section: &Section,
 ) -> Result<Verified, Memory>
     requires value { IsValue (length heap.now) root }
-    requires lawful { IsLawful (table_of table.now) }
     ensures answer { IfOk result (IsVerified (table_of table.now) heap.now root section.now) }
     ensures shows { IfOk result (Shows (table_of table.now) heap.now root) }
     ensures one { IfOk result (IsOneAnswer (table_of table.now) heap.now root section.now) }
 {
+    table.holds();
     answer_of(alloc, heap, root, table, section)
 }
 
@@ -50,7 +51,6 @@ fn answer_of(
     section: &Section,
 ) -> Result<Verified, Memory>
     requires value { IsValue (length heap.now) root }
-    requires lawful { IsLawful (table_of table.now) }
     ensures { IfOk result (IsVerified (table_of table.now) heap.now root section.now) }
 {
     match section {
@@ -81,7 +81,6 @@ fn copied(alloc: Global, path: &Path) -> Result<Path, Memory>
 /// Whether the paths that are stated are a fault.
 fn verify_fault(heap: &Heap, root: Val, table: &TypeTable, fault: Fault) -> Verified
     requires value { IsValue (length heap.now) root }
-    requires lawful { IsLawful (table_of table.now) }
     ensures { IsVerified (table_of table.now) heap.now root (fault_section fault) result }
 {
     if is_fault(heap, root, table, &fault) {
@@ -93,15 +92,13 @@ fn verify_fault(heap: &Heap, root: Val, table: &TypeTable, fault: Fault) -> Veri
 
 /// Whether the object and the type of a pair are there.
 fn is_there(heap: &Heap, table: &TypeTable, pair: (u64, u64)) -> bool
-    requires lawful { IsLawful (table_of table.now) }
     ensures { IsTrue result ↔ IsThereNow (table_of table.now) heap.now pair }
 {
-    pair.0 < heap.count() && pair.1 < table.nodes.len() as u64
+    pair.0 < heap.count() && pair.1 < table.count() as u64
 }
 
 /// The first pair whose object or type is not there.
 fn first_out(heap: &Heap, table: &TypeTable, pairs: &Pairs) -> Option<usize>
-    requires lawful { IsLawful (table_of table.now) }
     ensures { MatchOption result (AreAllThere (table_of table.now) heap.now pairs.now)
         (IsFirstOut (table_of table.now) heap.now pairs.now) }
 {
@@ -114,15 +111,14 @@ fn first_out(heap: &Heap, table: &TypeTable, pairs: &Pairs) -> Option<usize>
 }
 
 /// Whether the pairs justify one another and hold the root.
-fn verify_pairs(
+fn verify_pairs<'a>(
     alloc: Global,
-    heap: &Heap,
+    heap: &'a Heap,
     root: Val,
-    table: &TypeTable,
-    pairs: &Pairs,
+    table: &'a TypeTable,
+    pairs: &'a Pairs,
 ) -> Result<Verified, Memory>
     requires value { IsValue (length heap.now) root }
-    requires lawful { IsLawful (table_of table.now) }
     ensures { IfOk result
         (IsVerified (table_of table.now) heap.now root (sections.Pairs pairs.now)) }
 {
@@ -131,40 +127,36 @@ fn verify_pairs(
     }
     let rows = rows_of(alloc, heap, table)?;
     let fitting = Fitting { table, rows: &rows };
-    if are_accepted(heap, root, fitting, pairs) {
+    let stated = Stated {
+        heap,
+        fitting,
+        pairs,
+    };
+    if are_accepted(root, stated) {
         return Ok(Verified::Yes);
     }
-    verify_each(alloc, heap, root, fitting, pairs)
+    verify_each(alloc, root, stated)
 }
 
 /// The same pair by pair, where the objects and types of all are there: so what is first wrong is
 /// told.
-fn verify_each(
-    alloc: Global,
-    heap: &Heap,
-    root: Val,
-    fitting: Fitting<'_>,
-    pairs: &Pairs,
-) -> Result<Verified, Memory>
-    requires value { IsValue (length heap.now) root }
-    requires lawful { IsLawful (table_in fitting) }
-    requires there { AreAllThere (table_in fitting) heap.now pairs.now }
-    ensures { IfOk result
-        (IsVerified (table_in fitting.entry) heap.now root (sections.Pairs pairs.now)) }
+fn verify_each(alloc: Global, root: Val, stated: Stated<'_>) -> Result<Verified, Memory>
+    requires value { IsValue (length stated.heap.now) root }
+    ensures { IfOk result (IsVerified (table_in stated.entry.fitting) stated.entry.heap.now root
+        (sections.Pairs stated.entry.pairs.now)) }
 {
-    let crowd = crowd_of(alloc, fitting.table, pairs)?;
-    for i in 0..pairs.len() {
-        if let Some(why) = test_pair(heap, fitting, pairs, &crowd, i) {
+    stated.fitting.table.holds();
+    let crowd = crowd_of(alloc, stated.fitting.table, stated.pairs)?;
+    for i in 0..stated.pairs.len() {
+        if let Some(why) = test_pair(stated, &crowd, i) {
             return Ok(Verified::Rejected(why));
         }
     }
     if is_held(
-        heap,
-        fitting,
-        pairs,
+        stated,
         &crowd,
-        heap.word(root),
-        fitting.table.root(),
+        stated.heap.word(root),
+        stated.fitting.table.root(),
     ) {
         Ok(Verified::Yes)
     } else {

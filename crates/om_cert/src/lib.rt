@@ -6,6 +6,7 @@ mod held;
 mod judge;
 mod laws;
 mod right;
+mod stated;
 mod test;
 mod verified;
 

@@ -8,18 +8,18 @@ ghost use Rattle.om_model.specs.declared.value.Val.TheVariants as vals;
 ghost use Rattle.om_heap.specs.Heap.{word_of, IsFieldWord, IsReferenceWord};
 ghost use Rattle.om_types.specs.Fitting.{is_mutable_block};
 ghost use Rattle.om_types.specs.Table.{table_shapes, typed_fields, is_asked_in};
-ghost use Rattle.om_type_table.specs.Made.{table_of, IsLawful};
+ghost use Rattle.om_type_table.specs.Made.{table_of};
 ghost use Rattle.om_fits.specs.Needs.{needs_in};
 ghost use Rattle.om_scan.specs.Fitting.{table_in};
 ghost use Rattle.om_cert.specs.Accepted.{AreAccepted};
-ghost use Rattle.om_cert.specs.Testing.{AreAllThere, IsElsewhere, StandsAt, HoldsAll, AreRight};
+ghost use Rattle.om_cert.specs.Testing.{IsElsewhere, StandsAt, HoldsAll, AreRight};
 ghost use Rattle.om_cert.specs.Right.{AllFit, IsBacked, IsWorded, IsRightWithAll};
 
 use crate::held::{is_among_few, is_elsewhere_behind};
+use crate::stated::Stated;
 use om_fits::{Needs, is_asked, is_mutable, known_needs};
-use om_heap::Heap;
 use om_model::value::Val;
-use om_scan::{Fitting, fits_type};
+use om_scan::fits_type;
 use om_section::Pairs;
 use om_type_table::TypeTable;
 use om_types::shape::{Constr, ShapeOf};
@@ -35,33 +35,30 @@ pub struct Worded {
 /// Whether the pairs are accepted for a value at the type that is number 0. Where they are this
 /// mostly tells it: not for objects of more than 16 pairs, nor for one that may be changed and stands
 /// at two equal types.
-pub fn are_accepted(heap: &Heap, root: Val, fitting: Fitting<'_>, pairs: &Pairs) -> bool
-    requires value { IsValue (length heap.now) root }
-    requires lawful { IsLawful (table_in fitting) }
-    requires there { AreAllThere (table_in fitting) heap.now pairs.now }
-    ensures { OnTrue result
-        (AreAccepted (table_shapes (table_in fitting.entry)) heap.now root 0 pairs.now) }
+pub fn are_accepted(root: Val, stated: Stated<'_>) -> bool
+    requires value { IsValue (length stated.heap.now) root }
+    ensures { OnTrue result (AreAccepted (table_shapes (table_in stated.entry.fitting))
+        stated.entry.heap.now root 0 stated.entry.pairs.now) }
 {
-    let ty = fitting.table.root();
-    if pairs.len() == 0 || !is_asked(fitting.table.shape(ty)) || !are_right(heap, fitting, pairs) {
+    stated.fitting.table.holds();
+    let ty = stated.fitting.table.root();
+    if stated.pairs.len() == 0 || !is_asked(stated.fitting.table.shape(ty)) || !are_right(stated) {
         return false;
     }
-    let near = pair_at(heap, fitting.table, pairs, 0);
-    is_backed(heap, fitting, pairs, near, heap.word(root), ty)
+    let near = pair_at(stated, 0);
+    is_backed(stated, near, stated.heap.word(root), ty)
 }
 
 /// Whether all pairs are right. Where they are this tells it, but for those named above.
-fn are_right(heap: &Heap, fitting: Fitting<'_>, pairs: &Pairs) -> bool
-    requires some { 0 < length pairs.now }
-    requires lawful { IsLawful (table_in fitting) }
-    requires there { AreAllThere (table_in fitting) heap.now pairs.now }
-    ensures { OnTrue result
-        (AreRight (table_in fitting.entry) heap.now pairs.now (length pairs.now)) }
+fn are_right(stated: Stated<'_>) -> bool
+    requires some { 0 < length stated.pairs.now }
+    ensures { OnTrue result (AreRight (table_in stated.entry.fitting) stated.entry.heap.now
+        stated.entry.pairs.now (length stated.entry.pairs.now)) }
 {
-    let mut own = pair_at(heap, fitting.table, pairs, 0);
-    for i in 0..pairs.len() {
-        let next = pair_at(heap, fitting.table, pairs, i + 1);
-        if !is_right(heap, fitting, pairs, i, own, next) {
+    let mut own = pair_at(stated, 0);
+    for i in 0..stated.pairs.len() {
+        let next = pair_at(stated, i + 1);
+        if !is_right(stated, i, own, next) {
             return false;
         }
         own = next;
@@ -81,113 +78,100 @@ fn place_or_last(len: usize, i: usize) -> usize
 
 /// Pair i and the word of its object, or the last pair where there are no so many.
 #[inline(always)]
-fn pair_at(heap: &Heap, _table: &TypeTable, pairs: &Pairs, i: usize) -> Worded
-    requires some { 0 < length pairs.now }
-    requires there { AreAllThere (table_of _table.now) heap.now pairs.now }
-    ensures { IsWorded heap.now pairs.now i result }
+fn pair_at(stated: Stated<'_>, i: usize) -> Worded
+    requires some { 0 < length stated.pairs.now }
+    ensures { IsWorded stated.entry.heap.now stated.entry.pairs.now i result }
 {
-    let place = place_or_last(pairs.len(), i);
-    let (object, number) = pairs.at(place);
+    let place = place_or_last(stated.pairs.len(), i);
+    let (object, number) = stated.pairs.at(place);
     Worded {
         object,
         ty: number as usize,
-        word: heap.word(Val::Ref(object)),
+        word: stated.heap.word(Val::Ref(object)),
     }
 }
 
 /// Whether pair i fits, and is right if all pairs fit. Another pair is at hand, mostly that of its
 /// object's last field.
 #[inline(always)]
-fn is_right(
-    heap: &Heap,
-    fitting: Fitting<'_>,
-    pairs: &Pairs,
-    i: usize,
-    own: Worded,
-    near: Worded,
-) -> bool
-    requires in_range { i < length pairs.now }
-    requires lawful { IsLawful (table_in fitting) }
-    requires there { AreAllThere (table_in fitting) heap.now pairs.now }
-    requires own { IsWorded heap.now pairs.now i own }
-    requires near { StandsAt (table_in fitting) heap.now pairs.now near.word near.ty }
-    ensures { OnTrue result (IsRightWithAll (table_in fitting.entry) heap.now pairs.now i) }
+fn is_right(stated: Stated<'_>, i: usize, own: Worded, near: Worded) -> bool
+    requires in_range { i < length stated.pairs.now }
+    requires own { IsWorded stated.heap.now stated.pairs.now i own }
+    requires near { StandsAt (table_in stated.fitting) stated.heap.now stated.pairs.now near.word
+        near.ty }
+    ensures { OnTrue result (IsRightWithAll (table_in stated.entry.fitting) stated.entry.heap.now
+        stated.entry.pairs.now i) }
 {
-    if !fits_type(heap, fitting, own.ty, own.word) {
+    if !fits_type(stated.heap, stated.fitting, own.ty, own.word) {
         return false;
     }
-    let shape = fitting.table.shape(own.ty);
+    let shape = stated.fitting.table.shape(own.ty);
     match shape {
         ShapeOf::Sum(_, blocks) if is_one_constant(blocks.as_slice()) => {
-            holds_needs(heap, fitting, pairs, i, own, near, shape)
+            holds_needs(stated, i, own, near, shape)
         }
-        ShapeOf::Product(false, _) => holds_needs(heap, fitting, pairs, i, own, near, shape),
-        ShapeOf::Bytes(false) => holds_needs(heap, fitting, pairs, i, own, near, shape),
-        ShapeOf::Double => holds_needs(heap, fitting, pairs, i, own, near, shape),
-        _ => is_any_right(heap, fitting, pairs, i, own, near, shape),
+        ShapeOf::Product(false, _) => holds_needs(stated, i, own, near, shape),
+        ShapeOf::Bytes(false) => holds_needs(stated, i, own, near, shape),
+        ShapeOf::Double => holds_needs(stated, i, own, near, shape),
+        _ => is_any_right(stated, i, own, near, shape),
     }
 }
 
 /// The same of any pair that fits.
 #[inline(never)]
 fn is_any_right(
-    heap: &Heap,
-    fitting: Fitting<'_>,
-    pairs: &Pairs,
+    stated: Stated<'_>,
     i: usize,
     own: Worded,
     near: Worded,
     shape: &ShapeOf<usize>,
 ) -> bool
-    requires in_range { i < length pairs.now }
-    requires lawful { IsLawful (table_in fitting) }
-    requires there { AreAllThere (table_in fitting) heap.now pairs.now }
-    requires own { IsWorded heap.now pairs.now i own }
-    requires near { StandsAt (table_in fitting) heap.now pairs.now near.word near.ty }
-    requires shape { slice_get fitting.table.now.nodes own.ty ≡ Some shape.now }
-    requires fits { (table_shapes (table_in fitting)).fits heap.now (vals.Ref own.object)
-        own.ty }
-    ensures { OnTrue result (IsRightWithAll (table_in fitting.entry) heap.now pairs.now i) }
+    requires in_range { i < length stated.pairs.now }
+    requires own { IsWorded stated.heap.now stated.pairs.now i own }
+    requires near { StandsAt (table_in stated.fitting) stated.heap.now stated.pairs.now near.word
+        near.ty }
+    requires shape { slice_get stated.fitting.table.now.nodes own.ty ≡ Some shape.now }
+    requires fits { (table_shapes (table_in stated.fitting)).fits stated.heap.now (vals.Ref
+        own.object) own.ty }
+    ensures { OnTrue result (IsRightWithAll (table_in stated.entry.fitting) stated.entry.heap.now
+        stated.entry.pairs.now i) }
 {
-    if is_mutable(heap, own.object, shape)
-        && !is_at_one_type(fitting.table, pairs, i, own.object, own.ty)
+    stated.fitting.table.holds();
+    if is_mutable(stated.heap, own.object, shape)
+        && !is_at_one_type(stated.fitting.table, stated.pairs, i, own.object, own.ty)
     {
         return false;
     }
-    holds_needs(heap, fitting, pairs, i, own, near, shape)
+    holds_needs(stated, i, own, near, shape)
 }
 
 /// The same of a pair that fits, and is at one type where it is mutable. It is compiled anew for
 /// each kind of shape whose objects cannot be changed.
 #[inline(always)]
 fn holds_needs(
-    heap: &Heap,
-    fitting: Fitting<'_>,
-    pairs: &Pairs,
+    stated: Stated<'_>,
     _i: usize,
     own: Worded,
     near: Worded,
     shape: &ShapeOf<usize>,
 ) -> bool
-    requires in_range { _i < length pairs.now }
-    requires lawful { IsLawful (table_in fitting) }
-    requires there { AreAllThere (table_in fitting) heap.now pairs.now }
-    requires own { IsWorded heap.now pairs.now _i own }
-    requires near { StandsAt (table_in fitting) heap.now pairs.now near.word near.ty }
-    requires shape { slice_get fitting.table.now.nodes own.ty ≡ Some shape.now }
-    requires fits { (table_shapes (table_in fitting)).fits heap.now (vals.Ref own.object)
-        own.ty }
-    requires one_type { (u : ℕ) → Contains pairs.now (own.object, u)
-        → (table_shapes (table_in fitting)).mutable heap.now own.object own.ty
-        → (table_shapes (table_in fitting)).equal own.ty u }
-    ensures { OnTrue result (IsRightWithAll (table_in fitting.entry) heap.now pairs.now _i) }
+    requires in_range { _i < length stated.pairs.now }
+    requires own { IsWorded stated.heap.now stated.pairs.now _i own }
+    requires near { StandsAt (table_in stated.fitting) stated.heap.now stated.pairs.now near.word
+        near.ty }
+    requires shape { slice_get stated.fitting.table.now.nodes own.ty ≡ Some shape.now }
+    requires fits { (table_shapes (table_in stated.fitting)).fits stated.heap.now (vals.Ref
+        own.object) own.ty }
+    requires one_type { (u : ℕ) → Contains stated.pairs.now (own.object, u)
+        → (table_shapes (table_in stated.fitting)).mutable stated.heap.now own.object own.ty
+        → (table_shapes (table_in stated.fitting)).equal own.ty u }
+    ensures { OnTrue result (IsRightWithAll (table_in stated.entry.fitting) stated.entry.heap.now
+        stated.entry.pairs.now _i) }
 {
-    let Some(needs) = known_needs(heap, own.object, shape) else {
+    let Some(needs) = known_needs(stated.heap, own.object, shape) else {
         return false;
     };
-    are_backed(
-        heap, fitting, pairs, own.object, own.ty, own.word, near, needs,
-    )
+    are_backed(stated, own.object, own.ty, own.word, near, needs)
 }
 
 /// Whether there is one constructor with arguments, whose blocks cannot be changed.
@@ -220,73 +204,61 @@ fn is_at_one_type(table: &TypeTable, pairs: &Pairs, i: usize, object: u64, ty: u
 /// Whether an object, which has this word, holds all that it needs at a type, if all pairs fit.
 #[inline(always)]
 fn are_backed(
-    heap: &Heap,
-    fitting: Fitting<'_>,
-    pairs: &Pairs,
+    stated: Stated<'_>,
     object: u64,
     ty: usize,
     word: u64,
     near: Worded,
     needs: Needs<'_>,
 ) -> bool
-    requires object { object < length heap.now }
-    requires word { word ≡ word_of heap.now (vals.Ref object) }
-    requires ty { ty < length fitting.table.now.nodes }
-    requires lawful { IsLawful (table_in fitting) }
-    requires there { AreAllThere (table_in fitting) heap.now pairs.now }
-    requires needs { typed_fields (table_in fitting) heap.now (vals.Ref object) ty
+    requires object { object < length stated.heap.now }
+    requires word { word ≡ word_of stated.heap.now (vals.Ref object) }
+    requires ty { ty < length stated.fitting.table.now.nodes }
+    requires needs { typed_fields (table_in stated.fitting) stated.heap.now (vals.Ref object) ty
         ≡ needs_in needs }
-    requires near { StandsAt (table_in fitting) heap.now pairs.now near.word near.ty }
-    ensures { OnTrue result (AllFit (table_in fitting.entry) heap.now pairs.now
-        → HoldsAll (table_in fitting.entry) heap.now pairs.now object ty) }
+    requires near { StandsAt (table_in stated.fitting) stated.heap.now stated.pairs.now near.word
+        near.ty }
+    ensures { OnTrue result (AllFit (table_in stated.entry.fitting) stated.entry.heap.now
+        stated.entry.pairs.now → HoldsAll (table_in stated.entry.fitting) stated.entry.heap.now
+        stated.entry.pairs.now object ty) }
 {
     match needs {
-        Needs::Listed(types) => each_backed(
-            heap,
-            fitting,
-            pairs,
-            object,
-            ty,
-            word,
-            near,
-            Needs::Listed(types),
-        ),
-        _ => each_backed(heap, fitting, pairs, object, ty, word, near, needs),
+        Needs::Listed(types) => each_backed(stated, object, ty, word, near, Needs::Listed(types)),
+        _ => each_backed(stated, object, ty, word, near, needs),
     }
 }
 
 /// The same, compiled anew for each kind of needs.
 #[inline(always)]
 fn each_backed(
-    heap: &Heap,
-    fitting: Fitting<'_>,
-    pairs: &Pairs,
+    stated: Stated<'_>,
     _object: u64,
     _ty: usize,
     word: u64,
     near: Worded,
     needs: Needs<'_>,
 ) -> bool
-    requires object { _object < length heap.now }
-    requires word { word ≡ word_of heap.now (vals.Ref _object) }
-    requires ty { _ty < length fitting.table.now.nodes }
-    requires lawful { IsLawful (table_in fitting) }
-    requires there { AreAllThere (table_in fitting) heap.now pairs.now }
-    requires needs { typed_fields (table_in fitting) heap.now (vals.Ref _object) _ty
+    requires object { _object < length stated.heap.now }
+    requires word { word ≡ word_of stated.heap.now (vals.Ref _object) }
+    requires ty { _ty < length stated.fitting.table.now.nodes }
+    requires needs { typed_fields (table_in stated.fitting) stated.heap.now (vals.Ref _object) _ty
         ≡ needs_in needs }
-    requires near { StandsAt (table_in fitting) heap.now pairs.now near.word near.ty }
-    ensures { OnTrue result (AllFit (table_in fitting.entry) heap.now pairs.now
-        → HoldsAll (table_in fitting.entry) heap.now pairs.now _object _ty) }
+    requires near { StandsAt (table_in stated.fitting) stated.heap.now stated.pairs.now near.word
+        near.ty }
+    ensures { OnTrue result (AllFit (table_in stated.entry.fitting) stated.entry.heap.now
+        stated.entry.pairs.now → HoldsAll (table_in stated.entry.fitting) stated.entry.heap.now
+        stated.entry.pairs.now _object _ty) }
 {
+    stated.fitting.table.holds();
     if needs.len() == 0 {
         return true;
     }
-    let _count = heap.count();
-    let words = heap.fields_at(word);
+    let _count = stated.heap.count();
+    let words = stated.heap.fields_at(word);
     for k in 0..needs.len() {
         let (field, ty) = needs.get(k);
         let value = words[field as usize];
-        if !is_backed(heap, fitting, pairs, near, value, ty) {
+        if !is_backed(stated, near, value, ty) {
             return false;
         }
     }
@@ -295,49 +267,43 @@ fn each_backed(
 
 /// Whether the value of a word is held at a type of which something is asked, if all pairs fit.
 #[inline(always)]
-fn is_backed(
-    heap: &Heap,
-    fitting: Fitting<'_>,
-    pairs: &Pairs,
-    near: Worded,
-    word: u64,
-    ty: usize,
-) -> bool
-    requires word { IsFieldWord heap.now word }
-    requires lawful { IsLawful (table_in fitting) }
-    requires there { AreAllThere (table_in fitting) heap.now pairs.now }
-    requires ty { ty < length fitting.table.now.nodes }
-    requires near { StandsAt (table_in fitting) heap.now pairs.now near.word near.ty }
-    ensures { OnTrue result (IsBacked (table_in fitting.entry) heap.now pairs.now word ty) }
+fn is_backed(stated: Stated<'_>, near: Worded, word: u64, ty: usize) -> bool
+    requires word { IsFieldWord stated.heap.now word }
+    requires ty { ty < length stated.fitting.table.now.nodes }
+    requires near { StandsAt (table_in stated.fitting) stated.heap.now stated.pairs.now near.word
+        near.ty }
+    ensures { OnTrue result (IsBacked (table_in stated.entry.fitting) stated.entry.heap.now
+        stated.entry.pairs.now word ty) }
 {
-    let _count = heap.count();
+    stated.fitting.table.holds();
+    let _count = stated.heap.count();
     if word % 8 != 0 {
-        return fits_type(heap, fitting, ty, word);
+        return fits_type(stated.heap, stated.fitting, ty, word);
     }
     if word == near.word && ty == near.ty {
         return true;
     }
-    is_listed(heap, fitting.table, pairs, word, ty)
+    is_listed(stated, word, ty)
 }
 
 /// Whether some pair has the object of a word at an equal type, if something is asked of the type.
 #[inline(always)]
-fn is_listed(heap: &Heap, table: &TypeTable, pairs: &Pairs, word: u64, ty: usize) -> bool
-    requires word { IsReferenceWord heap.now word }
-    requires lawful { IsLawful (table_of table.now) }
-    requires there { AreAllThere (table_of table.now) heap.now pairs.now }
-    requires ty { ty < length table.now.nodes }
-    ensures { OnTrue result (IsTrue (is_asked_in (table_of table.now) ty)
-        → StandsAt (table_of table.now) heap.now pairs.now word ty) }
+fn is_listed(stated: Stated<'_>, word: u64, ty: usize) -> bool
+    requires word { IsReferenceWord stated.heap.now word }
+    requires ty { ty < length stated.fitting.table.now.nodes }
+    ensures { OnTrue result (IsTrue (is_asked_in (table_in stated.entry.fitting) ty)
+        → StandsAt (table_in stated.entry.fitting) stated.entry.heap.now stated.entry.pairs.now
+        word ty) }
 {
-    let object = heap.number(word);
-    if is_at_own_place(pairs, object, ty) {
+    stated.fitting.table.holds();
+    let object = stated.heap.number(word);
+    if is_at_own_place(stated.pairs, object, ty) {
         return true;
     }
-    if !is_asked(table.shape(ty)) {
+    if !is_asked(stated.fitting.table.shape(ty)) {
         return true;
     }
-    is_among_few(table, pairs, object, ty)
+    is_among_few(stated.fitting.table, stated.pairs, object, ty)
 }
 
 /// Whether the pair stands at the place of its object's number.

@@ -12,7 +12,7 @@ use Rattle.om_promises.specs.Account.{IsWanted, FetchesIn, FetchesFor, Account}
 use Rattle.om_promises.specs.Call.{call}
 use Rattle.om_promises.specs.Commands.{Fetches, Prepares}
 use Rattle.om_promises.specs.Given.{Fetched}
-use Rattle.om_declared.specs.declared.types.Requested.{Requested}
+use Rattle.om_declared.specs.declared.requested.Prepared.{Prepared}
 use Rattle.om_declared.specs.Language.{TypeOver}
 use Rattle.om_declared.specs.Types.{type_over, GivesType}
 use Rattle.om_work.specs.Reported.{HasAccount}
@@ -78,7 +78,7 @@ module _ (words : List (List ℕ)) (file type : List ℕ) (lines : Bool) (readin
 
   -- the values are certified at the type
   pub values_account :
-      (r : Requested) → GivesType file (asked_type type lines) found (Ok r)
+      (r : Prepared) → GivesType file (asked_type type lines) found (Ok r)
       → (input out err : Change ByteState) (status : Status)
       → HasAccount on_certified_after (certified_after r reading) input out err status
       → Account on_certified_after words (call input files out err status)

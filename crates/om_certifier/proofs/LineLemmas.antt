@@ -14,7 +14,7 @@ use Rattle.om_section.specs.declared.section.Section.TheVariants as sections
 use Rattle.om_section.specs.Format.{section_text}
 use Rattle.om_certify.specs.Certified.{IsCertified}
 use Rattle.om_outcome.specs.Outcome.{Said}
-use Rattle.om_declared.specs.declared.types.Requested.{Requested}
+use Rattle.om_declared.specs.declared.requested.Prepared.{Prepared}
 use Rattle.om_declared.specs.Types.{type_over, IsReady}
 use Rattle.om_declared.proofs.GivenLemmas.{ready_each, ready_some_not}
 use Rattle.om_declared.proofs.VerdictLemmas.{is_first, made}
@@ -30,7 +30,7 @@ said_of number section text well is same =
       said : List ℕ → Bool → Said
       said text well = record { text = text; well = well }
 
-module _ (r : Requested) (ready : IsReady r) (graph : List Obj) (root : Val)
+module _ (r : Prepared) (ready : IsReady r) (graph : List Obj) (root : Val)
     (root_first : TheRootIsFirst) (decide : TablesDecide) (same_faults : TablesHaveTheLeastFault)
   where
     least_is :

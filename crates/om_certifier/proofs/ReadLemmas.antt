@@ -36,7 +36,7 @@ use Rattle.om_commands.specs.Tasks.{IsFirstValue}
 use Rattle.om_commands.proofs.FirstLemmas.{front_end}
 use Rattle.om_work.specs.Works.{ItemsStay, HaltsIn, PutsLast}
 use Rattle.om_work.proofs.FirstLemmas.{first_stays, first_next}
-use Rattle.om_declared.specs.declared.types.Requested.{Requested}
+use Rattle.om_declared.specs.declared.requested.Prepared.{Prepared}
 use Rattle.om_declared.specs.Language.{TypeOver, declared_types}
 use Rattle.om_declared.specs.Types.{type_over, IsReady}
 use Rattle.om_certification.specs.Certification.{Certification, StopsHere}
@@ -45,7 +45,7 @@ use Rattle.om_certifier.specs.Certified.{SaysSection, declared_certificates, on_
 use Rattle.om_certifier.specs.Reading.{certified, PutsSection, HasRead, IsValueRead, PutsNext}
 
 -- a value stays one when bytes follow
-pub values_stay : (r : Requested) (limit : ℕ) → ItemsStay on_certified (certified r limit)
+pub values_stay : (r : Prepared) (limit : ℕ) → ItemsStay on_certified (certified r limit)
 values_stay r limit items = item_stays declared_certificates (certified r limit) declared_types
 
 -- what is said of a value in memory is said of its tree
@@ -59,7 +59,7 @@ said_read t number value tree said is says =
 
 -- what was read stays for equal types, least numbers and limits
 pub has_same :
-    (r s : Requested) (leasts others : List ℕ) (limit most : ℕ) (reader : Reader) (count : ℕ)
+    (r s : Prepared) (leasts others : List ℕ) (limit most : ℕ) (reader : Reader) (count : ℕ)
     (well : Bool) (taken : List ℕ) (said : List Said) → r ≡ s → leasts ≡ others → limit ≡ most
     → HasRead r leasts limit reader count well taken said
     → HasRead s others most reader count well taken said
@@ -68,7 +68,7 @@ has_same r s leasts others limit most reader count well taken said e f g h =
     (subst (λ o. HasRead r o most reader count well taken said) f
     (subst (λ m. HasRead r leasts m reader count well taken said) g h))
 
-module _ (r : Requested) (leasts : List ℕ) (limit : ℕ) where
+module _ (r : Prepared) (leasts : List ℕ) (limit : ℕ) where
   abbrev a : Certification TypeOver
   a = certified r limit
 

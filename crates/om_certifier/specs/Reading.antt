@@ -14,7 +14,7 @@ use Rattle.om_stops.specs.declared.stop.Halt.{Halt}
 use Rattle.om_stops.specs.declared.stop.Halt.TheVariants as halts
 use Rattle.om_promises.specs.Commands.{Item, SaysFirst}
 use Rattle.om_work.specs.Works.{AreSaid}
-use Rattle.om_declared.specs.declared.types.Requested.{Requested}
+use Rattle.om_declared.specs.declared.requested.Prepared.{Prepared}
 use Rattle.om_declared.specs.Language.{TypeOver}
 use Rattle.om_declared.specs.Types.{type_over, IsReady}
 use Rattle.om_certification.specs.Certification.{Certification}
@@ -24,11 +24,11 @@ use Rattle.om_passing.specs.Skipping.{Passed}
 use Rattle.om_certifier.specs.Certified.{SaysSection, on_certified}
 
 -- what is done
-abbrev pub certified : Requested → ℕ → Certification TypeOver
+abbrev pub certified : Prepared → ℕ → Certification TypeOver
 certified r limit = record { type = type_over r; limit = limit }
 
 -- and what is passed over before
-abbrev pub certified_after : Requested → Reading → Passed × Certification TypeOver
+abbrev pub certified_after : Prepared → Reading → Passed × Certification TypeOver
 certified_after r reading =
     (record { bytes = reading.skip; copied = false }, certified r reading.limit)
 
@@ -44,7 +44,7 @@ PutsSection t number graph v out (Err halts.WriteFault) =
     (text : List ℕ) × (well : Bool)
     × SaysSection t number graph v (record { text = text; well = well }) × PutsPart out text
 
-module _ (r : Requested) (leasts : List ℕ) (limit : ℕ) (reader : Reader) (count : ℕ) (well : Bool)
+module _ (r : Prepared) (leasts : List ℕ) (limit : ℕ) (reader : Reader) (count : ℕ) (well : Bool)
     (taken : List ℕ) (said : List Said) where
   -- Of these bytes the reader has taken what comes after the values, a front of the next one; this
   -- is said of the values.
@@ -74,7 +74,7 @@ module _ (r : Requested) (leasts : List ℕ) (limit : ℕ) (reader : Reader) (co
 
 -- What is said of the value that is there, after these, is put, and the reader waits for the next
 -- one; or memory ran out, and nothing is put; or out failed.
-abbrev pub PutsNext : {U : Type 0} → Requested → List ℕ → ℕ → Reader → ℕ → Bool → List ℕ
+abbrev pub PutsNext : {U : Type 0} → Prepared → List ℕ → ℕ → Reader → ℕ → Bool → List ℕ
     → List Said → Change ByteState → Result U Halt → Type 0
 PutsNext r leasts limit reader count well taken said out (Ok unit) =
     (next : Said) × HasRead r leasts limit reader count well taken (said ++ next ∷ [])

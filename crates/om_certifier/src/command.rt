@@ -9,7 +9,6 @@ ghost use Rattle.om_edge.specs.State.{change};
 ghost use Rattle.om_promises.specs.Account.{Account};
 ghost use Rattle.om_promises.specs.Call.{call};
 ghost use Rattle.om_work.specs.Reported.{HasAccount};
-ghost use Rattle.om_declared.specs.Types.{IsReady};
 ghost use Rattle.om_certifier.specs.Certified.{on_certified_after};
 ghost use Rattle.om_certifier.specs.Reading.{certified_after};
 
@@ -36,7 +35,6 @@ fn certify_values<S: Source, K: Sink, E: Sink>(
     out: &mut K,
     err: &mut E,
 ) -> Status
-    requires ready { IsReady requested.now }
     requires leasts { AreLeasts (table_of requested.now.table) leasts.now }
     ensures { HasAccount on_certified_after (certified_after requested.now reading)
         (change (S.state input.old) (S.state input.new))
@@ -61,13 +59,12 @@ fn certify_by<S: Source, K: Sink, E: Sink>(
     out: &mut K,
     err: &mut E,
 ) -> Status
-    requires { IsReady requested.now }
     ensures { HasAccount on_certified_after (certified_after requested.now reading)
         (change (S.state input.old) (S.state input.new))
         (change (K.state out.old) (K.state out.new)) (change (E.state err.old) (E.state err.new))
         result }
 {
-    match Leasts::of(alloc, &requested.table) {
+    match Leasts::of(alloc, requested.table()) {
         Ok(leasts) => certify_values(alloc, requested, &leasts, reading, input, out, err),
         Err(_) => report_stop(alloc, err, &Stop::Memory),
     }
@@ -82,7 +79,6 @@ fn certify_over<S: Source, K: Sink, E: Sink>(
     out: &mut K,
     err: &mut E,
 ) -> Status
-    requires { IsReady requested }
     ensures { HasAccount on_certified_after (certified_after requested reading)
         (change (S.state input.old) (S.state input.new))
         (change (K.state out.old) (K.state out.new)) (change (E.state err.old) (E.state err.new))

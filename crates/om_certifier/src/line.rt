@@ -3,7 +3,7 @@
 ghost use Rattle.std.specs.Prelude.{◌≡◌, length, IfOk};
 ghost use Rattle.om_model.specs.Graph.{IsValue};
 ghost use Rattle.om_type_table.specs.Made.{table_of};
-ghost use Rattle.om_declared.specs.Types.{type_over, IsReady};
+ghost use Rattle.om_declared.specs.Types.{type_over};
 ghost use Rattle.om_certify.specs.Leasts.{AreLeasts};
 ghost use Rattle.om_certifier.specs.Certified.{IsSectionOf, is_yes as is_yes_section};
 
@@ -16,7 +16,6 @@ use om_model::Memory;
 use om_model::value::Val;
 use om_section::Section;
 use om_table::tables_decide;
-use om_type_table::laws::tables_are_lawful;
 use std::alloc::Global;
 
 /// Checks a value, and answers its section.
@@ -28,16 +27,16 @@ pub fn value_section(
     leasts: &Leasts,
 ) -> Result<Section, Memory>
     requires value { IsValue (length heap.now) root }
-    requires ready { IsReady requested.now }
     requires leasts { AreLeasts (table_of requested.now.table) leasts.now }
     ensures { IfOk result (IsSectionOf (type_over requested.now) heap.now root) }
 {
-    tables_are_lawful();
+    requested.holds();
     tables_decide();
     tables_have_the_faults();
+    let table = requested.table();
     let mut steps = Steps::new();
-    let verdict = check(alloc, heap, root, &requested.table, &mut steps)?;
-    let section = section_with(alloc, heap, root, &requested.table, leasts, verdict)?;
+    let verdict = check(alloc, heap, root, table, &mut steps)?;
+    let section = section_with(alloc, heap, root, table, leasts, verdict)?;
     Ok(section)
 }
 

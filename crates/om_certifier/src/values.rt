@@ -6,7 +6,7 @@ ghost use Rattle.om_type_table.specs.Made.{table_of};
 ghost use Rattle.om_certify.specs.Leasts.{AreLeasts};
 ghost use Rattle.om_outcome.specs.Outcome.{Said};
 ghost use Rattle.om_edge.specs.State.{change};
-ghost use Rattle.om_declared.specs.Types.{type_over, IsReady};
+ghost use Rattle.om_declared.specs.Types.{type_over};
 ghost use Rattle.om_certifier.specs.Reading.{HasRead, IsValueRead, PutsSection, PutsNext, certified};
 
 use crate::line::{is_yes, value_section};
@@ -47,7 +47,6 @@ fn put_said<K: Sink>(
     out: &mut K,
 ) -> Result<bool, Halt>
     requires value { IsValue (length heap.old) root }
-    requires ready { IsReady requested.now }
     requires leasts { AreLeasts (table_of requested.now.table) leasts.now }
     ensures { PutsSection (type_over requested.now) number heap.old root
         (change (K.state out.old) (K.state out.new)) result }
@@ -81,7 +80,6 @@ impl<'a> Certifying<'a> {
         leasts: &'a Leasts,
         limit: u64,
     ) -> Certifying<'a>
-        requires ready { IsReady requested.now }
         requires leasts { AreLeasts (table_of requested.now.table) leasts.now }
         ensures requested { result.requested ≡ requested.entry }
         ensures leasts { result.leasts ≡ leasts.entry }
@@ -89,6 +87,7 @@ impl<'a> Certifying<'a> {
         ensures has { HasRead result.requested.now result.leasts.now result.limit result.reader
             result.count result.well [] [] }
     {
+        requested.holds();
         Certifying {
             requested,
             leasts,

@@ -47,7 +47,7 @@ fn leasts_of(alloc: Global, table: &TypeTable) -> Result<Vec<usize>, Memory>
 {
     let mut firsts = BTreeMap::new(alloc);
     let mut leasts = Vec::new(alloc);
-    for ty in 0..table.classes.len() {
+    for ty in 0..table.count() {
         let least = first_of(&mut firsts, table, ty)?;
         leasts.push(least)?;
     }

@@ -1,7 +1,7 @@
 //! The section that certifies a verdict.
 
 ghost use Rattle.std.specs.Prelude.{IfOk};
-ghost use Rattle.om_type_table.specs.Made.{table_of, IsLawful};
+ghost use Rattle.om_type_table.specs.Made.{table_of};
 ghost use Rattle.om_check.specs.Verdict.{IsVerdict, PairsHavePaths};
 ghost use Rattle.om_cert.specs.Accepted.{IsAccepted};
 ghost use Rattle.om_certify.specs.Leasts.{AreLeasts};
@@ -27,7 +27,6 @@ pub fn section_of(
     table: &TypeTable,
     verdict: Verdict,
 ) -> Result<Section, Memory>
-    requires table { IsLawful (table_of table.now) }
     requires verdict { IsVerdict (table_of table.now) heap.now root verdict }
     requires paths { PairsHavePaths (table_of table.now) heap.now root verdict }
     ensures certified { IfOk result (IsCertified (table_of table.now) heap.now root) }
@@ -42,17 +41,17 @@ pub fn section_with(
     alloc: Global,
     _heap: &Heap,
     _root: Val,
-    _table: &TypeTable,
+    table: &TypeTable,
     leasts: &Leasts,
     verdict: Verdict,
 ) -> Result<Section, Memory>
-    requires table { IsLawful (table_of _table.now) }
-    requires leasts { AreLeasts (table_of _table.now) leasts.now }
-    requires verdict { IsVerdict (table_of _table.now) _heap.now _root verdict }
-    requires paths { PairsHavePaths (table_of _table.now) _heap.now _root verdict }
-    ensures certified { IfOk result (IsCertified (table_of _table.now) _heap.now _root) }
-    ensures accepted { IfOk result (IsAccepted (table_of _table.now) _heap.now _root) }
+    requires leasts { AreLeasts (table_of table.now) leasts.now }
+    requires verdict { IsVerdict (table_of table.now) _heap.now _root verdict }
+    requires paths { PairsHavePaths (table_of table.now) _heap.now _root verdict }
+    ensures certified { IfOk result (IsCertified (table_of table.now) _heap.now _root) }
+    ensures accepted { IfOk result (IsAccepted (table_of table.now) _heap.now _root) }
 {
+    table.holds();
     match verdict {
         Verdict::Yes(typing) => {
             let pairs = normal_pairs(alloc, &typing, leasts.as_slice())?;

@@ -69,7 +69,7 @@ fn all_asked(table: &TypeTable, objects: usize) -> bool
     ensures { IsTrue result → (t : ℕ) → t < length table.now.nodes
         → IsTrue (is_asked_in (table_of table.now) t) }
 {
-    let types = table.nodes.len();
+    let types = table.count();
     if objects < types {
         return false;
     }

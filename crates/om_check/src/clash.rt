@@ -15,13 +15,13 @@ use om_type_table::TypeTable;
 /// comes first here. Where nothing was met at a second class, no two visits are of one object.
 pub fn first_clash(heap: &Heap, table: &TypeTable, visits: &Visits) -> Option<(usize, usize)>
     requires within { All (IsWithin (table_of table.now) heap.now) (listed visits.now) }
-    requires classed { length table.now.classes ≡ length table.now.nodes }
     requires apart { AreApart (table_of table.now) (listed visits.now) }
     requires linked { AreLinked (table_of table.now) (length heap.now) visits.now }
     ensures { MatchOption result
         (NoneClash (table_of table.now) heap.now (listed visits.now) (length (listed visits.now)))
         (λ two. IsFirstClash (table_of table.now) heap.now (listed visits.now) two.0 two.1) }
 {
+    table.holds();
     if visits.later.is_empty() {
         return None;
     }
@@ -38,11 +38,11 @@ pub fn first_clash(heap: &Heap, table: &TypeTable, visits: &Visits) -> Option<(u
 fn clashes_back(heap: &Heap, table: &TypeTable, visits: &Visits, k: usize) -> bool
     requires in_range { k < length (listed visits.now) }
     requires within { All (IsWithin (table_of table.now) heap.now) (listed visits.now) }
-    requires classed { length table.now.classes ≡ length table.now.nodes }
     requires apart { AreApart (table_of table.now) (listed visits.now) }
     requires linked { AreLinked (table_of table.now) (length heap.now) visits.now }
     ensures { IsTrue result ↔ ClashesBack (table_of table.now) heap.now (listed visits.now) k }
 {
+    table.holds();
     let visit = visits.get(k);
     let first = Visit {
         ty: visits.first.get(visit.object as usize) as usize - 1,

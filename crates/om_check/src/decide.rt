@@ -5,7 +5,7 @@ ghost use Rattle.om_model.specs.declared.value.Val.TheVariants as vals;
 ghost use Rattle.om_model.specs.Graph.{IsValue};
 ghost use Rattle.om_types.specs.Table.{table_shapes, is_asked_in};
 ghost use Rattle.om_types.specs.Steps.{most_steps};
-ghost use Rattle.om_type_table.specs.Made.{table_of, IsLawful};
+ghost use Rattle.om_type_table.specs.Made.{table_of};
 ghost use Rattle.om_scan.specs.Fitting.{table_in};
 ghost use Rattle.om_scan.specs.Taken.{types_in};
 ghost use Rattle.om_scan.specs.declared.straight.Scanned.TheVariants as answers;
@@ -42,11 +42,11 @@ pub fn check(
     steps: &mut Steps,
 ) -> Result<Verdict, Memory>
     requires value { IsValue (length heap.now) root }
-    requires table { IsLawful (table_of table.now) }
     ensures verdict { IfOk result (IsVerdict (table_of table.now) heap.now root) }
     ensures paths { IfOk result (PairsHavePaths (table_of table.now) heap.now root) }
     ensures steps { steps.new ≤ steps.old + most_steps (table_of table.now) heap.now }
 {
+    table.holds();
     steps.raise();
     if needs_of(heap, root, table.shape(0)).is_none() {
         return Ok(Verdict::No(Fault::Misfit(Path::new(alloc))));
@@ -67,12 +67,12 @@ fn check_object(
     steps: &mut Steps,
 ) -> Result<Verdict, Memory>
     requires object { object < length heap.now }
-    requires table { IsLawful (table_of table.now) }
     requires fits { (table_shapes (table_of table.now)).fits heap.now (vals.Ref object) 0 }
     ensures verdict { IfOk result (IsVerdict (table_of table.now) heap.now (vals.Ref object)) }
     ensures paths { IfOk result (PairsHavePaths (table_of table.now) heap.now (vals.Ref object)) }
     ensures steps { steps.new + 1 ≤ steps.old + most_steps (table_of table.now) heap.now }
 {
+    table.holds();
     if object != 0 {
         return search_whole(alloc, heap, object, table, steps);
     }
@@ -103,7 +103,6 @@ fn search_whole(
     steps: &mut Steps,
 ) -> Result<Verdict, Memory>
     requires object { object < length heap.now }
-    requires table { IsLawful (table_of table.now) }
     requires fits { (table_shapes (table_of table.now)).fits heap.now (vals.Ref object) 0 }
     ensures verdict { IfOk result (IsVerdict (table_of table.now) heap.now (vals.Ref object)) }
     ensures paths { IfOk result (PairsHavePaths (table_of table.now) heap.now (vals.Ref object)) }
@@ -129,7 +128,6 @@ fn settle_noted(
 ) -> Result<Verdict, Memory>
     requires objects { objects ≡ length heap.now }
     requires some { 0 < length heap.now }
-    requires table { IsLawful (table_in fitting) }
     requires fits { (table_shapes (table_in fitting)).fits heap.now (vals.Ref 0) 0 }
     requires asked { IsTrue (is_asked_in (table_in fitting) 0) }
     requires told { Tells (table_in fitting) heap.now (answers.Noted noted) }
@@ -141,6 +139,7 @@ fn settle_noted(
     ensures paths { IfOk result (PairsHavePaths (table_in fitting.entry) heap.now (vals.Ref 0)) }
     ensures steps { steps.new + 1 ≤ steps.old + most_steps (table_in fitting.entry) heap.now }
 {
+    fitting.table.holds();
     let _count = heap.count();
     let Noted {
         taken,
@@ -175,7 +174,6 @@ fn search_object(
 ) -> Result<Verdict, Memory>
     requires objects { objects ≡ length heap.now }
     requires object { object < length heap.now }
-    requires table { IsLawful (table_in fitting) }
     requires fits { (table_shapes (table_in fitting)).fits heap.now (vals.Ref object) 0 }
     requires taken { AreTaken (table_in fitting) heap.now taken.now }
     ensures verdict { IfOk result (IsVerdict (table_in fitting.entry) heap.now (vals.Ref object)) }
@@ -184,6 +182,7 @@ fn search_object(
     ensures steps { steps.new + cost_of heap.now (types_in taken.now) + 1
         ≤ steps.old + left_of heap.now taken.now + most_steps (table_in fitting.entry) heap.now }
 {
+    fitting.table.holds();
     let mut visits = Visits::new(alloc, objects, fitting.table, object)?;
     if let Some((n, step)) = search(heap, fitting, &mut visits, taken, steps)? {
         let mut path = path_of(alloc, &visits, n)?;

@@ -5,7 +5,7 @@ ghost use Rattle.om_model.specs.declared.value.Val.TheVariants as vals;
 ghost use Rattle.om_model.specs.Graph.{IsValue};
 ghost use Rattle.om_types.specs.Table.{table_shapes};
 ghost use Rattle.om_types.specs.Typing.{HasType};
-ghost use Rattle.om_type_table.specs.Made.{table_of, IsLawful};
+ghost use Rattle.om_type_table.specs.Made.{table_of};
 ghost use Rattle.om_check.specs.Told.{AreOrdered, IsPathOf};
 ghost use Rattle.om_check.specs.Met.{AreAllMet};
 
@@ -70,10 +70,10 @@ impl AllMet {
 /// All that is met of a value that has the type that is number 0.
 pub fn met(alloc: Global, heap: &Heap, root: Val, table: &TypeTable) -> Result<AllMet, Memory>
     requires value { IsValue (length heap.now) root }
-    requires table { IsLawful (table_of table.now) }
     requires has { HasType (table_shapes (table_of table.now)) heap.now root 0 }
     ensures { IfOk result (AreAllMet (table_of table.now) heap.now root) }
 {
+    table.holds();
     match root {
         Val::Ref(object) => met_from(alloc, heap, object, table),
         _ => {
@@ -86,10 +86,10 @@ pub fn met(alloc: Global, heap: &Heap, root: Val, table: &TypeTable) -> Result<A
 /// The same from an object on: a search meets it, and finds no misfit.
 fn met_from(alloc: Global, heap: &Heap, object: u64, table: &TypeTable) -> Result<AllMet, Memory>
     requires object { object < length heap.now }
-    requires table { IsLawful (table_of table.now) }
     requires has { HasType (table_shapes (table_of table.now)) heap.now (vals.Ref object) 0 }
     ensures { IfOk result (AreAllMet (table_of table.now) heap.now (vals.Ref object)) }
 {
+    table.holds();
     let objects = heap.count();
     let rows = rows_of(alloc, heap, table)?;
     let none = Taken::none(alloc)?;

@@ -8,7 +8,7 @@ ghost use Rattle.om_heap.specs.Heap.{object_at, fields_of, field_at, word_of, Is
 ghost use Rattle.om_types.specs.Table.{table_shapes};
 ghost use Rattle.om_fits.specs.Needs.{needs_in};
 ghost use Rattle.om_types.specs.Steps.{most_steps};
-ghost use Rattle.om_type_table.specs.Made.{table_of, IsLawful};
+ghost use Rattle.om_type_table.specs.Made.{table_of};
 ghost use Rattle.om_scan.specs.Fitting.{table_in};
 ghost use Rattle.om_scan.specs.Taken.{types_in, seen_of, size_of, rest_of};
 ghost use Rattle.om_scan.specs.Scanned as scans;
@@ -44,7 +44,6 @@ pub fn search(
     taken: &Taken,
     steps: &mut Steps,
 ) -> Result<Option<(usize, u64)>, Memory>
-    requires lawful { IsLawful (table_in fitting) }
     requires linked { AreLinked (table_in fitting) (length heap.now) visits.old }
     requires explored { IsExplored (table_in fitting) heap.now (listed visits.old) 0 0 }
     requires taken { AreTaken (table_in fitting) heap.now taken.now }
@@ -54,6 +53,7 @@ pub fn search(
     ensures steps { steps.new + scans.cost_of heap.now (types_in taken.now) + 1
         ≤ steps.old + left_of heap.now taken.now + most_steps (table_in fitting.entry) heap.now }
 {
+    fitting.table.holds();
     let mut n = 0;
     while visits.has(n) {
         if let Some(step) = test_visit(heap, fitting, visits, taken, n, steps)? {
@@ -74,7 +74,6 @@ fn test_visit(
     steps: &mut Steps,
 ) -> Result<Option<u64>, Memory>
     requires in_range { n < length (listed visits.old) }
-    requires lawful { IsLawful (table_in fitting) }
     requires linked { AreLinked (table_in fitting) (length heap.now) visits.old }
     requires explored { IsExplored (table_in fitting) heap.now (listed visits.old) n 0 }
     requires taken { AreTaken (table_in fitting) heap.now taken.now }
@@ -84,6 +83,7 @@ fn test_visit(
     ensures steps { steps.new
         ≤ steps.old + cost_at (table_in fitting.entry) heap.now taken.now (listed visits.old) n }
 {
+    fitting.table.holds();
     let visit = visits.get(n);
     if was_taken(fitting.table, taken, visit) {
         return take_seen(heap, fitting, visits, taken, n, visit, steps);
@@ -118,7 +118,6 @@ fn take_seen(
     steps: &mut Steps,
 ) -> Result<Option<u64>, Memory>
     requires visit { slice_get (listed visits.old) n ≡ Some visit }
-    requires lawful { IsLawful (table_in fitting) }
     requires linked { AreLinked (table_in fitting) (length heap.now) visits.old }
     requires explored { IsExplored (table_in fitting) heap.now (listed visits.old) n 0 }
     requires taken { AreTaken (table_in fitting) heap.now taken.now }
@@ -129,6 +128,7 @@ fn take_seen(
     ensures steps { steps.new
         ≤ steps.old + rest_of (size_of heap.now visit.object) (seen_of taken.now visit.object) }
 {
+    fitting.table.holds();
     let seen = taken.seen_of(visit.object);
     take_visit(heap, fitting, visits, taken, n, visit, seen, steps)
 }
@@ -147,7 +147,6 @@ fn take_visit(
     steps: &mut Steps,
 ) -> Result<Option<u64>, Memory>
     requires visit { slice_get (listed visits.old) n ≡ Some visit }
-    requires lawful { IsLawful (table_in fitting) }
     requires linked { AreLinked (table_in fitting) (length heap.now) visits.old }
     requires explored { IsExplored (table_in fitting) heap.now (listed visits.old) n 0 }
     requires taken { AreTaken (table_in fitting) heap.now taken.now }
@@ -193,7 +192,6 @@ fn test_needs(
 ) -> Result<Option<u64>, Memory>
     requires visit { slice_get (listed visits.old) n ≡ Some visit }
     requires needs { visit_fields (table_in fitting) heap.now visit ≡ needs_in needs }
-    requires lawful { IsLawful (table_in fitting) }
     requires linked { AreLinked (table_in fitting) (length heap.now) visits.old }
     requires explored { IsExplored (table_in fitting) heap.now (listed visits.old) n 0 }
     requires taken { AreTaken (table_in fitting) heap.now taken.now }
@@ -203,6 +201,7 @@ fn test_needs(
         (TestsVisit (table_in fitting.entry) heap.now (listed visits.old) (listed visits.new) n) }
     ensures steps { steps.new ≤ steps.old + rest_of (size_of heap.now visit.object) seen }
 {
+    fitting.table.holds();
     if needs.len() == 0 {
         return Ok(None);
     }
@@ -249,7 +248,6 @@ fn take_need(
     next: &mut u64,
     steps: &mut Steps,
 ) -> Result<bool, Memory>
-    requires lawful { IsLawful (table_in fitting) }
     requires object { need.object < length heap.now }
     requires field { need.step < length (fields_of (object_at heap.now need.object)) }
     requires word { word ≡ word_of heap.now (field_at heap.now need.object need.step) }
@@ -290,7 +288,6 @@ fn test_need(
     seen: bool,
     next: &mut u64,
 ) -> Result<bool, Memory>
-    requires lawful { IsLawful (table_in fitting) }
     requires object { need.object < length heap.now }
     requires field { need.step < length (fields_of (object_at heap.now need.object)) }
     requires word { word ≡ word_of heap.now (field_at heap.now need.object need.step) }
@@ -374,7 +371,6 @@ fn object_fits(
     word: u64,
     seen: bool,
 ) -> bool
-    requires lawful { IsLawful (table_in fitting) }
     requires object { object < length heap.now }
     requires word { word ≡ word_of heap.now (vals.Ref object) }
     requires node { ty < length fitting.table.now.nodes }
@@ -383,6 +379,7 @@ fn object_fits(
     ensures { IsTrue result
         ↔ (table_shapes (table_in fitting.entry)).fits heap.now (vals.Ref object) ty }
 {
+    fitting.table.holds();
     if seen {
         if let Some(_) = taken.type_of(object as usize) {
             return true;

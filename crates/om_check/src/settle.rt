@@ -6,7 +6,6 @@ ghost use Rattle.om_model.specs.declared.value.Val.TheVariants as vals;
 ghost use Rattle.om_heap.specs.Heap.{field_at, word_of};
 ghost use Rattle.om_types.specs.Table.{table_shapes, is_asked_in};
 ghost use Rattle.om_fits.specs.Needs.{needs_in};
-ghost use Rattle.om_type_table.specs.Made.{IsLawful};
 ghost use Rattle.om_scan.specs.Fitting.{table_in};
 ghost use Rattle.om_scan.specs.Paths.{HasPath};
 ghost use Rattle.om_scan.specs.Seconds.{noted_in};
@@ -31,7 +30,6 @@ pub fn settle(
     most: u64,
     steps: &mut Steps,
 ) -> Result<Option<Seconds>, Memory>
-    requires lawful { IsLawful (table_in fitting) }
     requires over { AreOver (table_in fitting) heap.now types.now seconds }
     ensures settled { IfOk result
         (λ settled. IfSome settled (IsSettled (table_in fitting.entry) heap.now types.now)) }
@@ -62,7 +60,6 @@ fn settle_pair(
     steps: &mut Steps,
 ) -> Result<bool, Memory>
     requires in_range { n < length (noted_in seconds.old) }
-    requires lawful { IsLawful (table_in fitting) }
     requires settling { IsSettling (table_in fitting) heap.now types.now seconds.old n }
     ensures settles { IfOk result
         (λ met. OnTrue met
@@ -103,7 +100,6 @@ fn settle_needs(
     ty: usize,
     needs: Needs<'_>,
 ) -> Result<bool, Memory>
-    requires lawful { IsLawful (table_in fitting) }
     requires object { object < length heap.now }
     requires node { ty < length fitting.table.now.nodes }
     requires needs { object_typed (table_in fitting) heap.now object ty ≡ needs_in needs }
@@ -114,6 +110,7 @@ fn settle_needs(
         (FindsNeeds (table_in fitting.entry) heap.now types.now seconds.old seconds.new object ty
         (length (object_typed (table_in fitting.entry) heap.now object ty)))) }
 {
+    fitting.table.holds();
     if needs.len() == 0 {
         return Ok(true);
     }
@@ -147,7 +144,6 @@ fn settle_need(
     word: u64,
     needed: usize,
 ) -> Result<bool, Memory>
-    requires lawful { IsLawful (table_in fitting) }
     requires object { _object < length heap.now }
     requires node { _ty < length fitting.table.now.nodes }
     requires need { slice_get (object_typed (table_in fitting) heap.now _object _ty) _place
@@ -161,6 +157,7 @@ fn settle_need(
         (Finds (table_in fitting.entry) heap.now types.now seconds.old seconds.new
         (field_at heap.now _object _field) needed)) }
 {
+    fitting.table.holds();
     let _count = heap.count();
     if word % 8 != 0 {
         return Ok(fits_type(heap, fitting, needed, word));

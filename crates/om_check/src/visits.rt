@@ -52,7 +52,7 @@ impl Visits {
     {
         let mut visits = Visits {
             all: Trail::new(alloc),
-            first: Cells::new(alloc, objects as usize, table.classes.len())?,
+            first: Cells::new(alloc, objects as usize, table.count())?,
             later: BTreeSet::new(alloc),
         };
         let first = visits.first_at(root);

@@ -11,11 +11,11 @@ ghost use Rattle.std.specs.Prelude.{◌<◌, length, IfOk};
 ghost use Rattle.om_model.specs.Graph.{IsValue};
 ghost use Rattle.om_types.specs.Table.{table_shapes};
 ghost use Rattle.om_types.specs.Typing.{HasType};
-ghost use Rattle.om_type_table.specs.Made.{table_of, IsLawful};
+ghost use Rattle.om_type_table.specs.Made.{table_of};
 ghost use Rattle.om_check.specs.Verdict.{IsVerdict};
 
 use crate::compare::value_text;
-use crate::tables::{accepted, all_below};
+use crate::tables::accepted;
 use om_check::{Steps, Typing, Verdict, check};
 use om_edge::StdSink;
 use om_edit::{EditRefusal, apply, refusal_text};
@@ -26,7 +26,6 @@ use om_path::{Action, read_script};
 use om_print::show;
 use om_read::{Reader, Value};
 use om_type_table::TypeTable;
-use om_type_table::laws::tables_are_lawful;
 use om_typeintern::build;
 use om_types::fault::Fault;
 use std::alloc::Global;
@@ -37,10 +36,7 @@ use std::io::ErrorKind;
 const LIMIT: u64 = 10_000;
 
 // The table of a type.
-fn table_for(alloc: Global, question: &str) -> io::Result<TypeTable>
-    ensures { IfOk result (λ table. IsLawful (table_of table)) }
-{
-    tables_are_lawful();
+fn table_for(alloc: Global, question: &str) -> io::Result<TypeTable> {
     let Some((decls, ty)) = accepted(alloc, question) else {
         return Err(ErrorKind::InvalidInput.into());
     };
@@ -91,7 +87,7 @@ fn pairs_of(value: &Value, table: &TypeTable, typing: &Typing) -> u64 {
     let mut pairs: u64 = 0;
     for k in 0..typing.len() {
         let (object, ty) = typing.get(k);
-        if object < value.heap.count() && ty < table.nodes.len() {
+        if object < value.heap.count() && ty < table.count() {
             pairs = pairs.saturating_add(1);
         }
     }
@@ -101,12 +97,8 @@ fn pairs_of(value: &Value, table: &TypeTable, typing: &Typing) -> u64 {
 // Prints the text of a value that has its type.
 fn put_shown(rt: &HostRuntime, value: &Value, table: &TypeTable) -> io::Result<()>
     requires value { IsValue (length value.now.heap) value.now.root }
-    requires lawful { IsLawful (table_of table.now) }
     requires typed { HasType (table_shapes (table_of table.now)) value.now.heap value.now.root 0 }
 {
-    if table.names.len() != table.nodes.len() {
-        return Err(ErrorKind::InvalidInput.into());
-    }
     let mut out = StdSink::new(rt.stdout());
     match show(rt.alloc(), &value.heap, value.root, table, &mut out) {
         Ok(()) => Ok(()),
@@ -117,7 +109,6 @@ fn put_shown(rt: &HostRuntime, value: &Value, table: &TypeTable) -> io::Result<(
 // Prints that a value has its type: its text, and how many objects at types justify it.
 fn put_typed(rt: &HostRuntime, value: &Value, table: &TypeTable, typing: &Typing) -> io::Result<()>
     requires value { IsValue (length value.now.heap) value.now.root }
-    requires lawful { IsLawful (table_of table.now) }
     requires typed { HasType (table_shapes (table_of table.now)) value.now.heap value.now.root 0 }
 {
     print!(rt; "yes, ")?;
@@ -127,7 +118,6 @@ fn put_typed(rt: &HostRuntime, value: &Value, table: &TypeTable, typing: &Typing
 
 fn put_told(rt: &HostRuntime, value: &Value, table: &TypeTable, verdict: &Verdict) -> io::Result<()>
     requires value { IsValue (length value.now.heap) value.now.root }
-    requires lawful { IsLawful (table_of table.now) }
     requires verdict { IsVerdict (table_of table.now) value.now.heap value.now.root verdict.now }
 {
     match verdict {
@@ -145,7 +135,6 @@ fn put_doubt(
     verdict: &Verdict,
 ) -> io::Result<()>
     requires value { IsValue (length value.now.heap) value.now.root }
-    requires lawful { IsLawful (table_of table.now) }
 {
     let at_root = Fault::Misfit(Path::new(rt.alloc()));
     let agrees = match verdict {
@@ -161,7 +150,6 @@ fn put_doubt(
 // Prints whether the value has the type, and in how many steps that is found.
 fn put_verdict(rt: &HostRuntime, value: &Value, table: &TypeTable) -> io::Result<()>
     requires value { IsValue (length value.now.heap) value.now.root }
-    requires lawful { IsLawful (table_of table.now) }
 {
     let mut steps = Steps::new();
     let Ok(verdict) = check(rt.alloc(), &value.heap, value.root, table, &mut steps) else {
@@ -173,9 +161,6 @@ fn put_verdict(rt: &HostRuntime, value: &Value, table: &TypeTable) -> io::Result
 }
 
 fn put_refusal(rt: &HostRuntime, table: &TypeTable, refusal: &EditRefusal) -> io::Result<()> {
-    if !all_below(table.stored.as_slice(), table.store.len()) {
-        return Err(ErrorKind::InvalidInput.into());
-    }
     let Ok(text) = refusal_text(rt.alloc(), table, &Places::Bytes, refusal) else {
         return Err(ErrorKind::OutOfMemory.into());
     };
@@ -185,12 +170,8 @@ fn put_refusal(rt: &HostRuntime, table: &TypeTable, refusal: &EditRefusal) -> io
 // Edits the value by a line, and prints what is answered to it.
 fn put_edit(rt: &HostRuntime, value: &mut Value, table: &TypeTable, line: &str) -> io::Result<()>
     requires value { IsValue (length value.old.heap) value.old.root }
-    requires lawful { IsLawful (table_of table.now) }
     ensures { IsValue (length value.new.heap) value.new.root }
 {
-    if table.names.len() != table.nodes.len() {
-        return Err(ErrorKind::InvalidInput.into());
-    }
     let alloc = rt.alloc();
     let Ok(script) = read_script(alloc, line.as_bytes()) else {
         return Err(ErrorKind::InvalidInput.into());
@@ -210,7 +191,6 @@ fn put_edit(rt: &HostRuntime, value: &mut Value, table: &TypeTable, line: &str) 
 // Prints what an edit is answered, the value after it, and what a check of it says.
 fn answer_edit(rt: &HostRuntime, value: &mut Value, table: &TypeTable, line: &str) -> io::Result<()>
     requires value { IsValue (length value.old.heap) value.old.root }
-    requires lawful { IsLawful (table_of table.now) }
     ensures { IsValue (length value.new.heap) value.new.root }
 {
     put_edit(rt, value, table, line)?;
@@ -227,7 +207,6 @@ fn answer_edits(
     lines: &str,
 ) -> io::Result<()>
     requires value { IsValue (length value.old.heap) value.old.root }
-    requires lawful { IsLawful (table_of table.now) }
 {
     for line in lines.split('\t') {
         answer_edit(rt, value, table, line)?;
@@ -242,9 +221,7 @@ fn answer_over(
     digits: &str,
     table: &TypeTable,
     lines: Option<&str>,
-) -> io::Result<()>
-    requires lawful { IsLawful (table_of table.now) }
-{
+) -> io::Result<()> {
     let mut value = value_of(rt.alloc(), digits)?;
     put_verdict(rt, &value, table)?;
     match lines {

@@ -1,7 +1,7 @@
 //! The table of the types that a type reaches: a line for each, with its text, its shape over
 //! numbers, the first type that is equal to it, and its names.
 
-ghost use Rattle.std.specs.Prelude.{◌<◌, length, All, IsTrue, IfSome};
+ghost use Rattle.std.specs.Prelude.{◌<◌, length, IfSome};
 ghost use Rattle.om_types.specs.Accepted.{AreWellFormed, AreSound, IsSoundType};
 
 use om_decl::{read_decls, read_type};
@@ -11,7 +11,6 @@ use om_model::list::List;
 use om_plain_table::{Row, line, lines, text};
 use om_scope::SoundEnvironment;
 use om_type_table::TypeTable;
-use om_type_table::laws::tables_are_lawful;
 use om_typeintern::{TypeFault, build};
 use om_types::decl::Decl;
 use om_types::shape::ShapeOf;
@@ -21,59 +20,33 @@ use std::io;
 use std::io::ErrorKind;
 
 // The first type that has the class of this one.
-fn first_of_class(table: &TypeTable, number: usize) -> usize {
-    let classes = table.classes.as_slice();
+fn first_of_class(table: &TypeTable, number: usize) -> usize
+    requires { number < length table.now.classes }
+{
     for other in 0..number {
-        if classes.get(other) == classes.get(number) {
+        if table.class(other) == table.class(number) {
             return other;
         }
     }
     number
 }
 
-/// Whether these are numbers below one.
-pub fn all_below(numbers: &[usize], many: usize) -> bool
-    ensures { IsTrue result → All (λ i. i < many) numbers.now }
-{
-    for number in numbers {
-        if *number >= many {
-            return false;
-        }
-    }
-    true
-}
-
 // The line of a type.
-fn line_of(alloc: Global, table: &TypeTable, number: usize) -> Result<List<u8>, Memory>
-    requires { All (λ i. i < length table.now.store) table.now.stored }
-{
-    let shape = table.nodes.as_slice().get(number);
-    let names = table.names.as_slice().get(number);
-    if number >= table.len() {
+fn line_of(alloc: Global, table: &TypeTable, number: usize) -> Result<List<u8>, Memory> {
+    if number >= table.len() || number >= table.count() {
         return Err(Memory);
     }
-    let text = table.text(alloc, number)?;
-    match (shape, names) {
-        (Some(shape), Some(names)) => {
-            let first = first_of_class(table, number);
-            let row = Row {
-                text,
-                shape,
-                first,
-                names,
-            };
-            line(alloc, &row, None)
-        }
-        _ => Err(Memory),
-    }
+    let row = Row {
+        text: table.text(alloc, number)?,
+        shape: table.shape(number),
+        first: first_of_class(table, number),
+        names: table.names(number),
+    };
+    line(alloc, &row, None)
 }
 
 // The lines of a table.
 fn lines_of(alloc: Global, table: &TypeTable) -> Result<Vec<List<u8>>, Memory> {
-    tables_are_lawful();
-    if !all_below(table.stored.as_slice(), table.store.len()) {
-        return Err(Memory);
-    }
     let mut found = Vec::new(alloc);
     for number in 0..table.len() {
         found.push(line_of(alloc, table, number)?)?;

@@ -24,7 +24,7 @@ use Rattle.om_decl.specs.Answer.{accepted, IsAnswer}
 use Rattle.om_decl.specs.Read.{IsDeclared, IsTypeOf}
 use Rattle.om_decl.proofs.FileLemmas.{files_well_formed}
 use Rattle.om_decl.proofs.SoundLemmas as sounds
-use Rattle.om_declared.specs.declared.types.Requested.{Requested}
+use Rattle.om_declared.specs.declared.requested.Prepared.{Prepared}
 use Rattle.om_outcome.specs.Outcome.{AskedType, asked_type, asked_with}
 use Rattle.om_declared.specs.Language.{TypeOver, declared_types, ReachesFew, IsAccepted}
 use Rattle.om_declared.specs.Types.{IsReady}
@@ -83,7 +83,7 @@ given_each t given graph v has =
     let s = given_sound files_well_formed sounds.types_sound t given in
     (stands_for_all t.decls t.type s.few.types s.well s.sound s.few.reached graph v).0 has
 
-module _ (r : Requested) (ready : IsReady r) (graph : List Obj) (v : Val) where
+module _ (r : Prepared) (ready : IsReady r) (graph : List Obj) (v : Val) where
   pub ready_each : HasType (declared_shapes r.decls) graph v r.ty → HasEachInstance r.decls graph v r.ty
   ready_each has = (stands_for_all r.decls r.ty (types_of r.table) ready.well ready.sound ready.made.reached graph v).0 has
 

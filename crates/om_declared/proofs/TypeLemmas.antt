@@ -7,7 +7,7 @@ use Rattle.om_types.specs.declared.decl.Decl.{Decl}
 use Rattle.om_types.specs.Ty.{Ty}
 use Rattle.om_types.specs.Accepted.{AreWellFormed, IsSoundType}
 use Rattle.om_types.specs.Reached.{ReachesTooMany}
-use Rattle.om_type_table.specs.declared.table.TypeTable.{TypeTable}
+use Rattle.om_type_table.specs.declared.tabled.Tabled.{Tabled}
 use Rattle.om_type_table.specs.Made.{types_of, IsTypeTable}
 use Rattle.om_decl.specs.declared.fault.DeclFault.{DeclFault}
 use Rattle.om_decl.specs.declared.fault.DeclFault.TheVariants as faults
@@ -19,7 +19,7 @@ use Rattle.om_lines.specs.Lines.{place_in, place_on}
 use Rattle.om_outcome.specs.Outcome.{at_end, Taken, Found, AskedType, opened, missing, failed, fault_of}
 use Rattle.om_outcome.specs.declared.stop.Stop.{Stop}
 use Rattle.om_outcome.specs.declared.stop.Stop.TheVariants.{CannotOpen as cannot_open, Declarations as declarations, RequestedType as requested_type, Script as script_line, Memory as out_of_memory}
-use Rattle.om_declared.specs.declared.types.Requested.{Requested}
+use Rattle.om_declared.specs.declared.requested.Prepared.{Prepared}
 use Rattle.om_path.specs.Answer.{IsAnswer, UnlessMemory}
 use Rattle.om_path.specs.declared.fault.PathFault.{PathFault}
 use Rattle.om_path.specs.declared.fault.PathFault.TheVariants as path_faults
@@ -95,7 +95,7 @@ type_too_many decls asked t written many stop (inl is) =
 type_too_many decls asked t written many stop (inr memory) = inr memory
 
 -- a table is made
-pub type_given : (decls : List Decl) (asked : AskedType) (t : Ty) (table : TypeTable) → AreWellFormed decls → IsTypeOf decls asked.text t → IsSoundType decls t → IsTypeTable decls t table
+pub type_given : (decls : List Decl) (asked : AskedType) (t : Ty) (table : Tabled) → AreWellFormed decls → IsTypeOf decls asked.text t → IsSoundType decls t → IsTypeTable decls t table
     → GivesRequested decls asked (Ok (record { decls = decls; ty = t; table = table; lines = asked.lines; decimal = asked.decimal }))
 type_given decls asked t table well written sound made = (
   record {
@@ -113,7 +113,7 @@ type_given decls asked t table well written sound made = (
 -- ---- FILE and TYPE
 
 module _ (file : List ℕ) (type : AskedType) where
-  abbrev pub Gives : Found → Result Requested Stop → Type 0
+  abbrev pub Gives : Found → Result Prepared Stop → Type 0
   Gives found result = GivesType file type found result
 
   pub reads_missing : (stop : Stop) → IsOrMemory (cannot_open file) stop → Gives missing (Err stop)
@@ -136,20 +136,20 @@ module _ (file : List ℕ) (type : AskedType) where
         inl (Ok taken.bytes, same e, (Err (declarations refusal), (refusal, refuses, refl), ap Err is))
     reads_declarations e stop (inr memory) = inr memory
 
-    pub reads_type : taken.until ≡ at_end → (decls : List Decl) → GivesDeclarations type.lines taken.bytes (Ok decls) → (result : Result Requested Stop) → GivesRequested decls type result
+    pub reads_type : taken.until ≡ at_end → (decls : List Decl) → GivesDeclarations type.lines taken.bytes (Ok decls) → (result : Result Prepared Stop) → GivesRequested decls type result
         → Gives (opened taken) result
     reads_type e decls declared (Ok r) gives = ((Ok taken.bytes, same e, (Ok decls, declared.0, gives.0)), gives.1)
     reads_type e decls declared (Err stop) (inl (refusal, refuses, is)) = inl (Ok taken.bytes, same e, (Ok decls, declared.0, (refusal, refuses, is)))
     reads_type e decls declared (Err stop) (inr memory) = inr memory
 
 -- a type that is given keeps how its places are told
-pub given_lines : (file : List ℕ) (type : AskedType) (found : Found) (r : Requested) → GivesType file type found (Ok r) → r.lines ≡ type.lines
+pub given_lines : (file : List ℕ) (type : AskedType) (found : Found) (r : Prepared) → GivesType file type found (Ok r) → r.lines ≡ type.lines
 given_lines file type found r ((Err stop, fault, e), ready) = absurd (cc e)
 given_lines file type found r ((Ok text, read, (Err stop, refusal, e)), ready) = absurd (cc e)
 given_lines file type found r ((Ok text, read, (Ok decls, declared, is)), ready) = is.lined
 
 -- and whether decimals are read at it
-pub given_decimal : (file : List ℕ) (type : AskedType) (found : Found) (r : Requested) → GivesType file type found (Ok r) → r.decimal ≡ type.decimal
+pub given_decimal : (file : List ℕ) (type : AskedType) (found : Found) (r : Prepared) → GivesType file type found (Ok r) → r.decimal ≡ type.decimal
 given_decimal file type found r ((Err stop, fault, e), ready) = absurd (cc e)
 given_decimal file type found r ((Ok text, read, (Err stop, refusal, e)), ready) = absurd (cc e)
 given_decimal file type found r ((Ok text, read, (Ok decls, declared, is)), ready) = is.decimaled

@@ -1,16 +1,11 @@
 -- What the table of a type says of a value is said at the type.
-use Rattle.std.proofs.Common.{ℕ, ◌≡◌, ◌∙◌, List, ◌++◌, length, Some, refl, sym, ap, subst}
+use Rattle.std.proofs.Common.{ℕ, ◌≡◌, List, ◌++◌, Some, refl, subst}
 use Rattle.std.specs.Prelude.{codes, slice_get}
-use Rattle.std.proofs.lemmas.List.{length-map}
 use Rattle.om_model.specs.declared.value.Val.{Val}
 use Rattle.om_model.specs.declared.value.Obj.{Obj}
 use Rattle.om_types.specs.declared.fault.Fault.{Fault}
 use Rattle.om_types.specs.Equal.{declared_shapes}
-use Rattle.om_types.specs.Names.{names_of}
-use Rattle.om_types.specs.Ty.{Ty}
-use Rattle.om_types.specs.Nodes.{type_at}
-use Rattle.om_types.specs.Shape.{shape}
-use Rattle.om_types.specs.Table.{table_shapes, with_parts}
+use Rattle.om_types.specs.Table.{table_shapes}
 use Rattle.om_types.specs.Typing.{HasType}
 use Rattle.om_types.specs.VerdictText.{IsFaultText}
 use Rattle.om_equal.specs.TableLaws.{TablesHaveTheLeastFault}
@@ -22,23 +17,16 @@ use Rattle.om_fault.specs.Laws.{TextsAreOfTypes}
 use Rattle.om_check.specs.declared.typing.Typing.{Typing}
 use Rattle.om_check.specs.declared.verdict.Verdict.{Verdict}
 use Rattle.om_check.specs.declared.verdict.Verdict.TheVariants.{Yes, No}
-use Rattle.om_declared.specs.declared.types.Requested.{Requested}
+use Rattle.om_declared.specs.declared.requested.Prepared.{Prepared}
 use Rattle.om_declared.specs.Types.{type_over, IsReady}
 use Rattle.om_rigid.specs.Rigid.{HasEachInstance}
 use Rattle.om_declared.specs.Verdict.{IsVerdictOf, PutsNo}
 use Rattle.om_declared.proofs.GivenLemmas.{ready_each, ready_some_not}
 
-module _ (r : Requested) (ready : IsReady r) where
+module _ (r : Prepared) (ready : IsReady r) where
   -- values can be checked by the table
   pub ready_lawful : MadeAreLawful → IsLawful (table_of r.table)
   ready_lawful law = law r.decls r.ty r.table ready.well ready.sound ready.made
-
-  -- each of its types has a shape
-  pub ready_sizes : length r.table.stored ≡ length r.table.nodes
-  ready_sizes =
-      sym (length-map r.table.stored (type_at r.table.store))
-      ∙ (sym (length-map (types_of r.table) (λ (t : Ty). with_parts Some (shape r.decls t)))
-      ∙ (sym (ap length ready.made.made.nodes) ∙ length-map r.table.nodes (with_parts (slice_get (types_of r.table)))))
 
   module _ (root_first : TheRootIsFirst) (graph : List Obj) (root : Val) where
     pub is_first : slice_get (types_of r.table) 0 ≡ Some r.ty
@@ -65,18 +53,13 @@ module _ (r : Requested) (ready : IsReady r) where
           put,
         )
 
-  -- each number has names
-  pub ready_names : length r.table.names ≡ length r.table.nodes
-  ready_names =
-      ap length ready.made.named ∙ (length-map (types_of r.table) (names_of r.decls) ∙ (length-map r.table.stored (type_at r.table.store) ∙ ready_sizes))
-
 -- a verdict is `yes` where the value has the type
-pub yes_typed : (r : Requested) (graph : List Obj) (root : Val) (verdict : Verdict) → IsVerdictOf r graph root verdict → (typing : Typing) → verdict ≡ Yes typing
+pub yes_typed : (r : Prepared) (graph : List Obj) (root : Val) (verdict : Verdict) → IsVerdictOf r graph root verdict → (typing : Typing) → verdict ≡ Yes typing
     → HasType (table_shapes (table_of r.table)) graph root 0
 yes_typed r graph root verdict is typing same = let has : IsVerdictOf r graph root (Yes typing) = subst (IsVerdictOf r graph root) same is in has.0
 
 -- so it has the declared type, and each closed instance of it
-pub yes_declared : (r : Requested) (ready : IsReady r) → TheRootIsFirst → TablesDecide → (graph : List Obj) (root : Val) (verdict : Verdict) → IsVerdictOf r graph root verdict → (typing : Typing) → verdict ≡ Yes typing
+pub yes_declared : (r : Prepared) (ready : IsReady r) → TheRootIsFirst → TablesDecide → (graph : List Obj) (root : Val) (verdict : Verdict) → IsVerdictOf r graph root verdict → (typing : Typing) → verdict ≡ Yes typing
     → HasType (declared_shapes r.decls) graph root r.ty × HasEachInstance r.decls graph root r.ty
 yes_declared r ready root_first decide graph root verdict is typing same = (has, ready_each r ready graph root has) where
   has : HasType (declared_shapes r.decls) graph root r.ty

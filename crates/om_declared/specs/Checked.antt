@@ -11,19 +11,19 @@ use Rattle.om_types.specs.VerdictText.{IsNoLine}
 use Rattle.om_rigid.specs.Rigid.{HasEachInstance}
 use Rattle.om_stops.specs.declared.stop.Halt.{Halt}
 use Rattle.om_stops.specs.declared.stop.Halt.TheVariants as halts
-use Rattle.om_declared.specs.declared.types.Requested.{Requested}
+use Rattle.om_declared.specs.declared.requested.Prepared.{Prepared}
 
 -- the run stops, as this says, or memory ran out
 abbrev pub OrMemory : (Stop → Type 0) → Stop → Type 0
 OrMemory Stops stop = (stop ≡ out_of_memory) ⊎ Stops stop
 
-abbrev pub IsUntypedStop : Requested → ℕ → List Obj → Val → Stop → Type 0
+abbrev pub IsUntypedStop : Prepared → ℕ → List Obj → Val → Stop → Type 0
 IsUntypedStop r k graph v stop =
     (text : List ℕ) × IsNoLine (declared_shapes r.decls) type_text graph v r.ty text
     × (¬ HasEachInstance r.decls graph v r.ty) × (stop ≡ untyped_value k text)
 
 -- value k has the type, and each closed instance of it; or the run stops, since it has not
-abbrev pub ChecksType : {U : Type 0} → Requested → ℕ → List Obj → Val → Result U Halt → Type 0
+abbrev pub ChecksType : {U : Type 0} → Prepared → ℕ → List Obj → Val → Result U Halt → Type 0
 ChecksType r k graph v (Ok unit) =
     HasType (declared_shapes r.decls) graph v r.ty × HasEachInstance r.decls graph v r.ty
 ChecksType r k graph v (Err (halts.Stop stop)) = OrMemory (IsUntypedStop r k graph v) stop

@@ -18,16 +18,16 @@ use Rattle.om_path.specs.declared.edits.Script.{Script}
 use Rattle.om_path.specs.declared.edits.ScriptFault.{ScriptFault}
 use Rattle.om_path.specs.ScriptAnswer.{edits_in}
 use Rattle.om_stops.specs.Stops.{IsOrMemory}
-use Rattle.om_declared.specs.declared.types.Requested.{Requested}
+use Rattle.om_declared.specs.declared.requested.Prepared.{Prepared}
 use Rattle.om_promises.specs.Given.{Fetched}
 use Rattle.om_declared.specs.Language.{TypeOver, declared_types, ReadsDeclarations, ReadsType, AreEditsOf, script_refusal}
 
 -- the type, over its declarations
-abbrev pub type_over : Requested → TypeOver
+abbrev pub type_over : Prepared → TypeOver
 type_over r = record { decls = r.decls; type = r.ty; lines = r.lines; decimal = r.decimal }
 
 -- The type is sound over well-formed declarations, and the table is the type's.
-pub record IsReady (r : Requested) : Type 0 where
+pub record IsReady (r : Prepared) : Type 0 where
   pub well : AreWellFormed r.decls
   pub sound : IsSoundType r.decls r.ty
   pub made : IsTypeTable r.decls r.ty r.table
@@ -71,20 +71,20 @@ GivesDeclarations lines text (Ok decls) =
 GivesDeclarations lines text (Err stop) =
     StopsBy (λ refusal. ReadsDeclarations lines text (Err refusal)) declarations stop
 
-abbrev pub GivesRequested : List Decl → AskedType → Result Requested Stop → Type 0
+abbrev pub GivesRequested : List Decl → AskedType → Result Prepared Stop → Type 0
 GivesRequested decls asked (Ok r) = ReadsType decls asked (Ok (type_over r)) × IsReady r
 GivesRequested decls asked (Err stop) =
     StopsBy (λ refusal. ReadsType decls asked (Err refusal)) requested_type stop
 
 -- the type, or why there is none, but for out of memory
-abbrev pub GivesType : List ℕ → AskedType → Found → Result Requested Stop → Type 0
+abbrev pub GivesType : List ℕ → AskedType → Found → Result Prepared Stop → Type 0
 GivesType file type found (Ok r) =
     ReadsTypeOf declared_types (λ name. found) (file, type) (Ok (type_over r)) × IsReady r
 GivesType file type found (Err stop) =
     ReadsTypeOf declared_types (λ name. found) (file, type) (Err stop)
     ⊎ (stop ≡ out_of_memory)
 
-abbrev pub FindsTypeIn : Change FilesState → List ℕ → AskedType → Result Requested Stop → Type 0
+abbrev pub FindsTypeIn : Change FilesState → List ℕ → AskedType → Result Prepared Stop → Type 0
 FindsTypeIn files file type result =
     (found : Found) × Fetched files file found × GivesType file type found result
 

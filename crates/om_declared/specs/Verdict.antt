@@ -9,11 +9,11 @@ use Rattle.om_type_table.specs.Made.{table_of}
 use Rattle.om_rigid.specs.Rigid.{HasEachInstance}
 use Rattle.om_check.specs.Verdict.{IsVerdict}
 use Rattle.om_check.specs.declared.verdict.Verdict.{Verdict}
-use Rattle.om_declared.specs.declared.types.Requested.{Requested}
+use Rattle.om_declared.specs.declared.requested.Prepared.{Prepared}
 use Rattle.om_declared.specs.Language.{TypeOver}
 
 -- the verdict is on the value at the first type of the table
-abbrev pub IsVerdictOf : Requested → List Obj → Val → Verdict → Type 0
+abbrev pub IsVerdictOf : Prepared → List Obj → Val → Verdict → Type 0
 IsVerdictOf r graph root verdict = IsVerdict (table_of r.table) graph root verdict
 
 -- the value has not each closed instance of the type, and the line of the least fault is put after

@@ -3,11 +3,10 @@
 ghost use Rattle.std.specs.Prelude.{length};
 ghost use Rattle.om_model.specs.Graph.{IsValue};
 ghost use Rattle.om_declared.specs.Checked.{ChecksType};
-ghost use Rattle.om_declared.specs.Types.{IsReady};
 ghost use Rattle.om_declared.specs.Verdict.{IsVerdictOf};
 ghost use Rattle.om_check.specs.declared.verdict.Verdict.TheVariants.{No};
 
-use crate::types::Requested;
+use crate::requested::Requested;
 use crate::verdict::{find_verdict, put_no};
 use om_check::Verdict;
 use om_heap::Heap;
@@ -28,7 +27,6 @@ pub fn check_type(
     requested: &Requested,
 ) -> Result<(), Halt>
     requires value { IsValue (length heap.now) root }
-    requires ready { IsReady requested.now }
     ensures { ChecksType requested.now number heap.now root result }
 {
     let verdict = find_verdict(alloc, heap, root, requested)?;
@@ -45,11 +43,11 @@ fn check_verdict(
     verdict: &Verdict,
 ) -> Result<(), Halt>
     requires value { IsValue (length heap.now) root }
-    requires ready { IsReady requested.now }
     requires verdict { IsVerdictOf requested.now heap.now root verdict.now }
     ensures { ChecksType requested.now number heap.now root result }
 {
     tables_decide();
+    requested.holds();
     match verdict {
         Verdict::Yes(_) => Ok(()),
         Verdict::No(fault) => refuse_value(alloc, heap, root, number, requested, fault),
@@ -66,7 +64,6 @@ fn refuse_value(
     fault: &Fault,
 ) -> Result<(), Halt>
     requires value { IsValue (length heap.now) root }
-    requires ready { IsReady requested.now }
     requires least { IsVerdictOf requested.now heap.now root (No fault.now) }
     ensures { ChecksType requested.now number heap.now root result }
 {

@@ -6,6 +6,7 @@ mod check;
 mod fetch;
 mod gather;
 pub mod laws;
+mod requested;
 mod types;
 mod verdict;
 
@@ -13,5 +14,6 @@ pub use bytes::{put_bytes, put_plain};
 pub use check::check_type;
 pub use fetch::{Fetch, fetch_file};
 pub use gather::{Gathered, InputEnd, LENGTH_LIMIT, store};
-pub use types::{Requested, find_script, find_type, path_stop, read_gathered};
+pub use requested::{Prepared, Requested};
+pub use types::{find_script, find_type, path_stop, read_gathered};
 pub use verdict::{find_verdict, put_near_no, put_no};

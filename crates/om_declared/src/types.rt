@@ -15,6 +15,7 @@ ghost use Rattle.om_declared.specs.Types.{IsDeclarationsStop, IsTypeStop, IsPath
 
 use crate::fetch::{Fetch, fetch_file};
 use crate::gather::{Gathered, InputEnd};
+use crate::requested::{Prepared, Requested};
 use om_decimal_scripts::read_given_script;
 use om_decl::{DeclFault, fault_text, lexer_text, read_decls, read_type, syntax_text};
 use om_edge::Opener;
@@ -24,23 +25,9 @@ use om_model::list::List;
 use om_outcome::stop::Stop;
 use om_path::{PathFault, Script, ScriptFault, read_script};
 use om_stops::made::{refused_line, refused_type, unopened_file};
-use om_type_table::TypeTable;
 use om_typeintern::{TypeFault, build};
 use om_types::decl::Decl;
-use om_types::ty::Ty;
 use std::alloc::Global;
-
-/// A type over declarations, and the table that values are checked by; whether the places of what is
-/// refused at it are told by line and column; and whether decimals stand for doubles in the texts
-/// that are read at it.
-#[derive(Drop)]
-pub struct Requested {
-    pub decls: List<Decl>,
-    pub ty: Ty,
-    pub table: TypeTable,
-    pub lines: bool,
-    pub decimal: bool,
-}
 
 /// The stop of declarations that are refused.
 fn declarations_stop(alloc: Global, lines: bool, text: &[u8], fault: &DeclFault) -> Stop
@@ -132,13 +119,13 @@ fn read_requested(
         Err(fault) => return Err(type_stop(alloc, lines, type_text, &fault)),
     };
     match build(alloc, decls.as_slice(), &ty) {
-        Ok(table) => Ok(Requested {
+        Ok(table) => Ok(Requested::new(Prepared {
             decls,
             ty,
             table,
             lines,
             decimal,
-        }),
+        })),
         Err(TypeFault::TooManyTypes) => Err(refused_type(alloc, b"TooManyTypes")),
         Err(TypeFault::Memory) => Err(Stop::Memory),
     }

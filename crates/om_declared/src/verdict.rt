@@ -2,11 +2,11 @@
 
 ghost use Rattle.std.specs.Prelude.{◌≡◌, length, OnOk, IfOk, MatchBool};
 ghost use Rattle.om_model.specs.Graph.{IsValue};
-ghost use Rattle.om_declared.specs.Types.{type_over, IsReady};
+ghost use Rattle.om_declared.specs.Types.{type_over};
 ghost use Rattle.om_declared.specs.Verdict.{IsVerdictOf, PutsNo};
 ghost use Rattle.om_check.specs.declared.verdict.Verdict.TheVariants.{No};
 
-use crate::types::Requested;
+use crate::requested::Requested;
 use om_check::{Steps, Verdict, check};
 use om_equal::table::tables_have_the_faults;
 use om_fault::laws::texts_are_of_types;
@@ -16,7 +16,6 @@ use om_model::Memory;
 use om_model::value::Val;
 use om_stops::put::put;
 use om_table::tables_decide;
-use om_type_table::laws::tables_are_lawful;
 use om_types::fault::Fault;
 use std::alloc::Global;
 
@@ -28,12 +27,10 @@ pub fn find_verdict(
     requested: &Requested,
 ) -> Result<Verdict, Memory>
     requires value { IsValue (length heap.now) root }
-    requires ready { IsReady requested.now }
     ensures { IfOk result (IsVerdictOf requested.now heap.now root) }
 {
-    tables_are_lawful();
     let mut steps = Steps::new();
-    check(alloc, heap, root, &requested.table, &mut steps)
+    check(alloc, heap, root, requested.table(), &mut steps)
 }
 
 /// Puts `no` and the least fault at the end.
@@ -46,17 +43,16 @@ pub fn put_no(
     fault: &Fault,
 ) -> Result<(), Memory>
     requires value { IsValue (length heap.now) root }
-    requires ready { IsReady requested.now }
     requires least { IsVerdictOf requested.now heap.now root (No fault.now) }
     ensures { OnOk result
         (PutsNo (type_over requested.now) heap.now root text.old.items text.new.items) }
 {
-    tables_are_lawful();
+    requested.holds();
     tables_decide();
     tables_have_the_faults();
     texts_are_of_types();
     put(text, b"no ")?;
-    put_fault(text, alloc, heap, root, &requested.table, fault)?;
+    put_fault(text, alloc, heap, root, requested.table(), fault)?;
     Ok(())
 }
 
@@ -70,20 +66,20 @@ pub fn put_near_no(
     requested: &Requested,
 ) -> Result<bool, Memory>
     requires value { IsValue (length heap.now) root }
-    requires ready { IsReady requested.now }
     ensures { IfOk result
         (λ told. MatchBool told
         (PutsNo (type_over requested.now) heap.now root text.old.items text.new.items)
         (text.new.items ≡ text.old.items)) }
 {
-    tables_are_lawful();
+    requested.holds();
     tables_decide();
     tables_have_the_faults();
     texts_are_of_types();
-    let Some(near) = find_near(heap, root, &requested.table) else {
+    let table = requested.table();
+    let Some(near) = find_near(heap, root, table) else {
         return Ok(false);
     };
     put(text, b"no ")?;
-    put_near(text, alloc, heap, &requested.table, near)?;
+    put_near(text, alloc, heap, table, near)?;
     Ok(true)
 }

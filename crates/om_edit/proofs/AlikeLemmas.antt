@@ -17,7 +17,7 @@ use Rattle.om_types.specs.Typing.{HasType}
 use Rattle.om_equal.proofs.SimulationLemmas.{SamePlace, place_same}
 use Rattle.om_equal.proofs.TableLemmas.{table_says, least_forth}
 use Rattle.om_table.proofs.DecideLemmas.{root_is_first, has_forth}
-use Rattle.om_type_table.specs.declared.table.TypeTable.{TypeTable}
+use Rattle.om_type_table.specs.declared.tabled.Tabled.{Tabled}
 use Rattle.om_type_table.specs.Made.{types_of, table_of, IsTypeTable}
 use Rattle.om_fault.specs.Text.{text_or_none, text_at}
 use Rattle.om_literal_grammar.specs.Literal.{Literal}
@@ -37,7 +37,7 @@ use Rattle.om_edit.proofs.MadeLemmas.{Follows, parted, joined}
 use Rattle.om_literal_alike.specs.Alike.{RefusalsAgree, ReadAgree}
 use Rattle.om_literal_alike.proofs.TableLemmas.{tables_read_alike}
 
-module _ (decls : List Decl) (t : Ty) (table : TypeTable) (is : IsTypeTable decls t table) where
+module _ (decls : List Decl) (t : Ty) (table : Tabled) (is : IsTypeTable decls t table) where
   abbrev Is : ℕ → Ty → Type 0
   Is i u = slice_get (types_of table) i ≡ Some u
 

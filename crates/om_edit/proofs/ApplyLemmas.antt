@@ -11,7 +11,7 @@ use Rattle.om_model.specs.Graph.{IsValue}
 use Rattle.om_lex.specs.declared.lexeme.Lexeme.{Lexeme}
 use Rattle.om_heap.specs.Heap.{object_at}
 use Rattle.om_types.specs.Table.{table_shapes}
-use Rattle.om_type_table.specs.declared.table.TypeTable.{TypeTable}
+use Rattle.om_type_table.specs.declared.tabled.Tabled.{Tabled}
 use Rattle.om_types.specs.Lawful.{Everything}
 use Rattle.om_types.proofs.FaultLemmas.{fault_excludes_type}
 use Rattle.om_type_table.specs.Made.{table_of, IsLawful}
@@ -59,7 +59,7 @@ missing_is side (Ok p) refusal is = absurd (never p refusal is) where
   never : (p : Place ℕ) (r : EditRefusal) → ◌≡◌ {A = Result (Place ℕ) EditRefusal} (Err r) (Ok p) → ⊥
   never p r is = cc
 
-module _ (table : TypeTable) where
+module _ (table : Tabled) where
   abbrev pub place_of : List Obj → Val → List ℕ → Found
   place_of graph root path = place_at (table_shapes (table_of table)) graph root 0 path
 

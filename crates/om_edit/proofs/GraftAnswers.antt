@@ -19,7 +19,7 @@ use Rattle.om_types.specs.Typing.{HasType}
 use Rattle.om_types.proofs.FaultLemmas.{fault_excludes_type}
 use Rattle.om_format.specs.Tree.{objects_of, root as top_of}
 use Rattle.om_canonical.proofs.SameTree.{one_tree_only}
-use Rattle.om_type_table.specs.declared.table.TypeTable.{TypeTable}
+use Rattle.om_type_table.specs.declared.tabled.Tabled.{Tabled}
 use Rattle.om_type_table.specs.Made.{table_of, IsLawful, IsTypeTable}
 use Rattle.om_literal.specs.LiteralAnswers.{shape_in, names_in}
 use Rattle.om_graft.specs.Copies.{IsCopy, HasCopy}
@@ -117,7 +117,7 @@ module _ {T : Type 0} (shape : T → ShapeOf T) (names : T → Names) (Equal : T
 
 -- ---- what a table says of it is what its types say
 
-module _ (decls : List Decl) (t : Ty) (table : TypeTable) (is : IsTypeTable decls t table) where
+module _ (decls : List Decl) (t : Ty) (table : Tabled) (is : IsTypeTable decls t table) where
   module _ (graph : List Obj) (root : Val) (h : List Obj) where
     abbrev Agree : Answer ℕ → Answer Ty → Type 0
     Agree one other = AnswersAgree decls t table is one other
@@ -157,7 +157,7 @@ module _ (decls : List Decl) (t : Ty) (table : TypeTable) (is : IsTypeTable decl
 
 -- ---- what the steps of a call give
 
-module _ (table : TypeTable) (path : List ℕ) (other : Other) (source : List ℕ) (graph : List Obj) (root : Val) where
+module _ (table : Tabled) (path : List ℕ) (other : Other) (source : List ℕ) (graph : List Obj) (root : Val) where
   abbrev left : Found
   left = place_of table graph root path
 

@@ -12,7 +12,7 @@ use Rattle.om_types.specs.Fault.{IsFault}
 use Rattle.om_types.specs.Fitting.{shaped}
 use Rattle.om_types.specs.Ty.{Ty}
 use Rattle.om_types.specs.Typing.{HasType}
-use Rattle.om_type_table.specs.declared.table.TypeTable.{TypeTable}
+use Rattle.om_type_table.specs.declared.tabled.Tabled.{Tabled}
 use Rattle.om_type_table.specs.Made.{IsTypeTable}
 use Rattle.om_path.specs.declared.edits.Action.{Action}
 use Rattle.om_path.specs.declared.edits.Action.TheVariants as actions
@@ -56,7 +56,7 @@ module _ {T : Type 0} (shape : T → ShapeOf T) (names : T → Names) (Equal : T
 
 -- ---- what a table says of it is what its types say
 
-pub line_answer_alike : (decls : List Decl) (t : Ty) (table : TypeTable) → IsTypeTable decls t table → (others : List Other) (action : Action) (graph : List Obj) (root : Val) (answer : Answer ℕ)
+pub line_answer_alike : (decls : List Decl) (t : Ty) (table : Tabled) → IsTypeTable decls t table → (others : List Other) (action : Action) (graph : List Obj) (root : Val) (answer : Answer ℕ)
     → IsLineAnswerIn table others action graph root answer
     → (declared : Answer Ty) × IsDeclaredLine decls t others action graph root declared × SayTheSame table answer declared
 line_answer_alike decls t table is others (actions.Edit edit) graph root answer told = answer_alike decls t table is edit graph root answer told

@@ -12,7 +12,7 @@ use Rattle.om_types.specs.Shapes.{Shapes}
 use Rattle.om_types.specs.Ty.{Ty}
 use Rattle.om_types.specs.Typing.{HasType}
 use Rattle.om_format.specs.Iso.{Iso}
-use Rattle.om_type_table.specs.declared.table.TypeTable.{TypeTable}
+use Rattle.om_type_table.specs.declared.tabled.Tabled.{Tabled}
 use Rattle.om_type_table.specs.Made.{table_of, IsLawful, IsTypeTable}
 use Rattle.om_graft.specs.Copies.{IsWithin, AreWithin}
 use Rattle.om_edit.specs.declared.spots.Place.{Place}
@@ -51,7 +51,7 @@ GraftsAreTheSame =
 
 -- a graft has one answer at most, by the numbers of a table and by types
 pub record GraftsHaveOneAnswer : Type 0 where
-  pub by_numbers : (table : TypeTable) → IsLawful (table_of table)
+  pub by_numbers : (table : Tabled) → IsLawful (table_of table)
       → (path : List ℕ) (other : Other) (source : List ℕ) (graph : List Obj) (root : Val)
       → IsAtMostOne (IsGraftAnswerIn table path other source graph root)
   pub by_types : (decls : List Decl) (t : Ty) (types : List Ty) → AreWellFormed decls
@@ -62,7 +62,7 @@ pub record GraftsHaveOneAnswer : Type 0 where
 -- an answer by the numbers of a table is one by their types
 abbrev pub TablesGraftAlike : Type 0
 TablesGraftAlike =
-    (decls : List Decl) (t : Ty) (table : TypeTable) → IsTypeTable decls t table
+    (decls : List Decl) (t : Ty) (table : Tabled) → IsTypeTable decls t table
     → (path : List ℕ) (other : Other) (source : List ℕ) (graph : List Obj) (root : Val)
     (answer : Answer ℕ) → IsGraftAnswerIn table path other source graph root answer
     → (declared : Answer Ty) × IsDeclaredGraft decls t path other source graph root declared

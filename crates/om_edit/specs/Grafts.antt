@@ -8,7 +8,7 @@ use Rattle.om_types.specs.declared.shape.ShapeOf.{ShapeOf}
 use Rattle.om_types.specs.Fitting.{shaped}
 use Rattle.om_types.specs.LeastFault.{IsLeastFault}
 use Rattle.om_types.specs.Typing.{HasType}
-use Rattle.om_type_table.specs.declared.table.TypeTable.{TypeTable}
+use Rattle.om_type_table.specs.declared.tabled.Tabled.{Tabled}
 use Rattle.om_literal.specs.LiteralAnswers.{shape_in}
 use Rattle.om_graft.specs.Copies.{IsCopy}
 use Rattle.om_edit.specs.declared.spots.Place.{Place}
@@ -65,19 +65,19 @@ module _ {T : Type 0} where
 -- ---- by the numbers of a table: what a call gives
 
 -- what is answered to a graft at the type of number 0
-abbrev pub IsGraftAnswerIn : TypeTable → List ℕ → Other → List ℕ → List Obj → Val → Answer ℕ
+abbrev pub IsGraftAnswerIn : Tabled → List ℕ → Other → List ℕ → List Obj → Val → Answer ℕ
     → Type 0
 IsGraftAnswerIn table path other source graph root answer =
     IsGraftAnswer (shape_in table) (SameClass table) 0 path other source graph root answer
 
-abbrev pub IsNotGraftedFor : TypeTable → List ℕ → Other → List ℕ → List Obj → Val
+abbrev pub IsNotGraftedFor : Tabled → List ℕ → Other → List ℕ → List Obj → Val
     → Option (Reason ℕ) → Type 0
 IsNotGraftedFor table path other source graph root None = ⊤
 IsNotGraftedFor table path other source graph root (Some reason) =
     IsGraftAnswerIn table path other source graph root (Err reason)
 
 -- the value is grafted; else it is as it was, and there is a reason, or memory ran out
-abbrev pub IsGraftApplied : TypeTable → List ℕ → Other → List ℕ → List Obj → Val → List Obj → Val
+abbrev pub IsGraftApplied : Tabled → List ℕ → Other → List ℕ → List Obj → Val → List Obj → Val
     → Result (Unit {0}) EditRefusal → Type 0
 IsGraftApplied table path other source old old_root new new_root (Ok unit) =
     IsGraftAnswerIn table path other source old old_root (Ok (new, new_root))

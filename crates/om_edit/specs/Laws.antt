@@ -10,7 +10,7 @@ use Rattle.om_types.specs.Reached.{IsReached}
 use Rattle.om_types.specs.Shape.{shape}
 use Rattle.om_types.specs.Ty.{Ty}
 use Rattle.om_types.specs.TypeText.{type_text}
-use Rattle.om_type_table.specs.declared.table.TypeTable.{TypeTable}
+use Rattle.om_type_table.specs.declared.tabled.Tabled.{Tabled}
 use Rattle.om_type_table.specs.Made.{table_of, IsLawful, IsTypeTable}
 use Rattle.om_fault.specs.Text.{text_at}
 use Rattle.om_path.specs.declared.edits.Edit.{Edit}
@@ -38,7 +38,7 @@ IsAtMostOne {A} Is = (answer other : A) → Is answer → Is other → answer �
 
 -- an edit has one answer at most, by the numbers of a table and by types, and so have lines
 pub record EditsHaveOneAnswer : Type 0 where
-  pub by_numbers : (table : TypeTable) → IsLawful (table_of table)
+  pub by_numbers : (table : Tabled) → IsLawful (table_of table)
       → (edit : Edit) (graph : List Obj) (root : Val)
       → IsAtMostOne (IsAnswerIn table edit graph root)
   pub by_types : (decls : List Decl) (t : Ty) (types : List Ty) → AreWellFormed decls
@@ -51,7 +51,7 @@ pub record EditsHaveOneAnswer : Type 0 where
       → IsAtMostOne (AreDeclaredEdits decls t others lines graph root)
 
 -- the same value, or reasons of one text, however places are told
-abbrev pub SayTheSame : TypeTable → Answer ℕ → Answer Ty → Type 0
+abbrev pub SayTheSame : Tabled → Answer ℕ → Answer Ty → Type 0
 SayTheSame table (Ok edited) (Ok other) = edited ≡ other
 SayTheSame table (Err reason) (Err other) =
     (told : ℕ → List ℕ)
@@ -62,7 +62,7 @@ SayTheSame table (Err reason) (Ok other) = ⊥
 -- an answer by the numbers of a table is one by their types
 abbrev pub TablesEditAlike : Type 0
 TablesEditAlike =
-    (decls : List Decl) (t : Ty) (table : TypeTable) → IsTypeTable decls t table
+    (decls : List Decl) (t : Ty) (table : Tabled) → IsTypeTable decls t table
     → (edit : Edit) (graph : List Obj) (root : Val) (answer : Answer ℕ)
     → IsAnswerIn table edit graph root answer
     → (other : Answer Ty) × IsDeclaredAnswer decls t edit graph root other

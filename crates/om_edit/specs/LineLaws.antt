@@ -7,7 +7,7 @@ use Rattle.om_types.specs.Equal.{Equal}
 use Rattle.om_types.specs.Names.{names_of}
 use Rattle.om_types.specs.Shape.{shape}
 use Rattle.om_types.specs.Ty.{Ty}
-use Rattle.om_type_table.specs.declared.table.TypeTable.{TypeTable}
+use Rattle.om_type_table.specs.declared.tabled.Tabled.{Tabled}
 use Rattle.om_type_table.specs.Made.{IsTypeTable}
 use Rattle.om_literal.specs.LiteralAnswers.{shape_in, names_in}
 use Rattle.om_path.specs.declared.edits.Action.{Action}
@@ -26,19 +26,19 @@ IsDeclaredLine decls t others action graph root answer =
     IsLineAnswer (shape decls) (names_of decls) (Equal decls) t others action graph root answer
 
 -- the same at the type of number 0 of a table
-abbrev pub IsLineAnswerIn : TypeTable → List Other → Action → List Obj → Val → Answer ℕ → Type 0
+abbrev pub IsLineAnswerIn : Tabled → List Other → Action → List Obj → Val → Answer ℕ → Type 0
 IsLineAnswerIn table others action graph root answer =
     IsLineAnswer (shape_in table) (names_in table) (SameClass table) 0 others action graph root
     answer
 
-abbrev pub IsLineRefusedFor : TypeTable → List Other → Action → List Obj → Val → Option (Reason ℕ)
+abbrev pub IsLineRefusedFor : Tabled → List Other → Action → List Obj → Val → Option (Reason ℕ)
     → Type 0
 IsLineRefusedFor table others action graph root None = ⊤
 IsLineRefusedFor table others action graph root (Some reason) =
     IsLineAnswerIn table others action graph root (Err reason)
 
 -- the line is done; else the value is as it was, and there is a reason, or memory ran out
-abbrev pub IsLineApplied : TypeTable → List Other → Action → List Obj → Val → List Obj → Val
+abbrev pub IsLineApplied : Tabled → List Other → Action → List Obj → Val → List Obj → Val
     → Result (Unit {0}) EditRefusal → Type 0
 IsLineApplied table others action old old_root new new_root (Ok unit) =
     IsLineAnswerIn table others action old old_root (Ok (new, new_root))
@@ -49,7 +49,7 @@ IsLineApplied table others action old old_root new new_root (Err refusal) =
 -- an answer by the numbers of a table is one by their types
 abbrev pub TablesAnswerLinesAlike : Type 0
 TablesAnswerLinesAlike =
-    (decls : List Decl) (t : Ty) (table : TypeTable) → IsTypeTable decls t table
+    (decls : List Decl) (t : Ty) (table : Tabled) → IsTypeTable decls t table
     → (others : List Other) (action : Action) (graph : List Obj) (root : Val) (answer : Answer ℕ)
     → IsLineAnswerIn table others action graph root answer
     → (declared : Answer Ty) × IsDeclaredLine decls t others action graph root declared

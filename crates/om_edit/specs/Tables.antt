@@ -5,7 +5,7 @@ use Rattle.om_model.specs.declared.value.Obj.{Obj}
 use Rattle.om_types.specs.LeastFault.{IsLeastFault}
 use Rattle.om_types.specs.Table.{table_shapes}
 use Rattle.om_types.specs.Typing.{HasType}
-use Rattle.om_type_table.specs.declared.table.TypeTable.{TypeTable}
+use Rattle.om_type_table.specs.declared.tabled.Tabled.{Tabled}
 use Rattle.om_type_table.specs.Made.{table_of}
 use Rattle.om_literal.specs.LiteralAnswers.{shape_in, names_in}
 use Rattle.om_path.specs.declared.edits.Edit.{Edit}
@@ -15,22 +15,22 @@ use Rattle.om_edit.specs.EditedValues.{Answer, IsAnswer}
 use Rattle.om_edit.specs.Reasons.{Reason, reason_of}
 
 -- numbers of one class are equal
-abbrev pub SameClass : TypeTable → ℕ → ℕ → Type 0
+abbrev pub SameClass : Tabled → ℕ → ℕ → Type 0
 SameClass table i j = slice_get table.classes i ≡ slice_get table.classes j
 
 -- what is answered to an edit of a value at the type of number 0
-abbrev pub IsAnswerIn : TypeTable → Edit → List Obj → Val → Answer ℕ → Type 0
+abbrev pub IsAnswerIn : Tabled → Edit → List Obj → Val → Answer ℕ → Type 0
 IsAnswerIn table edit graph root answer =
     IsAnswer (shape_in table) (names_in table) (SameClass table) 0 edit graph root answer
 
 -- ---- what a call gives
 
-abbrev pub IsRefusedFor : TypeTable → Edit → List Obj → Val → Option (Reason ℕ) → Type 0
+abbrev pub IsRefusedFor : Tabled → Edit → List Obj → Val → Option (Reason ℕ) → Type 0
 IsRefusedFor table edit graph root None = ⊤
 IsRefusedFor table edit graph root (Some reason) = IsAnswerIn table edit graph root (Err reason)
 
 -- the value is edited; else it is as it was, and there is a reason, or memory ran out
-abbrev pub IsApplied : TypeTable → Edit → List Obj → Val → List Obj → Val
+abbrev pub IsApplied : Tabled → Edit → List Obj → Val → List Obj → Val
     → Result (Unit {0}) EditRefusal → Type 0
 IsApplied table edit old old_root new new_root (Ok unit) =
     IsAnswerIn table edit old old_root (Ok (new, new_root))
@@ -38,14 +38,14 @@ IsApplied table edit old old_root new new_root (Err refusal) =
     (new ≡ old) × (new_root ≡ old_root) × IsRefusedFor table edit old old_root (reason_of refusal)
 
 -- what was made has this least fault, or memory ran out
-abbrev pub IsNoneFor : TypeTable → List Obj × Val → EditRefusal → Type 0
+abbrev pub IsNoneFor : Tabled → List Obj × Val → EditRefusal → Type 0
 IsNoneFor table made (refusals.IllTyped fault) =
     IsLeastFault (table_shapes (table_of table)) made.0 made.1 0 fault
 IsNoneFor table made refusals.Memory = ⊤
 IsNoneFor table made refusal = ⊥
 
 -- what was made has the type, and is left; else the value before is left
-abbrev pub IsKept : TypeTable → List Obj × Val → List Obj → Val → List Obj → Val
+abbrev pub IsKept : Tabled → List Obj × Val → List Obj → Val → List Obj → Val
     → Result (Unit {0}) EditRefusal → Type 0
 IsKept table made old old_root new new_root (Ok unit) =
     ((new, new_root) ≡ made) × HasType (table_shapes (table_of table)) made.0 made.1 0

@@ -4,7 +4,6 @@ ghost use Rattle.std.specs.Prelude.{ℕ, ◌<◌, ◌≤◌, ◌≡◌, length, 
 ghost use Rattle.om_model.specs.declared.value.Val.{Val};
 ghost use Rattle.om_model.specs.declared.value.Obj.{Obj};
 ghost use Rattle.om_model.specs.Graph.{IsValue, IsGraph};
-ghost use Rattle.om_type_table.specs.Made.{table_of, IsLawful};
 ghost use Rattle.om_path.specs.declared.edits.Edit.TheVariants as edits;
 ghost use Rattle.om_edit.specs.Reasons.{Reason};
 ghost use Rattle.om_edit.specs.Places.{StandsAt, IsThere};
@@ -33,8 +32,6 @@ pub fn apply(
     edit: &Edit,
 ) -> Result<(), EditRefusal>
     requires value { IsValue (length heap.old) root.old }
-    requires lawful { IsLawful (table_of table.now) }
-    requires named { length table.now.names ≡ length table.now.nodes }
     // the edited value, or the refusal and the value as it was
     ensures answer { IsApplied table.now edit.now heap.old root.old heap.new root.new result }
     // the one answer is given, unless memory runs out
@@ -43,6 +40,7 @@ pub fn apply(
         → Gives answer heap.new root.new result }
     ensures value { IsValue (length heap.new) root.new }
 {
+    table.holds();
     match edit {
         Edit::Set(path, lexemes, end) => {
             set(alloc, heap, root, table, path, lexemes.as_slice(), *end)
@@ -63,8 +61,6 @@ fn set(
     end: usize,
 ) -> Result<(), EditRefusal>
     requires value { IsValue (length heap.old) root.old }
-    requires lawful { IsLawful (table_of table.now) }
-    requires named { length table.now.names ≡ length table.now.nodes }
     ensures answer { IsApplied table.now (edits.Set path.now lexemes.now end) heap.old root.old
         heap.new root.new result }
     ensures value { IsValue (length heap.new) root.new }
@@ -85,7 +81,6 @@ fn link(
     source: &Path,
 ) -> Result<(), EditRefusal>
     requires value { IsValue (length heap.old) root.old }
-    requires lawful { IsLawful (table_of table.now) }
     ensures answer { IsApplied table.now (edits.Link path.now source.now) heap.old root.old
         heap.new root.new result }
     ensures value { IsValue (length heap.new) root.new }
@@ -105,7 +100,6 @@ fn unshare(
     path: &Path,
 ) -> Result<(), EditRefusal>
     requires value { IsValue (length heap.old) root.old }
-    requires lawful { IsLawful (table_of table.now) }
     ensures answer { IsApplied table.now (edits.Unshare path.now) heap.old root.old heap.new
         root.new result }
     ensures value { IsValue (length heap.new) root.new }
@@ -130,7 +124,6 @@ pub(crate) fn put_if_typed(
     value: Val,
     count: u64,
 ) -> Result<(), EditRefusal>
-    requires lawful { IsLawful (table_of table.now) }
     requires count { count ≤ length heap.old }
     requires root { IsValue count root.old }
     requires stands { StandsAt (take count heap.old) root.old place.spot place.value }

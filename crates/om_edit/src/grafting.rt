@@ -5,7 +5,7 @@ ghost use Rattle.om_model.specs.declared.value.Val.{Val};
 ghost use Rattle.om_model.specs.declared.value.Obj.{Obj};
 ghost use Rattle.om_model.specs.Graph.{IsValue};
 ghost use Rattle.om_types.specs.Table.{table_shapes};
-ghost use Rattle.om_type_table.specs.Made.{table_of, IsLawful};
+ghost use Rattle.om_type_table.specs.Made.{table_of};
 ghost use Rattle.om_edit.specs.declared.spots.Place.{Place};
 ghost use Rattle.om_edit.specs.Grafts.{IsGraftAnswerIn, IsGraftApplied};
 ghost use Rattle.om_edit.specs.GraftLaws.{HasGraft};
@@ -37,7 +37,6 @@ pub fn graft(
 ) -> Result<(), EditRefusal>
     requires value { IsValue (length heap.old) root.old }
     requires other { IsValue (length from.now) other }
-    requires lawful { IsLawful (table_of table.now) }
     // the edited value, or the refusal and the value as it was
     ensures answer { IsGraftApplied table.now path.now (from.now, other) source.now heap.old
         root.old heap.new root.new result }
@@ -54,6 +53,7 @@ pub fn graft(
         (heap.new, root.new)) }
     ensures value { IsValue (length heap.new) root.new }
 {
+    table.holds();
     let place = find_place(heap, *root, table, Side::Left, path)?;
     let part = find_place(from, other, table, Side::Right, source)?;
     let count = heap.count();

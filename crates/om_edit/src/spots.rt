@@ -3,7 +3,7 @@
 ghost use Rattle.std.specs.Prelude.{◌≡◌, ◌<◌, length, IfOk};
 ghost use Rattle.om_model.specs.Graph.{IsValue};
 ghost use Rattle.om_types.specs.Table.{table_shapes};
-ghost use Rattle.om_type_table.specs.Made.{table_of, IsLawful};
+ghost use Rattle.om_type_table.specs.Made.{table_of};
 ghost use Rattle.om_edit.specs.Places.{place_at, spot_after, on_side, StandsAt};
 
 use crate::refusal::{EditRefusal, Side};
@@ -38,13 +38,13 @@ pub(crate) fn find_place(
     path: &Path,
 ) -> Result<Place<usize>, EditRefusal>
     requires value { IsValue (length heap.now) root }
-    requires lawful { IsLawful (table_of table.now) }
     ensures place { result
         ≡ on_side side (place_at (table_shapes (table_of table.now)) heap.now root 0 path.now) }
     ensures number { IfOk result (λ place. place.ty < length table.now.nodes) }
     ensures value { IfOk result (λ place. IsValue (length heap.now) place.value) }
     ensures stands { IfOk result (λ place. StandsAt heap.now root place.spot place.value) }
 {
+    table.holds();
     let mut place = Place {
         spot: Spot::Root,
         value: root,

@@ -1,6 +1,6 @@
 //! The text of a refusal.
 
-ghost use Rattle.std.specs.Prelude.{◌≡◌, ◌<◌, ◌++◌, length, All, IfOk, OnOk, codes, decimal};
+ghost use Rattle.std.specs.Prelude.{◌≡◌, ◌<◌, ◌++◌, IfOk, OnOk, codes, decimal};
 ghost use Rattle.om_model.specs.PathText.{path_text};
 ghost use Rattle.om_literal.specs.Reading.{misfit_at};
 ghost use Rattle.om_lines.specs.Places.{told_by};
@@ -25,7 +25,6 @@ pub fn refusal_text(
     places: &Places<'_>,
     refusal: &EditRefusal,
 ) -> Result<List<u8>, Memory>
-    requires within { All (λ i. i < length table.now.store) table.now.stored }
     ensures { IfOk result
         (λ text. text
         ≡ reason_or_none (text_at table.now) (told_by places.now) (reason_of refusal.now)) }
@@ -68,7 +67,6 @@ pub fn literal_text(
     places: &Places<'_>,
     fault: LiteralFault,
 ) -> Result<List<u8>, Memory>
-    requires within { All (λ i. i < length table.now.store) table.now.stored }
     ensures { IfOk result
         (λ text. text
         ≡ literal_or_none (text_at table.now) (told_by places.now) (literal_reason fault)) }
@@ -86,7 +84,6 @@ fn put_literal(
     places: &Places<'_>,
     fault: LiteralFault,
 ) -> Result<(), Memory>
-    requires within { All (λ i. i < length table.now.store) table.now.stored }
     ensures { OnOk result
         (text.new.items
         ≡ text.old.items
@@ -109,7 +106,6 @@ fn put_fault(
     places: &Places<'_>,
     fault: LiteralFault,
 ) -> Result<(), Memory>
-    requires within { All (λ i. i < length table.now.store) table.now.stored }
     ensures { OnOk result
         (text.new.items
         ≡ text.old.items
@@ -133,7 +129,6 @@ fn put_misfit(
     place: u64,
     ty: usize,
 ) -> Result<(), Memory>
-    requires within { All (λ i. i < length table.now.store) table.now.stored }
     ensures { OnOk result
         (text.new.items
         ≡ text.old.items
@@ -160,7 +155,6 @@ fn put_type(
     table: &TypeTable,
     number: usize,
 ) -> Result<(), Memory>
-    requires within { All (λ i. i < length table.now.store) table.now.stored }
     ensures { OnOk result (text.new.items ≡ text.old.items ++ text_at table.now number) }
 {
     if number < table.len() {

@@ -8,7 +8,7 @@ use Rattle.om_types.specs.declared.fault.Fault.TheVariants.{Clash}
 use Rattle.om_types.specs.Fault.{value_at, IsClash}
 use Rattle.om_types.specs.Table.{table_shapes}
 use Rattle.om_types.specs.VerdictText.{clash_text}
-use Rattle.om_type_table.specs.declared.table.TypeTable.{TypeTable}
+use Rattle.om_type_table.specs.declared.tabled.Tabled.{Tabled}
 use Rattle.om_type_table.specs.Made.{table_of}
 use Rattle.om_fault.specs.Text.{text_at, PutsFault}
 
@@ -16,7 +16,7 @@ use Rattle.om_fault.specs.Text.{text_at, PutsFault}
 pub more : (old front piece x y : List ℕ) → x ≡ old ++ front → y ≡ x ++ piece → y ≡ old ++ (front ++ piece)
 more old front piece x y one two = two ∙ ap (λ f. f ++ piece) one ∙ append_assoc old front piece
 
-module _ (table : TypeTable) (graph : List Obj) (v : Val) (first second : List ℕ)
+module _ (table : Tabled) (graph : List Obj) (v : Val) (first second : List ℕ)
     (clash : IsClash (table_shapes (table_of table)) graph v 0 first second) where
   -- both paths lead to the object
   pub clash_put :

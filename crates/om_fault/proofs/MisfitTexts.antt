@@ -9,7 +9,7 @@ use Rattle.om_types.specs.declared.fault.Fault.TheVariants.{Misfit}
 use Rattle.om_types.specs.Fault.{value_at}
 use Rattle.om_types.specs.Table.{table_shapes}
 use Rattle.om_types.specs.VerdictText.{kind_text, misfit_text}
-use Rattle.om_type_table.specs.declared.table.TypeTable.{TypeTable}
+use Rattle.om_type_table.specs.declared.tabled.Tabled.{Tabled}
 use Rattle.om_type_table.specs.Made.{table_of}
 use Rattle.om_fault.specs.Text.{step_text, text_at, found_text, PutsFault}
 use Rattle.om_fault.proofs.ClashTexts.{more}
@@ -21,7 +21,7 @@ one_step_text i = sym (append-nil (step_text i))
 pub two_steps_text : (i j : ℕ) → step_text i ++ step_text j ≡ path_text (i ∷ j ∷ [])
 two_steps_text i j = ap (λ text. step_text i ++ text) (sym (append-nil (step_text j)))
 
-module _ (table : TypeTable) (graph : List Obj) (v : Val) (number : ℕ) where
+module _ (table : Tabled) (graph : List Obj) (v : Val) (number : ℕ) where
   -- the path, and then what is expected and found
   misfit_is : (path : List ℕ) → path_text path ++ found_text table graph v number
       ≡ misfit_text (text_at table) graph path v number

@@ -5,7 +5,7 @@ use Rattle.std.proofs.lemmas.Option.{slice_get-map, get_or_from_slice_get}
 use Rattle.om_types.specs.Ty.{named, tuple}
 use Rattle.om_types.specs.Nodes.{type_at}
 use Rattle.om_types.specs.TypeText.{type_text}
-use Rattle.om_type_table.specs.declared.table.TypeTable.{TypeTable}
+use Rattle.om_type_table.specs.declared.tabled.Tabled.{Tabled}
 use Rattle.om_fault.specs.Text.{text_or_none, text_at}
 
 name_is : (name : List ℕ) → type_text (named name) ≡ name
@@ -13,7 +13,7 @@ unfolding type_text
 name_is name = refl
 
 pub name_is_text :
-    (table : TypeTable) (number k : ℕ) (name : List ℕ) → slice_get table.stored number ≡ Some k
+    (table : Tabled) (number k : ℕ) (name : List ℕ) → slice_get table.stored number ≡ Some k
     → slice_get table.store k ≡ Some (named name) → text_at table number ≡ name
 name_is_text table number k name at there =
     ap text_or_none

@@ -17,11 +17,11 @@ use Rattle.om_types.specs.VerdictText.{kind_text, IsFaultText}
 use Rattle.om_equal.proofs.SimulationLemmas.{SamePlace, place_same}
 use Rattle.om_equal.proofs.TableLemmas.{table_says}
 use Rattle.om_table.proofs.DecideLemmas.{root_is_first}
-use Rattle.om_type_table.specs.declared.table.TypeTable.{TypeTable}
+use Rattle.om_type_table.specs.declared.tabled.Tabled.{Tabled}
 use Rattle.om_type_table.specs.Made.{types_of, table_of, IsTypeTable}
 use Rattle.om_fault.specs.Text.{text_or_none, text_at}
 
-module _ (decls : List Decl) (t : Ty) (table : TypeTable) (is : IsTypeTable decls t table)
+module _ (decls : List Decl) (t : Ty) (table : Tabled) (is : IsTypeTable decls t table)
     (graph : List Obj) where
   abbrev Is : ℕ → Ty → Type 0
   Is i u = slice_get (types_of table) i ≡ Some u

@@ -10,7 +10,7 @@ use Rattle.om_types.specs.Table.{table_shapes}
 use Rattle.om_types.specs.Ty.{Ty}
 use Rattle.om_types.specs.TypeText.{type_text}
 use Rattle.om_types.specs.VerdictText.{IsFaultText, kind_text}
-use Rattle.om_type_table.specs.declared.table.TypeTable.{TypeTable}
+use Rattle.om_type_table.specs.declared.tabled.Tabled.{Tabled}
 use Rattle.om_type_table.specs.Made.{types_of, table_of}
 
 -- a number that is no type's has no text
@@ -19,7 +19,7 @@ text_or_none None = []
 text_or_none (Some t) = type_text t
 
 -- the text of the type of a number
-abbrev pub text_at : TypeTable → ℕ → List ℕ
+abbrev pub text_at : Tabled → ℕ → List ℕ
 text_at table number = text_or_none (slice_get (types_of table) number)
 
 -- a dot and the number
@@ -38,12 +38,12 @@ text_of_kind (kinds.Custom (customs.I64 z)) = codes "int64"
 text_of_kind (kinds.Custom (customs.Native z)) = codes "nativeint"
 
 -- which type was expected, by its number, and what was found
-abbrev pub found_text : TypeTable → List Obj → Val → ℕ → List ℕ
+abbrev pub found_text : Tabled → List Obj → Val → ℕ → List ℕ
 found_text table graph v number =
     codes ": expected " ++ text_at table number ++ codes ", found " ++ kind_text graph v
 
 -- a text is put after another: that of a fault
-abbrev pub PutsFault : TypeTable → List Obj → Val → Fault → List ℕ → List ℕ → Type 0
+abbrev pub PutsFault : Tabled → List Obj → Val → Fault → List ℕ → List ℕ → Type 0
 PutsFault table graph v fault old new =
     (text : List ℕ)
     × IsFaultText (table_shapes (table_of table)) (text_at table) graph v 0 fault text

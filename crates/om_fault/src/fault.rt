@@ -4,7 +4,7 @@ ghost use Rattle.std.specs.Prelude.{◌<◌, ◌↔◌, length, IsTrue};
 ghost use Rattle.om_model.specs.Graph.{IsValue};
 ghost use Rattle.om_types.specs.Fault.{IsMisfit, IsClash, IsFault};
 ghost use Rattle.om_types.specs.Table.{table_shapes};
-ghost use Rattle.om_type_table.specs.Made.{table_of, IsLawful};
+ghost use Rattle.om_type_table.specs.Made.{table_of};
 ghost use Rattle.om_fault.specs.Shared.{AreAtOdds, IsShared};
 
 use crate::order::is_before;
@@ -19,7 +19,6 @@ use om_types::fault::Fault;
 /// Whether a value has a fault at the root's type. Takes no memory.
 pub fn is_fault(heap: &Heap, root: Val, table: &TypeTable, fault: &Fault) -> bool
     requires value { IsValue (length heap.now) root }
-    requires lawful { IsLawful (table_of table.now) }
     ensures { IsTrue result
         ↔ IsFault (table_shapes (table_of table.now)) heap.now root 0 fault.now }
 {
@@ -32,7 +31,6 @@ pub fn is_fault(heap: &Heap, root: Val, table: &TypeTable, fault: &Fault) -> boo
 /// Whether a path leads to a value that does not fit its type.
 fn is_misfit(heap: &Heap, root: Val, table: &TypeTable, path: &Path) -> bool
     requires value { IsValue (length heap.now) root }
-    requires lawful { IsLawful (table_of table.now) }
     ensures { IsTrue result
         ↔ IsMisfit (table_shapes (table_of table.now)) heap.now root 0 path.now }
 {
@@ -45,7 +43,6 @@ fn is_misfit(heap: &Heap, root: Val, table: &TypeTable, path: &Path) -> bool
 /// Whether two paths lead to one object at unequal types, at one of which it is mutable.
 fn is_clash(heap: &Heap, root: Val, table: &TypeTable, first: &Path, second: &Path) -> bool
     requires value { IsValue (length heap.now) root }
-    requires lawful { IsLawful (table_of table.now) }
     ensures { IsTrue result
         ↔ IsClash (table_shapes (table_of table.now)) heap.now root 0 first.now second.now }
 {
@@ -70,7 +67,6 @@ fn is_shared(
     other: usize,
 ) -> bool
     requires value { IsValue (length heap.now) value }
-    requires lawful { IsLawful (table_of table.now) }
     requires one { one < length table.now.nodes }
     requires other { other < length table.now.nodes }
     ensures { IsTrue result
@@ -85,12 +81,12 @@ fn is_shared(
 /// Whether two types of an object are unequal, and it is mutable at one of them.
 fn are_at_odds(heap: &Heap, object: u64, table: &TypeTable, one: usize, other: usize) -> bool
     requires object { object < length heap.now }
-    requires lawful { IsLawful (table_of table.now) }
     requires one { one < length table.now.nodes }
     requires other { other < length table.now.nodes }
     ensures { IsTrue result
         ↔ AreAtOdds (table_shapes (table_of table.now)) heap.now object one other }
 {
+    table.holds();
     table.class(one) != table.class(other)
         && (may_change(heap, object, table, one) || may_change(heap, object, table, other))
 }

@@ -6,7 +6,7 @@ ghost use Rattle.om_model.specs.Graph.{IsValue};
 ghost use Rattle.om_types.specs.Fault.{field_of, type_of_field, step as step_of, IsMisfit};
 ghost use Rattle.om_types.specs.Table.{table_shapes, typed_fields};
 ghost use Rattle.om_fits.specs.Needs.{needs_in};
-ghost use Rattle.om_type_table.specs.Made.{table_of, IsLawful};
+ghost use Rattle.om_type_table.specs.Made.{table_of};
 ghost use Rattle.om_fault.specs.Near.{NoneOf, IsFirstOf, IsThere, IsNear, fields_of_kind};
 
 use crate::fault::fits;
@@ -52,9 +52,9 @@ struct Unfit {
 /// Where the answer is none nothing is told.
 pub fn find_near(heap: &Heap, root: Val, table: &TypeTable) -> Option<Near>
     requires value { IsValue (length heap.now) root }
-    requires lawful { IsLawful (table_of table.now) }
     ensures { IfSome result (IsNear (table_of table.now) heap.now root) }
 {
+    table.holds();
     if heap.words() > SMALL {
         return None;
     }
@@ -78,12 +78,12 @@ pub fn find_near(heap: &Heap, root: Val, table: &TypeTable) -> Option<Near>
 /// The same where the root fits, and so do its fields.
 fn near_part(heap: &Heap, root: Val, table: &TypeTable, needs: Needs<'_>) -> Option<Near>
     requires value { IsValue (length heap.now) root }
-    requires lawful { IsLawful (table_of table.now) }
     requires needs { needs_in needs ≡ typed_fields (table_of table.now) heap.now root 0 }
     requires fits { (table_shapes (table_of table.now)).fits heap.now root 0 }
     requires fields { NoneOf (IsMisfit (table_shapes (table_of table.now)) heap.now root 0) 1 }
     ensures { IfSome result (IsNear (table_of table.now) heap.now root) }
 {
+    table.holds();
     if heap.words() > TINY {
         return None;
     }
@@ -122,18 +122,18 @@ fn field_count(heap: &Heap, value: Val) -> u64
 fn type_in(
     _heap: &Heap,
     _value: Val,
-    _table: &TypeTable,
+    table: &TypeTable,
     _at: usize,
     needs: Needs<'_>,
     i: u64,
 ) -> Option<usize>
-    requires lawful { IsLawful (table_of _table.now) }
-    requires number { _at < length _table.now.nodes }
-    requires needs { needs_in needs ≡ typed_fields (table_of _table.now) _heap.now _value _at }
+    requires number { _at < length table.now.nodes }
+    requires needs { needs_in needs ≡ typed_fields (table_of table.now) _heap.now _value _at }
     ensures is { result
-        ≡ type_of_field (typed_fields (table_of _table.now) _heap.now _value _at) i }
-    ensures number { IfSome result (λ ty. ty < length _table.now.nodes) }
+        ≡ type_of_field (typed_fields (table_of table.now) _heap.now _value _at) i }
+    ensures number { IfSome result (λ ty. ty < length table.now.nodes) }
 {
+    table.holds();
     needs.type_of(i)
 }
 
@@ -146,7 +146,6 @@ fn needed_type(
     needs: Needs<'_>,
     i: u64,
 ) -> Option<usize>
-    requires lawful { IsLawful (table_of table.now) }
     requires number { at < length table.now.nodes }
     requires needs { needs_in needs ≡ typed_fields (table_of table.now) heap.now value at }
     ensures is { result
@@ -173,7 +172,6 @@ fn part(
     i: u64,
 ) -> Option<(Val, usize)>
     requires value { IsValue (length heap.now) value }
-    requires lawful { IsLawful (table_of table.now) }
     requires number { at < length table.now.nodes }
     requires needs { needs_in needs ≡ typed_fields (table_of table.now) heap.now value at }
     ensures place { result ≡ step_of (table_shapes (table_of table.now)) heap.now value at i }
@@ -195,7 +193,6 @@ fn unfit_at(
     i: u64,
 ) -> Option<Unfit>
     requires value { IsValue (length heap.now) value }
-    requires lawful { IsLawful (table_of table.now) }
     requires number { at < length table.now.nodes }
     requires needs { needs_in needs ≡ typed_fields (table_of table.now) heap.now value at }
     ensures { MatchOption result
@@ -226,7 +223,6 @@ fn unfit_field(
     needs: Needs<'_>,
 ) -> Option<Unfit>
     requires value { IsValue (length heap.now) value }
-    requires lawful { IsLawful (table_of table.now) }
     requires number { at < length table.now.nodes }
     requires needs { needs_in needs ≡ typed_fields (table_of table.now) heap.now value at }
     ensures { MatchOption result
@@ -248,7 +244,6 @@ fn unfit_field(
 /// The same where nothing is known of the fields.
 fn unfit_field_of(heap: &Heap, value: Val, table: &TypeTable, at: usize) -> Option<Unfit>
     requires value { IsValue (length heap.now) value }
-    requires lawful { IsLawful (table_of table.now) }
     requires number { at < length table.now.nodes }
     ensures { MatchOption result
         (NoneOf (IsMisfit (table_shapes (table_of table.now)) heap.now value at) 1)
@@ -273,7 +268,6 @@ fn unfit_in(
     i: u64,
 ) -> Option<Unfit>
     requires value { IsValue (length heap.now) value }
-    requires lawful { IsLawful (table_of table.now) }
     requires number { at < length table.now.nodes }
     requires needs { needs_in needs ≡ typed_fields (table_of table.now) heap.now value at }
     ensures { MatchOption result
@@ -301,7 +295,6 @@ fn unfit_part(
     needs: Needs<'_>,
 ) -> Option<(u64, Unfit)>
     requires value { IsValue (length heap.now) value }
-    requires lawful { IsLawful (table_of table.now) }
     requires number { at < length table.now.nodes }
     requires needs { needs_in needs ≡ typed_fields (table_of table.now) heap.now value at }
     ensures { MatchOption result

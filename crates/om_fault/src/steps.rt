@@ -4,7 +4,7 @@ ghost use Rattle.std.specs.Prelude.{◌≡◌, ◌<◌, length, IfSome};
 ghost use Rattle.om_model.specs.Graph.{IsValue};
 ghost use Rattle.om_types.specs.Fault.{field_of, type_of_field, step as step_of, value_at};
 ghost use Rattle.om_types.specs.Table.{table_shapes, typed_fields};
-ghost use Rattle.om_type_table.specs.Made.{table_of, IsLawful};
+ghost use Rattle.om_type_table.specs.Made.{table_of};
 
 use om_fits::{is_asked, needs_of};
 use om_heap::{Heap, Kind};
@@ -15,11 +15,11 @@ use om_type_table::TypeTable;
 /// The value at the end of a path and the number of its type, if the path leads anywhere.
 pub fn walk(heap: &Heap, root: Val, table: &TypeTable, path: &Path) -> Option<(Val, usize)>
     requires value { IsValue (length heap.now) root }
-    requires lawful { IsLawful (table_of table.now) }
     ensures place { result ≡ value_at (table_shapes (table_of table.now)) heap.now root 0 path.now }
     ensures value { IfSome result (λ place. IsValue (length heap.now) place.0) }
     ensures number { IfSome result (λ place. place.1 < length table.now.nodes) }
 {
+    table.holds();
     let mut value = root;
     let mut at = table.root();
     for i in 0..path.len() {
@@ -37,7 +37,6 @@ pub fn step(
     step: u64,
 ) -> Option<(Val, usize)>
     requires value { IsValue (length heap.now) value }
-    requires lawful { IsLawful (table_of table.now) }
     requires number { at < length table.now.nodes }
     ensures place { result ≡ step_of (table_shapes (table_of table.now)) heap.now value at step }
     ensures value { IfSome result (λ place. IsValue (length heap.now) place.0) }
@@ -51,12 +50,12 @@ pub fn step(
 /// The type that field i has, hidden or not.
 fn typed_field(heap: &Heap, value: Val, table: &TypeTable, at: usize, i: u64) -> Option<usize>
     requires value { IsValue (length heap.now) value }
-    requires lawful { IsLawful (table_of table.now) }
     requires number { at < length table.now.nodes }
     ensures is { result
         ≡ type_of_field (typed_fields (table_of table.now) heap.now value at) i }
     ensures number { IfSome result (λ ty. ty < length table.now.nodes) }
 {
+    table.holds();
     match needs_of(heap, value, table.shape(at)) {
         Some(needs) => needs.type_of(i),
         None => None,
@@ -67,7 +66,6 @@ fn typed_field(heap: &Heap, value: Val, table: &TypeTable, at: usize, i: u64) ->
 /// of that type.
 fn field_type(heap: &Heap, value: Val, table: &TypeTable, at: usize, i: u64) -> Option<usize>
     requires value { IsValue (length heap.now) value }
-    requires lawful { IsLawful (table_of table.now) }
     requires number { at < length table.now.nodes }
     ensures is { result
         ≡ type_of_field ((table_shapes (table_of table.now)).needs heap.now value at) i }

@@ -1,12 +1,12 @@
 //! The text of a fault.
 
-ghost use Rattle.std.specs.Prelude.{◌≡◌, ◌<◌, ◌++◌, length, All, Some, slice_get, IfOk, OnOk};
+ghost use Rattle.std.specs.Prelude.{◌≡◌, ◌<◌, ◌++◌, length, Some, slice_get, IfOk, OnOk};
 ghost use Rattle.om_model.specs.Graph.{IsValue};
 ghost use Rattle.om_types.specs.Fault.{IsFault, IsMisfit, IsClash};
 ghost use Rattle.om_types.specs.Table.{table_shapes};
 ghost use Rattle.om_types.specs.VerdictText.{IsFaultText, misfit_text};
 ghost use Rattle.om_types.specs.declared.fault.Fault.TheVariants as faults;
-ghost use Rattle.om_type_table.specs.Made.{table_of, IsLawful};
+ghost use Rattle.om_type_table.specs.Made.{table_of};
 ghost use Rattle.om_fault.specs.Near.{path_in};
 ghost use Rattle.om_fault.specs.Text.{text_at, found_text, PutsFault};
 
@@ -35,9 +35,6 @@ pub fn fault_text(
     fault: &Fault,
 ) -> Result<List<u8>, Memory>
     requires value { IsValue (length heap.now) root }
-    requires lawful { IsLawful (table_of table.now) }
-    requires within { All (λ i. i < length table.now.store) table.now.stored }
-    requires same_length { length table.now.stored ≡ length table.now.nodes }
     requires fault { IsFault (table_shapes (table_of table.now)) heap.now root 0 fault.now }
     ensures { IfOk result
         (IsFaultText (table_shapes (table_of table.now)) (text_at table.now) heap.now root 0
@@ -58,9 +55,6 @@ pub fn put_fault(
     fault: &Fault,
 ) -> Result<(), Memory>
     requires value { IsValue (length heap.now) root }
-    requires lawful { IsLawful (table_of table.now) }
-    requires within { All (λ i. i < length table.now.store) table.now.stored }
-    requires same_length { length table.now.stored ≡ length table.now.nodes }
     requires fault { IsFault (table_shapes (table_of table.now)) heap.now root 0 fault.now }
     ensures { OnOk result
         (PutsFault table.now heap.now root fault.now text.old.items text.new.items) }
@@ -81,9 +75,6 @@ fn put_misfit(
     path: &Path,
 ) -> Result<(), Memory>
     requires value { IsValue (length heap.now) root }
-    requires lawful { IsLawful (table_of table.now) }
-    requires within { All (λ i. i < length table.now.store) table.now.stored }
-    requires same_length { length table.now.stored ≡ length table.now.nodes }
     requires misfit { IsMisfit (table_shapes (table_of table.now)) heap.now root 0 path.now }
     ensures { OnOk result
         (PutsFault table.now heap.now root (faults.Misfit path.now) text.old.items text.new.items) }
@@ -105,8 +96,6 @@ pub fn put_near(
 ) -> Result<(), Memory>
     requires value { IsValue (length heap.now) near.value }
     requires number { near.at < length table.now.nodes }
-    requires within { All (λ i. i < length table.now.store) table.now.stored }
-    requires same_length { length table.now.stored ≡ length table.now.nodes }
     ensures { OnOk result
         (text.new.items
         ≡ text.old.items
@@ -126,8 +115,7 @@ fn put_found(
     found: Val,
 ) -> Result<(), Memory>
     requires value { IsValue (length heap.now) found }
-    requires number { expected < length table.now.stored }
-    requires within { All (λ i. i < length table.now.store) table.now.stored }
+    requires number { expected < length table.now.nodes }
     ensures { OnOk result
         (text.new.items ≡ text.old.items ++ found_text table.now heap.now found expected) }
 {
@@ -148,9 +136,6 @@ fn put_clash(
     second: &Path,
 ) -> Result<(), Memory>
     requires value { IsValue (length heap.now) root }
-    requires lawful { IsLawful (table_of table.now) }
-    requires within { All (λ i. i < length table.now.store) table.now.stored }
-    requires same_length { length table.now.stored ≡ length table.now.nodes }
     requires clash { IsClash (table_shapes (table_of table.now)) heap.now root 0 first.now
         second.now }
     ensures { OnOk result
@@ -178,7 +163,7 @@ fn stored(table: &TypeTable, number: usize) -> usize
     requires { number < length table.now.stored }
     ensures { slice_get table.now.stored number ≡ Some result }
 {
-    table.stored.as_slice()[number]
+    table.stored()[number]
 }
 
 /// Puts a type. A name without arguments is put as it is stored.
@@ -188,11 +173,11 @@ fn put_type(
     table: &TypeTable,
     number: usize,
 ) -> Result<(), Memory>
-    requires within { All (λ i. i < length table.now.store) table.now.stored }
-    requires number { number < length table.now.stored }
+    requires number { number < length table.now.nodes }
     ensures { OnOk result (text.new.items ≡ text.old.items ++ text_at table.now number) }
 {
-    match table.store.node(stored(table, number)) {
+    table.holds();
+    match table.store().node(stored(table, number)) {
         TypeNode::Named(name) => put(text, name),
         _ => put_any_type(text, alloc, table, number),
     }
@@ -205,7 +190,6 @@ fn put_any_type(
     table: &TypeTable,
     number: usize,
 ) -> Result<(), Memory>
-    requires within { All (λ i. i < length table.now.store) table.now.stored }
     requires number { number < length table.now.stored }
     ensures { OnOk result (text.new.items ≡ text.old.items ++ text_at table.now number) }
 {

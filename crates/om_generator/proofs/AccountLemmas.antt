@@ -13,7 +13,7 @@ use Rattle.om_promises.proofs.PutLemmas.{puts_nothing}
 use Rattle.om_promises.proofs.TakeLemmas.{took_nothing}
 use Rattle.om_stops.specs.Stops.{Reports}
 use Rattle.om_work.specs.Reported.{HasAccount}
-use Rattle.om_declared.specs.declared.types.Requested.{Requested}
+use Rattle.om_declared.specs.declared.requested.Prepared.{Prepared}
 use Rattle.om_declared.specs.Language.{declared_types}
 use Rattle.om_declared.specs.Types.{type_over}
 use Rattle.om_generation.specs.Generation.{generation}
@@ -107,7 +107,7 @@ module _ (words : List (List ℕ)) (files : FilesState) where
 
     -- the value is made
     pub made_account :
-        (r : Requested) → GivesItemType type (Ok r)
+        (r : Prepared) → GivesItemType type (Ok r)
         → (input out err : Change ByteState) (status : Status)
         → HasAccount (generation declared_types) (making_of number count r) input out err status
         → Account (generation declared_types) words

@@ -10,14 +10,14 @@ use Rattle.om_heap.specs.Heap.{IsHeap}
 use Rattle.om_types.specs.TypeText.{type_text}
 use Rattle.om_same_type.specs.SameType.{DeclaredTypesAreKept, DeclaredLinesAreKept}
 use Rattle.om_outcome.specs.Outcome.{the_verdict, line}
-use Rattle.om_declared.specs.declared.types.Requested.{Requested}
+use Rattle.om_declared.specs.declared.requested.Prepared.{Prepared}
 use Rattle.om_declared.specs.Language.{TypeOver, IsTypeLine}
 use Rattle.om_declared.specs.Types.{type_over, IsReady}
 use Rattle.om_declared.proofs.GivenLemmas.{ready_each, ready_some_not}
 use Rattle.om_generate.specs.Line.{generated_text}
 use Rattle.om_generator.specs.Lines.{IsGraphLine}
 
-module _ (types : DeclaredTypesAreKept) (lines : DeclaredLinesAreKept) (r : Requested)
+module _ (types : DeclaredTypesAreKept) (lines : DeclaredLinesAreKept) (r : Prepared)
     (ready : IsReady r) where
   abbrev t : TypeOver
   t = type_over r

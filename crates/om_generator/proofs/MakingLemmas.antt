@@ -10,7 +10,7 @@ use Rattle.om_stops.specs.declared.stop.Halt.TheVariants as halts
 use Rattle.om_promises.specs.Account.{HoldNoStop}
 use Rattle.om_promises.proofs.PutLemmas.{puts_nothing}
 use Rattle.om_work.specs.Works.{PutsLast, EndsAt}
-use Rattle.om_declared.specs.declared.types.Requested.{Requested}
+use Rattle.om_declared.specs.declared.requested.Prepared.{Prepared}
 use Rattle.om_declared.specs.Language.{TypeOver, declared_types}
 use Rattle.om_generation.specs.Generation.{Making, IsMadeLine, generation}
 use Rattle.om_generator.specs.Lines.{making_of, HasNothing}
@@ -19,7 +19,7 @@ true_last : (b : Bool) → (b && true) ≡ b
 true_last true = refl
 true_last b = refl
 
-module _ (number count : ℕ) (r : Requested) where
+module _ (number count : ℕ) (r : Prepared) where
   abbrev act : Making TypeOver
   act = making_of number count r
 

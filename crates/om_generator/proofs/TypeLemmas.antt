@@ -3,7 +3,7 @@ use Rattle.std.proofs.Common.{◌≡◌, ℕ, false, List, Some, None, Result, O
 use Rattle.om_outcome.specs.Outcome.{opened, whole, Taken, asked_type, Then, OrRefusal, ReadsTypeOf}
 use Rattle.om_outcome.specs.declared.stop.Stop.{Stop}
 use Rattle.om_outcome.specs.declared.stop.Stop.TheVariants.{Declarations as declarations, RequestedType as requested_type}
-use Rattle.om_declared.specs.declared.types.Requested.{Requested}
+use Rattle.om_declared.specs.declared.requested.Prepared.{Prepared}
 use Rattle.om_declared.specs.Language.{TypeOver, declared_types}
 use Rattle.om_declared.specs.Types.{type_over, GivesType}
 use Rattle.om_generate.specs.Generated.{item_declarations}
@@ -27,7 +27,7 @@ module _ (file type text : List ℕ) (are : text ≡ item_declarations) where
       subst (λ (t : List ℕ). ReadsOver t result) (sym bytes ∙ are) h
 
   pub item_type_given :
-      (result : Result Requested Stop) → GivesType file (asked_type type false) (opened (whole text)) result
+      (result : Result Prepared Stop) → GivesType file (asked_type type false) (opened (whole text)) result
       → GivesItemType type result
   item_type_given (Ok r) (reads, ready) =
       (as_items (Ok (type_over r)) reads, ready)

@@ -5,7 +5,7 @@ use Rattle.om_model.specs.declared.value.Obj.{Obj}
 use Rattle.om_format.specs.Iso.{IsTreeOf}
 use Rattle.om_format.specs.Tree.{Tree, root, objects_of}
 use Rattle.om_outcome.specs.Outcome.{Said, the_verdict, line}
-use Rattle.om_declared.specs.declared.types.Requested.{Requested}
+use Rattle.om_declared.specs.declared.requested.Prepared.{Prepared}
 use Rattle.om_declared.specs.Language.{TypeOver, IsTypeLine}
 use Rattle.om_declared.specs.Types.{type_over, IsReady}
 use Rattle.om_generate.specs.Line.{generated_text}
@@ -17,7 +17,7 @@ abbrev pub said_of : Line → Said
 said_of line = record { text = line.text.items; well = line.well }
 
 -- what is done
-abbrev pub making_of : (number count : ℕ) → Requested → Making TypeOver
+abbrev pub making_of : (number count : ℕ) → Prepared → Making TypeOver
 making_of number count r = record { number = number; count = count; type = type_over r }
 
 -- this is the line of a value of a graph, whose verdict is on a tree of it
@@ -29,7 +29,7 @@ pub record IsGraphLine (t : TypeOver) (graph : List Obj) (v : Val) (said : Said)
   pub text_is : said.text ≡ line (generated_text tree verdict)
 
 -- nothing was taken, and the value can be made and checked
-pub record HasNothing (number count : ℕ) (r : Requested) (bytes : List ℕ) (said : List Said)
+pub record HasNothing (number count : ℕ) (r : Prepared) (bytes : List ℕ) (said : List Said)
     : Type 0 where
   pub none : bytes ≡ []
   pub silent : said ≡ []

@@ -3,7 +3,7 @@
 ghost use Rattle.std.specs.Prelude.{◌^◌, ◌<◌, ◌≤◌, length, IfOk};
 ghost use Rattle.om_model.specs.Graph.{IsValue};
 ghost use Rattle.om_declared.specs.Language.{declared_types};
-ghost use Rattle.om_declared.specs.Types.{type_over, IsReady};
+ghost use Rattle.om_declared.specs.Types.{type_over};
 ghost use Rattle.om_generation.specs.Generation.{IsMadeLine};
 ghost use Rattle.om_generator.specs.Lines.{said_of, making_of, IsGraphLine};
 
@@ -26,7 +26,6 @@ pub fn made_line(
 ) -> Result<Line, Memory>
     requires number { number < 2 ^ 31 }
     requires count { count ≤ 1000000 }
-    requires ready { IsReady requested.now }
     ensures { IfOk result (λ line. IsMadeLine declared_types
         (making_of number count requested.now) (said_of line)) }
 {
@@ -37,13 +36,13 @@ pub fn made_line(
 /// The line of a value.
 fn line_of(alloc: Global, heap: &Heap, root: Val, requested: &Requested) -> Result<Line, Memory>
     requires value { IsValue (length heap.now) root }
-    requires ready { IsReady requested.now }
     ensures { IfOk result (λ line. IsGraphLine (type_over requested.now) heap.now root
         (said_of line)) }
 {
     the_same_has_the_same_types();
     the_same_has_the_same_line();
     let _graph = heap.count();
+    requested.holds();
     let verdict = verdict_of(alloc, heap, root, requested)?;
     let mut text = generated_line(alloc, heap, root, verdict.text.as_slice())?;
     put(&mut text, b"\n")?;

@@ -8,7 +8,6 @@ ghost use Rattle.om_promises.specs.Call.{call};
 ghost use Rattle.om_stops.specs.Stops.{Reports};
 ghost use Rattle.om_work.specs.Reported.{HasAccount};
 ghost use Rattle.om_declared.specs.Language.{declared_types};
-ghost use Rattle.om_declared.specs.Types.{IsReady};
 ghost use Rattle.om_generation.specs.Generation.{generation};
 ghost use Rattle.om_generator.specs.Lines.{making_of};
 
@@ -47,13 +46,13 @@ fn generate_at<S: Source, K: Sink, E: Sink>(
 ) -> Status
     requires number { number < 2 ^ 31 }
     requires count { count ≤ 1000000 }
-    requires ready { IsReady requested.now }
     ensures account { HasAccount (generation declared_types) (making_of number count requested.now)
         (change (S.state input.old) (S.state input.new))
         (change (K.state out.old) (K.state out.new))
         (change (E.state err.old) (E.state err.new)) result }
     ensures unread { input.new ≡ input.old }
 {
+    requested.holds();
     let mut work = Generating {
         number,
         count,

@@ -4,7 +4,7 @@ ghost use Rattle.std.specs.Prelude.{length, IfOk};
 ghost use Rattle.om_model.specs.Graph.{IsValue};
 ghost use Rattle.om_outcome.specs.Outcome.{the_verdict};
 ghost use Rattle.om_declared.specs.Language.{IsTypeLine};
-ghost use Rattle.om_declared.specs.Types.{type_over, IsReady};
+ghost use Rattle.om_declared.specs.Types.{type_over};
 ghost use Rattle.om_declared.specs.Verdict.{IsVerdictOf};
 
 use om_check::Verdict;
@@ -31,7 +31,6 @@ pub fn verdict_of(
     requested: &Requested,
 ) -> Result<Line, Memory>
     requires value { IsValue (length heap.now) root }
-    requires ready { IsReady requested.now }
     ensures { IfOk result (λ line. IsTypeLine the_verdict (type_over requested.now) heap.now root
         line.text.items line.well) }
 {
@@ -48,12 +47,12 @@ fn text_of(
     verdict: &Verdict,
 ) -> Result<Line, Memory>
     requires value { IsValue (length heap.now) root }
-    requires ready { IsReady requested.now }
     requires verdict { IsVerdictOf requested.now heap.now root verdict.now }
     ensures { IfOk result (λ line. IsTypeLine the_verdict (type_over requested.now) heap.now root
         line.text.items line.well) }
 {
     tables_decide();
+    requested.holds();
     let mut text = Vec::new(alloc);
     match verdict {
         Verdict::Yes(_) => {

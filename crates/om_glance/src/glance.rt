@@ -4,7 +4,7 @@ ghost use Rattle.std.specs.Prelude.{ℕ, ◌≡◌, ◌<◌, true, length, IfOk}
 ghost use Rattle.std.specs.Bool.{OnTrue};
 ghost use Rattle.om_types.specs.Table.{Table};
 ghost use Rattle.om_format.specs.Front.{IsFront};
-ghost use Rattle.om_type_table.specs.Made.{table_of, IsLawful};
+ghost use Rattle.om_type_table.specs.Made.{table_of};
 ghost use Rattle.om_pass.specs.State.{needs_in, IsUnderway};
 ghost use Rattle.om_glance.specs.Glance.{IsLook};
 
@@ -71,7 +71,6 @@ fn look<'a>(
     passing: &mut Passing<'a>,
     bytes: &[u8],
 ) -> Result<Answer, Memory>
-    requires lawful { IsLawful (table_of table.now) }
     requires underway { begun.old ≡ true
         → IsUnderway (table_of table.now) limit bytes.now passing.old }
     ensures { IfOk result
@@ -113,7 +112,7 @@ pub struct Glance<'a> {
 impl<'a> Glance<'a> {
     ghost use Rattle.std.specs.Prelude.{ℕ, ◌≡◌, [], IfOk};
     ghost use Rattle.om_types.specs.Table.{Table};
-    ghost use Rattle.om_type_table.specs.Made.{table_of, IsLawful};
+    ghost use Rattle.om_type_table.specs.Made.{table_of};
     ghost use Rattle.om_glance.specs.Glance.{IsGlance, Glances};
 
     /// No byte was taken. It takes no memory.
@@ -146,7 +145,6 @@ impl<'a> Glance<'a> {
 
     /// Takes a piece that is no front of the value's.
     fn first(&mut self, table: &'a TypeTable, limit: u64, piece: &[u8]) -> Result<Answer, Memory>
-        requires lawful { IsLawful (table_of table.now) }
         requires glance { IsGlance (table_of table.now) limit self.old }
         requires none { self.old.kept.items ≡ [] }
         ensures { IfOk result (Glances (table_of table.now) limit self.old piece.now self.new) }
@@ -169,7 +167,6 @@ impl<'a> Glance<'a> {
 
     /// The same where bytes of the value were kept.
     fn next(&mut self, table: &'a TypeTable, limit: u64, piece: &[u8]) -> Result<Answer, Memory>
-        requires lawful { IsLawful (table_of table.now) }
         requires glance { IsGlance (table_of table.now) limit self.old }
         ensures { IfOk result (Glances (table_of table.now) limit self.old piece.now self.new) }
     {
@@ -198,7 +195,6 @@ impl<'a> Glance<'a> {
     /// Takes a piece, up to the end of the value in hand, or all of it, or nothing. No byte of a
     /// value is copied that lies whole in the piece.
     pub fn feed(&mut self, table: &'a TypeTable, limit: u64, piece: &[u8]) -> Result<Answer, Memory>
-        requires lawful { IsLawful (table_of table.now) }
         requires glance { IsGlance (table_of table.now) limit self.old }
         ensures { IfOk result (Glances (table_of table.now) limit self.old piece.now self.new) }
     {

@@ -31,7 +31,7 @@ use Rattle.om_literal_grammar.specs.Literal.{upper_head, cons_head, empty_head}
 use Rattle.om_literal_texts.specs.Readable.{IsHead, AreFieldNames, AreSumNames, IsConstructorName, IsReadable}
 use Rattle.om_literal_texts.proofs.ObjectReadLemmas.{same_names_refl}
 use Rattle.om_show.specs.Tables.{shape_in, names_in}
-use Rattle.om_type_table.specs.declared.table.TypeTable.{TypeTable}
+use Rattle.om_type_table.specs.declared.tabled.Tabled.{Tabled}
 use Rattle.om_type_table.specs.Made.{types_of, IsTypeTable}
 use Rattle.om_guess.specs.Spelled.{has_name, AreConstantNames, AreConstructorNames, IsSpelled, SpelledAreReadable}
 
@@ -70,13 +70,13 @@ all_known P xs i all known j x at = known j x (omega (arith, all, slice_get_with
 pub sum_names : (names : Names) → AreConstantNames names → AreConstructorNames names → AreSumNames names
 sum_names names constants constructors = record { constant = constants; constructor = constructors }
 
-pub spelled_there : (table : TypeTable) (i : ℕ) (s : ShapeOf ℕ) (names : Names) → slice_get table.nodes i ≡ Some s → slice_get table.names i ≡ Some names
+pub spelled_there : (table : Tabled) (i : ℕ) (s : ShapeOf ℕ) (names : Names) → slice_get table.nodes i ≡ Some s → slice_get table.names i ≡ Some names
     → IsSpelled s names → IsSpelled (shape_in table i) (names_in table i)
 spelled_there table i s names e f h =
     subst (λ x. IsSpelled x (names_in table i)) (sym (ap node_or_none e))
     (subst (λ (n : Names). IsSpelled s n) (sym (ap (λ o. unwrap_or o no_names) f)) h)
 
-pub spelled_more : (table : TypeTable) (i : ℕ) → ((j : ℕ) → j < i → IsSpelled (shape_in table j) (names_in table j)) → IsSpelled (shape_in table i) (names_in table i)
+pub spelled_more : (table : Tabled) (i : ℕ) → ((j : ℕ) → j < i → IsSpelled (shape_in table j) (names_in table j)) → IsSpelled (shape_in table i) (names_in table i)
     → (j : ℕ) → j < i + 1 → IsSpelled (shape_in table j) (names_in table j)
 spelled_more table i known this j below =
     ⊎_elim (known j) (λ rest. let same : i ≡ j = omega (arith, below, rest) in subst (λ k. IsSpelled (shape_in table k) (names_in table k)) same this) (cases_lt j i)
@@ -146,7 +146,7 @@ readable shapes.ArrayOfVariable names h = h
 readable shapes.Anything names h = h
 readable (shapes.ArrayOfAnything t) names h = h
 
-module _ (decls : List Decl) (t : Ty) (table : TypeTable) (is : IsTypeTable decls t table) where
+module _ (decls : List Decl) (t : Ty) (table : Tabled) (is : IsTypeTable decls t table) where
   abbrev Is : ℕ → Ty → Type 0
   Is i u = slice_get (types_of table) i ≡ Some u
 

@@ -11,7 +11,7 @@ use Rattle.om_types.specs.declared.shape.ShapeOf.TheVariants as shapes
 use Rattle.om_types.specs.Ty.{Ty}
 use Rattle.om_literal_texts.specs.Readable.{IsConstantName, IsConstructorName, IsReadable, AreReadable}
 use Rattle.om_show.specs.Tables.{shape_in, names_in}
-use Rattle.om_type_table.specs.declared.table.TypeTable.{TypeTable}
+use Rattle.om_type_table.specs.declared.tabled.Tabled.{Tabled}
 use Rattle.om_type_table.specs.Made.{types_of, IsTypeTable}
 
 abbrev pub IsNoKeyword : List ℕ → Type 0
@@ -35,12 +35,12 @@ abbrev pub IsSpelled : {T : Type 0} → ShapeOf T → Names → Type 0
 IsSpelled (shapes.Poly tags) names = names.tags ≡ []
 IsSpelled shape names = IsReadable shape names
 
-abbrev pub AreSpelled : TypeTable → Type 0
+abbrev pub AreSpelled : Tabled → Type 0
 AreSpelled table =
     (i : ℕ) → i < length table.nodes → IsSpelled (shape_in table i) (names_in table i)
 
 -- so they are read back at the types of which the table was made
 abbrev pub SpelledAreReadable : Type 0
 SpelledAreReadable =
-    (decls : List Decl) (t : Ty) (table : TypeTable) → IsTypeTable decls t table
+    (decls : List Decl) (t : Ty) (table : Tabled) → IsTypeTable decls t table
     → AreSpelled table → AreReadable decls (types_of table)

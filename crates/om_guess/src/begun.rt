@@ -191,13 +191,11 @@ pub fn begin<'a, 't>(
     t: usize,
     text: &'t [u8],
 ) -> Result<Option<Begun<'a, 't>>, Memory> {
-    let Some(shape) = table.nodes.as_slice().get(t) else {
+    if t >= table.count() {
         return Ok(None);
-    };
-    let Some(names) = table.names.as_slice().get(t) else {
-        return Ok(None);
-    };
-    match shape {
+    }
+    let names = table.names(t);
+    match table.shape(t) {
         ShapeOf::AnyInt => Ok(begin_integer(text)),
         ShapeOf::Below(many) => Ok(begin_below(*many, text)),
         ShapeOf::Bytes(_) => begin_string(alloc, heap, after(text, 1)),

@@ -222,10 +222,9 @@ fn is_spelled_at(shape: &ShapeOf<usize>, names: &Names) -> bool
 
 /// Whether the names of all types of a table are read back, and none has tags.
 pub fn is_spelled(table: &TypeTable) -> bool
-    requires { length table.now.names ≡ length table.now.nodes }
     ensures { IsTrue result → AreSpelled table.now }
 {
-    for i in 0..table.nodes.as_slice().len() {
+    for i in 0..table.count() {
         if !is_spelled_at(table.shape(i), table.names(i)) {
             return false;
         }

@@ -4,7 +4,7 @@ ghost use Rattle.std.specs.Prelude.{◌≡◌, ◌<◌, length, IfOk, IsTrue};
 ghost use Rattle.om_model.specs.Graph.{IsValue};
 ghost use Rattle.om_types.specs.Table.{table_shapes};
 ghost use Rattle.om_types.specs.Typing.{HasType};
-ghost use Rattle.om_type_table.specs.Made.{table_of, IsLawful};
+ghost use Rattle.om_type_table.specs.Made.{table_of};
 ghost use Rattle.om_show.specs.Shown.{shown_text};
 ghost use Rattle.om_show.specs.Tables.{shape_in, names_in};
 
@@ -24,12 +24,11 @@ pub fn has_text(
     text: &[u8],
 ) -> Result<bool, Memory>
     requires value { IsValue (length heap.now) v }
-    requires lawful { IsLawful (table_of table.now) }
-    requires named { length table.now.names ≡ length table.now.nodes }
     requires typed { HasType (table_shapes (table_of table.now)) heap.now v 0 }
     ensures { IfOk result
         (λ same. IsTrue same
         → shown_text (shape_in table.now) (names_in table.now) heap.now v 0 ≡ text.now) }
 {
+    table.holds();
     is_shown(alloc, heap, v, table, table.root(), text)
 }

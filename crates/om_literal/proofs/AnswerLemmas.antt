@@ -4,7 +4,7 @@ use Rattle.std.specs.Prelude.{ℕ, suc, ◌+◌, ◌≡◌, Bool, true, false, i
 use Rattle.om_model.specs.declared.value.Val.{Val}
 use Rattle.om_model.specs.declared.value.Obj.{Obj}
 use Rattle.om_lex.specs.declared.lexeme.Lexeme.{Lexeme}
-use Rattle.om_type_table.specs.declared.table.TypeTable.{TypeTable}
+use Rattle.om_type_table.specs.declared.tabled.Tabled.{Tabled}
 use Rattle.om_types.specs.declared.names.Names.{Names}
 use Rattle.om_types.specs.declared.shape.ShapeOf.{ShapeOf}
 use Rattle.om_grammar.specs.Refusals.{IsSyntax}
@@ -65,7 +65,7 @@ abbrev pub said : List Lexeme → ℕ → List Obj → Result Reading (Refusal �
 said lexemes end old (Err refusal) = Err (fault_of (in_bytes lexemes end refusal))
 said lexemes end old (Ok r) = with_objects old r.objects r.values
 
-module _ (table : TypeTable) (at : ℕ) (lexemes : List Lexeme) (end : ℕ) (old : List Obj) where
+module _ (table : Tabled) (at : ℕ) (lexemes : List Lexeme) (end : ℕ) (old : List Obj) where
   abbrev pub reading_of : Literal → Result Reading (Refusal ℕ)
   reading_of v = literal_read (shape_in table) (names_in table) 0 v (length old) [] at
 

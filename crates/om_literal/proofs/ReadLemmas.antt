@@ -4,7 +4,7 @@ use Rattle.std.specs.Prelude.{ℕ, ◌≡◌, true, false, is_err, Result, Ok, E
 use Rattle.om_model.specs.declared.value.Val.{Val}
 use Rattle.om_model.specs.declared.value.Obj.{Obj}
 use Rattle.om_lex.specs.declared.lexeme.Lexeme.{Lexeme}
-use Rattle.om_type_table.specs.declared.table.TypeTable.{TypeTable}
+use Rattle.om_type_table.specs.declared.tabled.Tabled.{Tabled}
 use Rattle.om_literal_grammar.specs.Literal.{Literal, literal_kinds}
 use Rattle.om_grammar.specs.Lexemes.{kinds_of}
 use Rattle.om_literal_grammar.specs.Nodes.{IsTreeOf}
@@ -19,7 +19,7 @@ use Rattle.om_literal.proofs.AnswerLemmas.{one_answer}
 -- ---- of a tree
 
 misread :
-    (table : TypeTable) (at : ℕ) (lexemes : List Lexeme) (end : ℕ) (old : List Obj) (v : Literal) (fault : LiteralFault) → literal_kinds v ≡ kinds_of lexemes
+    (table : Tabled) (at : ℕ) (lexemes : List Lexeme) (end : ℕ) (old : List Obj) (v : Literal) (fault : LiteralFault) → literal_kinds v ≡ kinds_of lexemes
     → IsRefusedAs lexemes end (literal_read (shape_in table) (names_in table) 0 v (length old) [] at) fault → IsMisread table at lexemes end (length old) fault
 misread table at lexemes end old v fault spelled r = record { literal = v; refusal = r.refusal; spelled = spelled; refused = r.is; is = r.place }
 
@@ -51,7 +51,7 @@ tree_answers text at old new (Err (faults.Label place)) tree reads = (reads.1, m
 
 -- ---- with the heap as it was after a fault
 
-module _ (table : TypeTable) (at : ℕ) (lexemes : List Lexeme) (end : ℕ) (old new : List Obj) where
+module _ (table : Tabled) (at : ℕ) (lexemes : List Lexeme) (end : ℕ) (old new : List Obj) where
   fault_answered : (fault : LiteralFault) (final : List Obj) → Reads table at lexemes end old new (Err fault) → final ≡ take (length old) new → IsAnswered table at lexemes end old final (Err fault)
   fault_answered faults.Memory final r e = e ∙ r
   fault_answered (faults.Syntax place) final r e = (e ∙ r.0, r.1)

@@ -9,7 +9,7 @@ use Rattle.om_types.specs.declared.names.Names.{Names}
 use Rattle.om_types.specs.declared.shape.ShapeOf.{ShapeOf}
 use Rattle.om_types.specs.Names.{no_names}
 use Rattle.om_types.specs.Table.{node_or_none}
-use Rattle.om_type_table.specs.declared.table.TypeTable.{TypeTable}
+use Rattle.om_type_table.specs.declared.tabled.Tabled.{Tabled}
 use Rattle.om_literal.specs.LiteralAnswers.{shape_in, names_in}
 use Rattle.om_literal_grammar.specs.declared.node.Form.TheVariants as forms
 use Rattle.om_literal_grammar.specs.Literal.{Head, upper_head, tag_head, cons_head, empty_head, ref_head, Literal, Plain, constant, applied, fields, tuple, empty_array, array, Parts, Rows}
@@ -75,8 +75,8 @@ first_set n z v = ap (λ m. set (replicate m z) 0 v) (add-one n)
 
 -- ---- a type of the table
 
-pub shape_known : (table : TypeTable) (t : ℕ) (shape : ShapeOf ℕ) → Some shape ≡ slice_get table.nodes t → shape_in table t ≡ shape
+pub shape_known : (table : Tabled) (t : ℕ) (shape : ShapeOf ℕ) → Some shape ≡ slice_get table.nodes t → shape_in table t ≡ shape
 shape_known table t shape e = ap node_or_none (sym e)
 
-pub names_known : (table : TypeTable) (t : ℕ) (names : Names) → slice_get table.names t ≡ Some names → names_in table t ≡ names
+pub names_known : (table : Tabled) (t : ℕ) (names : Names) → slice_get table.names t ≡ Some names → names_in table t ≡ names
 names_known table t names e = ap (λ o. unwrap_or o no_names) e

@@ -9,7 +9,7 @@ use Rattle.om_types.specs.declared.names.Names.{Names}
 use Rattle.om_types.specs.declared.shape.ShapeOf.{ShapeOf}
 use Rattle.om_types.specs.Names.{no_names}
 use Rattle.om_types.specs.Table.{node_or_none}
-use Rattle.om_type_table.specs.declared.table.TypeTable.{TypeTable}
+use Rattle.om_type_table.specs.declared.tabled.Tabled.{Tabled}
 use Rattle.om_grammar.specs.Refusals.{IsSyntax}
 use Rattle.om_literal_grammar.specs.Literal.{Literal, literal_kinds}
 use Rattle.om_grammar.specs.Lexemes.{kinds_of}
@@ -33,17 +33,17 @@ fault_of (label_at place) = faults.Label place
 
 -- ---- the shapes and the names of a table, by its numbers
 
-abbrev pub shape_in : TypeTable → ℕ → ShapeOf ℕ
+abbrev pub shape_in : Tabled → ℕ → ShapeOf ℕ
 shape_in table i = node_or_none (slice_get table.nodes i)
 
-abbrev pub names_in : TypeTable → ℕ → Names
+abbrev pub names_in : Tabled → ℕ → Names
 names_in table i = unwrap_or (slice_get table.names i) no_names
 
 -- ---- what is answered
 
 -- the lexemes are a literal of this value at the type, and the new objects stand behind the old
 -- ones
-pub record IsValue (table : TypeTable) (at : ℕ) (lexemes : List Lexeme) (old new : List Obj)
+pub record IsValue (table : Tabled) (at : ℕ) (lexemes : List Lexeme) (old new : List Obj)
     (value : Val) : Type 0 where
   pub literal : Literal
   pub objects : List Obj
@@ -52,7 +52,7 @@ pub record IsValue (table : TypeTable) (at : ℕ) (lexemes : List Lexeme) (old n
   pub behind : new ≡ old ++ objects
 
 -- the lexemes are a literal that has this fault at the type
-pub record IsMisread (table : TypeTable) (at : ℕ) (lexemes : List Lexeme) (end : ℕ) (count : ℕ)
+pub record IsMisread (table : Tabled) (at : ℕ) (lexemes : List Lexeme) (end : ℕ) (count : ℕ)
     (fault : LiteralFault) : Type 0 where
   pub literal : Literal
   pub refusal : Refusal ℕ
@@ -68,7 +68,7 @@ pub record IsNoLiteral (lexemes : List Lexeme) (end place : ℕ) : Type 0 where
 
 -- the objects of the heap and a value, or a fault: what the lexemes are at a type over a heap;
 -- never out of memory
-abbrev pub IsAnswer : TypeTable → ℕ → List Lexeme → ℕ → List Obj
+abbrev pub IsAnswer : Tabled → ℕ → List Lexeme → ℕ → List Obj
     → Result (List Obj × Val) LiteralFault → Type 0
 IsAnswer table at lexemes end old (Ok answer) = IsValue table at lexemes old answer.0 answer.1
 IsAnswer table at lexemes end old (Err (faults.Syntax place)) = IsNoLiteral lexemes end place
@@ -83,7 +83,7 @@ IsAnswer table at lexemes end old (Err faults.Memory) = ⊥
 -- ---- what a call gives
 
 -- the answer with the heap that is left; out of memory, and at a fault, it is as it was
-abbrev pub IsAnswered : TypeTable → ℕ → List Lexeme → ℕ → List Obj → List Obj
+abbrev pub IsAnswered : Tabled → ℕ → List Lexeme → ℕ → List Obj → List Obj
     → Result Val LiteralFault → Type 0
 IsAnswered table at lexemes end old new (Ok value) =
     IsAnswer table at lexemes end old (Ok (new, value))
@@ -99,7 +99,7 @@ Gives answer new (Err faults.Memory) = ⊤
 Gives answer new (Err fault) = answer ≡ Err fault
 
 -- there is one answer, and no other
-abbrev pub HasOneAnswer : TypeTable → ℕ → List Lexeme → ℕ → List Obj → Type 0
+abbrev pub HasOneAnswer : Tabled → ℕ → List Lexeme → ℕ → List Obj → Type 0
 HasOneAnswer table at lexemes end old =
     (answer : Result (List Obj × Val) LiteralFault) × IsAnswer table at lexemes end old answer
     × ((other : Result (List Obj × Val) LiteralFault) → IsAnswer table at lexemes end old other

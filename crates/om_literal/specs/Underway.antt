@@ -7,7 +7,7 @@ use Rattle.om_model.specs.declared.value.Obj.TheVariants as objects
 use Rattle.om_model.specs.Graph.{IsValue}
 use Rattle.om_lex.specs.declared.lexeme.Lexeme.{Lexeme}
 use Rattle.om_heap.specs.Heap.{object_at, fields_of}
-use Rattle.om_type_table.specs.declared.table.TypeTable.{TypeTable}
+use Rattle.om_type_table.specs.declared.tabled.Tabled.{Tabled}
 use Rattle.om_grammar.specs.Grammar.{Kinds}
 use Rattle.om_literal_grammar.specs.Literal.{Literal, labelled, Plain, literal_kinds}
 use Rattle.om_grammar.specs.Lexemes.{kinds_of}
@@ -48,7 +48,6 @@ if_open block stack = if nat_lt 0 block.left then block ∷ stack else stack
 
 -- what there is to read by
 pub record IsText (text : Text) : Type 0 where
-  pub named : length text.table.now.names ≡ length text.table.now.nodes
   pub many : length text.ends.now ≡ length text.nodes.now
   pub ends : AreEnds text.nodes.now text.ends.now
   pub few : length text.lexemes.now < 2 ^ 63
@@ -74,7 +73,7 @@ pub record IsWhole (r : Result Reading (Refusal ℕ)) (graph new : List Obj) (mo
   pub behind : new ≡ graph ++ objects
 
 -- a block, whose parts are to come
-pub record IsInner (table : TypeTable) (k : ℕ) (v : Literal) (t : ℕ) (graph new : List Obj)
+pub record IsInner (table : Tabled) (k : ℕ) (v : Literal) (t : ℕ) (graph new : List Obj)
     (labels more : List ℕ) (value : Val) (opened : Opened) : Type 0 where
   pub label : Option ℕ
   pub plain : Plain
@@ -101,7 +100,7 @@ pub record IsInner (table : TypeTable) (k : ℕ) (v : Literal) (t : ℕ) (graph 
 abbrev pub HasPart : Text → ℕ → Type 0
 HasPart text j = (k : ℕ) × (v : Literal) × Stands text.nodes.now text.lexemes.now j k v
 
-abbrev pub IsBegun : TypeTable → ℕ → Literal → ℕ → List Obj → List Obj → List ℕ → List ℕ → Val
+abbrev pub IsBegun : Tabled → ℕ → Literal → ℕ → List Obj → List Obj → List ℕ → List ℕ → Val
     → Option Opened → Type 0
 IsBegun table k v t graph new labels more value None =
     IsWhole (literal_read (shape_in table) (names_in table) k v (length graph) labels t) graph new
@@ -109,7 +108,7 @@ IsBegun table k v t graph new labels more value None =
 IsBegun table k v t graph new labels more value (Some opened) =
     IsInner table k v t graph new labels more value opened
 
-pub record IsGiven (table : TypeTable) (k : ℕ) (v : Literal) (t : ℕ) (graph new : List Obj)
+pub record IsGiven (table : Tabled) (k : ℕ) (v : Literal) (t : ℕ) (graph new : List Obj)
     (labels more : List ℕ) (begun : Begun) : Type 0 where
   pub begun_is : IsBegun table k v t graph new labels more begun.value begun.inner
   pub valid : IsValue (length new) begun.value
@@ -224,7 +223,7 @@ ReadsTree text at old new (Err fault) =
     × (take (length old) new ≡ old)
 
 -- the answer to lexemes, with the old objects unchanged
-abbrev pub Reads : TypeTable → ℕ → List Lexeme → ℕ → List Obj → List Obj → Result Val LiteralFault
+abbrev pub Reads : Tabled → ℕ → List Lexeme → ℕ → List Obj → List Obj → Result Val LiteralFault
     → Type 0
 Reads table at lexemes end old new (Ok value) =
     IsAnswer table at lexemes end old (Ok (new, value)) × IsValue (length new) value

@@ -1,6 +1,6 @@
 //! The value that lexemes are at a type.
 
-ghost use Rattle.std.specs.Prelude.{◌≡◌, length, List, Result, IfOk};
+ghost use Rattle.std.specs.Prelude.{length, List, Result, IfOk};
 ghost use Rattle.om_model.specs.declared.value.Val.{Val};
 ghost use Rattle.om_model.specs.declared.value.Obj.{Obj};
 ghost use Rattle.om_model.specs.Graph.{IsValue};
@@ -55,7 +55,6 @@ fn read_nodes(
     tree: &Nodes,
     end: usize,
 ) -> Result<Val, LiteralFault>
-    requires named { length table.now.names ≡ length table.now.nodes }
     requires tree { IsTreeOf lexemes.now tree.now }
     ensures { Reads table.now at lexemes.now end heap.old heap.new result }
 {
@@ -81,7 +80,6 @@ fn read_in_room(
     tree: &Nodes,
     end: usize,
 ) -> Result<Val, LiteralFault>
-    requires named { length table.now.names ≡ length table.now.nodes }
     requires tree { IsTreeOf lexemes.now tree.now }
     ensures { Reads table.now at lexemes.now end heap.old heap.new result }
 {
@@ -98,7 +96,6 @@ fn read_lexemes(
     lexemes: &[Lexeme],
     end: usize,
 ) -> Result<Val, LiteralFault>
-    requires named { length table.now.names ≡ length table.now.nodes }
     ensures { Reads table.now at lexemes.now end heap.old heap.new result }
 {
     let row = Lexemes::of_row(lexemes);
@@ -122,7 +119,6 @@ pub fn read_literal(
     lexemes: &[Lexeme],
     end: usize,
 ) -> Result<Val, LiteralFault>
-    requires { length table.now.names ≡ length table.now.nodes }
 
     // The value, behind the old objects, or the fault, and then the heap is as it was. So it is out
     // of memory too.
@@ -153,7 +149,6 @@ pub fn read_placed(
     text: &[u8],
     placed: &Placed,
 ) -> Result<Val, LiteralFault>
-    requires named { length table.now.names ≡ length table.now.nodes }
     requires placed { IsPlaced text.now placed.now.places.items placed.now.tree }
 
     // The value, behind the old objects, or the fault, and then the heap is as it was. So it is out

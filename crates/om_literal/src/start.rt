@@ -194,13 +194,12 @@ fn opening_start<'a>(
 fn shape_of(table: &TypeTable, t: usize) -> Option<&ShapeOf<usize>>
     ensures { option_map (λ shape. shape.now) result ≡ slice_get table.now.nodes t }
 {
-    table.nodes.as_slice().get(t)
+    table.nodes().get(t)
 }
 
 /// A literal without parts, by its first lexeme behind its label, at a type.
 #[inline(always)]
 pub fn leaf_at<'k>(table: &TypeTable, kind: &'k LexemeKind, t: usize) -> Leaf<'k>
-    requires { length table.now.names ≡ length table.now.nodes }
     ensures leaf { (k : ℕ) (p : Plain) → kind.now ≡ lead_of_plain p → length (parts_of k p) ≡ 0
         → leaf_in result ≡ start_at t (shape_in table.now t) (names_in table.now t) p }
     ensures sound { leaves.IsSound result }

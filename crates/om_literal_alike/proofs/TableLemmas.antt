@@ -9,7 +9,7 @@ use Rattle.om_types.specs.Shape.{shape}
 use Rattle.om_types.specs.Table.{with_parts, node_or_none}
 use Rattle.om_types.specs.Ty.{Ty}
 use Rattle.om_equal.proofs.TableLemmas.{slice_get-mapped, mapped_some}
-use Rattle.om_type_table.specs.declared.table.TypeTable.{TypeTable}
+use Rattle.om_type_table.specs.declared.tabled.Tabled.{Tabled}
 use Rattle.om_type_table.specs.Made.{types_of, IsTypeTable}
 use Rattle.om_literal_grammar.specs.Literal.{Plain}
 use Rattle.om_literal.specs.LiteralAnswers.{shape_in, names_in}
@@ -18,7 +18,7 @@ use Rattle.om_literal_alike.specs.Alike.{TablesReadAlike}
 use Rattle.om_literal_alike.proofs.StartLemmas.{Mapped, to_misfit, to_range, to_small, to_whole, to_block, start_mapped}
 use Rattle.om_literal_alike.proofs.ReadingLemmas.{StartsAgree, same_misfit, same_range, same_small, same_whole, same_block, read_agree}
 
-module _ (decls : List Decl) (t : Ty) (table : TypeTable) (is : IsTypeTable decls t table) where
+module _ (decls : List Decl) (t : Ty) (table : Tabled) (is : IsTypeTable decls t table) where
   abbrev Is : ℕ → Ty → Type 0
   Is i u = slice_get (types_of table) i ≡ Some u
 

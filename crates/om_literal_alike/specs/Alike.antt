@@ -5,7 +5,7 @@ use Rattle.om_types.specs.declared.decl.Decl.{Decl}
 use Rattle.om_types.specs.Names.{names_of}
 use Rattle.om_types.specs.Shape.{shape}
 use Rattle.om_types.specs.Ty.{Ty}
-use Rattle.om_type_table.specs.declared.table.TypeTable.{TypeTable}
+use Rattle.om_type_table.specs.declared.tabled.Tabled.{Tabled}
 use Rattle.om_type_table.specs.Made.{types_of, IsTypeTable}
 use Rattle.om_literal_grammar.specs.Literal.{Literal}
 use Rattle.om_literal.specs.LiteralAnswers.{shape_in, names_in}
@@ -26,7 +26,7 @@ module _ {T U : Type 0} (Of : T → U → Type 0) where
 -- a literal is read alike at a number of a table and at the type of this number
 abbrev pub TablesReadAlike : Type 0
 TablesReadAlike =
-    (decls : List Decl) (t : Ty) (table : TypeTable) → IsTypeTable decls t table
+    (decls : List Decl) (t : Ty) (table : Tabled) → IsTypeTable decls t table
     → (k : ℕ) (v : Literal) (count : ℕ) (labels : List ℕ) (i : ℕ) (u : Ty)
     → slice_get (types_of table) i ≡ Some u
     → ReadAgree (λ i u. slice_get (types_of table) i ≡ Some u)

@@ -27,10 +27,10 @@ use Rattle.om_pass.specs.declared.words.Words.{Words}
 use Rattle.om_pass.specs.declared.state.State.{State}
 use Rattle.om_pass.specs.State.{types_in, needs_in, stated32, TookFront, TookTurn, BeginsAs, AreNoted, Leads, IsMarked, IsSpent}
 
-words32_push : (tokens : List Token) (token : Token) → all_words32 (map measure_of (tokens ++ token ∷ [])) ≡ all_words32 (map measure_of tokens) + of_object words32 (measure_of token)
+pub words32_push : (tokens : List Token) (token : Token) → all_words32 (map measure_of (tokens ++ token ∷ [])) ≡ all_words32 (map measure_of tokens) + of_object words32 (measure_of token)
 words32_push tokens token = ap all_words32 (map-append measure_of tokens (token ∷ [])) ∙ sum_by_push (of_object words32) (map measure_of tokens) (measure_of token)
 
-words64_push : (tokens : List Token) (token : Token) → all_words64 (map measure_of (tokens ++ token ∷ [])) ≡ all_words64 (map measure_of tokens) + of_object words64 (measure_of token)
+pub words64_push : (tokens : List Token) (token : Token) → all_words64 (map measure_of (tokens ++ token ∷ [])) ≡ all_words64 (map measure_of tokens) + of_object words64 (measure_of token)
 words64_push tokens token = ap all_words64 (map-append measure_of tokens (token ∷ [])) ∙ sum_by_push (of_object words64) (map measure_of tokens) (measure_of token)
 
 -- ---- the header
@@ -235,7 +235,7 @@ start_from limit bytes head n b is =
 
 -- ---- the end
 
-words32_stated : (head : Head) (tokens : List Token) (left : ℕ) (big : Bool) → head.big ≡ big → left + all_words32 (map measure_of tokens) ≡ (if big then 2 ^ 64 - 1 else head.w32) → (big ≡ false → left ≡ 0)
+pub words32_stated : (head : Head) (tokens : List Token) (left : ℕ) (big : Bool) → head.big ≡ big → left + all_words32 (map measure_of tokens) ≡ (if big then 2 ^ 64 - 1 else head.w32) → (big ≡ false → left ≡ 0)
     → StatesWords32 big head.w32 (all_words32 (map measure_of tokens))
 words32_stated head tokens left true is sum none = tt
 words32_stated head tokens left false is sum none = let zero' = none refl in omega (arith, sum, zero')

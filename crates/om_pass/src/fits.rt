@@ -22,7 +22,7 @@ use om_types::shape::{Constr, PolyTag, ShapeOf};
 pub fn shape_of(table: &TypeTable, ty: usize) -> Option<&ShapeOf<usize>>
     ensures { IfSome result (λ shape. shape.now ≡ shape_at (table_of table.now) ty) }
 {
-    if ty < table.nodes.len() {
+    if ty < table.count() {
         Some(table.shape(ty))
     } else {
         None
@@ -164,7 +164,7 @@ pub fn is_equal(table: &TypeTable, first: usize, second: usize) -> bool
 fn has_same_class(table: &TypeTable, first: usize, second: usize) -> bool
     ensures { OnTrue result ((table_shapes (table_of table.now)).equal first second) }
 {
-    let many = table.classes.len();
+    let many = table.count();
     first < many && second < many && table.class(first) == table.class(second)
 }
 

@@ -4,15 +4,15 @@
 
 mod again;
 mod back;
-mod fits;
+pub mod fits;
 mod flat;
 mod hot;
 mod passing;
-mod piece;
+pub mod piece;
 mod places;
 mod state;
 mod step;
-mod whole;
+pub mod whole;
 mod words;
 
 pub use passing::{Passing, pass};

@@ -1,7 +1,7 @@
 //! A value that is passed, at once or as its bytes come.
 
 ghost use Rattle.std.specs.Prelude.{IfOk, IfSome};
-ghost use Rattle.om_type_table.specs.Made.{table_of, IsLawful};
+ghost use Rattle.om_type_table.specs.Made.{table_of};
 ghost use Rattle.om_pass_law.specs.OnePass.{IsTypedFront};
 
 use crate::places::Places;
@@ -92,7 +92,6 @@ impl<'a> Passing<'a> {
 
     /// Goes on, with the bytes that were passed and those that came since.
     pub fn go(&mut self, table: &'a TypeTable, limit: u64, bytes: &[u8]) -> Result<Stop, Memory>
-        requires lawful { IsLawful (table_of table.now) }
         requires leads { IsUnderway (table_of table.now) limit bytes.now self.old }
         ensures { IfOk result (Stops (table_of table.now) limit bytes.now self.new) }
     {
@@ -135,7 +134,6 @@ pub fn pass(
     bytes: &[u8],
     limit: u64,
 ) -> Result<Option<usize>, Memory>
-    requires { IsLawful (table_of table.now) }
     ensures { IfOk result
         (λ answer. IfSome answer (λ n. IsTypedFront (table_of table.now) limit n bytes.now)) }
 {

@@ -2,7 +2,7 @@
 
 ghost use Rattle.std.specs.Prelude.{◌≡◌, ◌≤◌, ◌∷◌, [], IfOk, IfSome};
 ghost use Rattle.std.specs.Bool.{OnTrue};
-ghost use Rattle.om_type_table.specs.Made.{table_of, IsLawful};
+ghost use Rattle.om_type_table.specs.Made.{table_of};
 ghost use Rattle.om_pass.specs.Places.{need_of, open_needs};
 ghost use Rattle.om_pass.specs.State.{Leads, IsSpent, BeginsAs, StopsAt};
 
@@ -85,13 +85,13 @@ pub fn run<'a>(
     left: &mut u64,
     bytes: &[u8],
 ) -> Result<Stop, Memory>
-    requires lawful { IsLawful (table_of table.now) }
     requires leads { Leads (table_of table.now) limit bytes.now head.now start first
         marks.old.items notes.old.items state.old }
     ensures { IfOk result
         (StopsAt (table_of table.now) limit bytes.now head.now start marks.new.items
         notes.new.items state.new) }
 {
+    table.holds();
     let mut at = first;
     let mut now = state.places.now;
     let mut words = state.words;

@@ -6,7 +6,7 @@ use Rattle.std.proofs.lemmas.List.{length-append, length-replicate, length-set}
 use Rattle.std.proofs.lemmas.List.Folds.{list_any-append}
 use Rattle.om_model.specs.declared.value.Val.{Val}
 use Rattle.om_model.specs.declared.value.Obj.{Obj}
-use Rattle.om_type_table.specs.declared.table.TypeTable.{TypeTable}
+use Rattle.om_type_table.specs.declared.tabled.Tabled.{Tabled}
 use Rattle.om_show.specs.Pieces.{Piece, First, has, firsts, agains, labelled, number_in, label_text, piece_text}
 use Rattle.om_show.proofs.PieceLemmas.{agains-append, firsts-append}
 use Rattle.om_print.specs.declared.walk.Step.{Step}
@@ -66,7 +66,7 @@ pub append_associative : {A : Type 0} (xs ys zs : List A) → (xs ++ ys) ++ zs �
 append_associative [] ys zs = refl
 append_associative (x ∷ xs) ys zs = ap (λ vs. x ∷ vs) (append_associative xs ys zs)
 
-module _ (table : TypeTable) (graph : List Obj) where
+module _ (table : Tabled) (graph : List Obj) where
   -- ---- steps
 
   pub some_piece : (step : Step) → 1 ≤ length (step_pieces table graph step)

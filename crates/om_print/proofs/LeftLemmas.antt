@@ -7,7 +7,7 @@ use Rattle.om_model.specs.declared.value.Val.{Val}
 use Rattle.om_model.specs.declared.value.Val.TheVariants as vals
 use Rattle.om_model.specs.declared.value.Obj.{Obj}
 use Rattle.om_types.specs.Typing.{field_at as typed_field}
-use Rattle.om_type_table.specs.declared.table.TypeTable.{TypeTable}
+use Rattle.om_type_table.specs.declared.tabled.Tabled.{Tabled}
 use Rattle.om_fits.specs.Needs.{needs_in}
 use Rattle.om_leaves.specs.Frames.{before_part}
 use Rattle.om_leaves.specs.FrameView.{frame_in}
@@ -18,7 +18,7 @@ use Rattle.om_print.specs.declared.block.OpenBlock.{OpenBlock}
 use Rattle.om_print.specs.Levels.{Level, Open, end_text, IsLastEnd, with_next, level_after}
 use Rattle.om_print.specs.Walking.{needs_left, meet, parts_left, parts_after, level_left, after_inner, left_of}
 
-module _ (table : TypeTable) (graph : List Obj) where
+module _ (table : Tabled) (graph : List Obj) where
   -- ---- the levels
 
   -- what comes first inside comes first

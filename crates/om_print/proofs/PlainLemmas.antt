@@ -7,7 +7,7 @@ use Rattle.std.proofs.lemmas.List.{length-append, length-replicate}
 use Rattle.om_model.specs.declared.value.Val.{Val}
 use Rattle.om_model.specs.declared.value.Obj.{Obj}
 use Rattle.om_model.specs.Graph.{IsValue}
-use Rattle.om_type_table.specs.declared.table.TypeTable.{TypeTable}
+use Rattle.om_type_table.specs.declared.tabled.Tabled.{Tabled}
 use Rattle.om_type_table.specs.Made.{table_of}
 use Rattle.om_show.specs.Pieces.{Piece, firsts, agains, has, labelled, piece_text, text_of}
 use Rattle.om_show.specs.Shown.{pieces_of}
@@ -40,7 +40,7 @@ none_has (x ∷ xs) = none_has xs
 pub no_labels : (pieces : List Piece) → agains pieces ≡ [] → labelled pieces ≡ []
 no_labels pieces none = ap (λ all. filter (has all) (firsts pieces)) none ∙ none_has (firsts pieces)
 
-module _ (table : TypeTable) (graph : List Obj) where
+module _ (table : Tabled) (graph : List Obj) where
   pub put_goes : (left : List Piece) (met_before old text : List ℕ) (step : Step) (new : Walk) → Goes table graph left met_before step new → agains_of step ≡ [] → text ≡ old ++ flat_map (piece_text []) (step_pieces table graph step)
       → IsPutOn table graph left met_before old text new
   put_goes left met_before old text step new goes fresh put = record {

@@ -13,7 +13,7 @@ use Rattle.om_model.proofs.Options.{slice_get-Contains}
 use Rattle.om_types.specs.Fitting.{or_none, is_asked, fields_of as needed_of}
 use Rattle.om_types.proofs.AskedLemmas.{is_needed}
 use Rattle.om_table.proofs.FieldLemmas.{fields_there}
-use Rattle.om_type_table.specs.declared.table.TypeTable.{TypeTable}
+use Rattle.om_type_table.specs.declared.tabled.Tabled.{Tabled}
 use Rattle.om_type_table.specs.Made.{table_of, IsLawful}
 use Rattle.om_heap.specs.Heap.{object_at, fields_of, field_at, word_of, IsFieldWord}
 use Rattle.om_heap.proofs.ReadLemmas.{field_word-at, word_of-inj}
@@ -38,7 +38,7 @@ use Rattle.om_print.proofs.TypedLemmas.{integer_fits, there, named_below, hidden
 pub field_word_at : (graph : List Obj) (words : List ℕ) (i : ℕ) → All (IsFieldWord graph) words → i < length words → IsFieldWord graph (get_or words i 0)
 field_word_at graph words i valid inside = All-contains (IsFieldWord graph) words (get_or words i 0) valid (slice_get-Contains words i (get_or words i 0) (slice_get-get_or words i 0 inside))
 
-module _ (table : TypeTable) (graph : List Obj) where
+module _ (table : Tabled) (graph : List Obj) where
   -- the blocks of all levels are met, and there are no more of those than objects
   pub few_levels : (walk : Walk) → IsWalk table graph walk → length (levels_of walk) ≤ length graph
   few_levels walk is = omega (arith, is.depth, is.counted, is.many, how_many_within walk.marks.items)

@@ -1,7 +1,7 @@
 -- Numbers of labels, by the objects' numbers.
 use Rattle.std.specs.Prelude.{ℕ, ◌<◌, ◌≡◌, ◌||◌, Bool, true, false, List, [], ◌∷◌, ◌++◌, length, slice_index, slice_index_or, slice_set}
 use Rattle.om_model.specs.declared.value.Obj.{Obj}
-use Rattle.om_type_table.specs.declared.table.TypeTable.{TypeTable}
+use Rattle.om_type_table.specs.declared.tabled.Tabled.{Tabled}
 use Rattle.om_show.specs.Pieces.{Piece, has, firsts, agains, number_in}
 use Rattle.om_print.specs.Walking.{IsWalk, pieces_left}
 use Rattle.om_print.specs.declared.walk.Step.{Step}
@@ -33,7 +33,7 @@ IsMarkable n (steps.Again o) = o < n
 IsMarkable n step = Unit {0}
 
 -- marks and meetings so far, and those in the pieces that are left, are those in all pieces
-pub record AreCounted (table : TypeTable) (graph : List Obj) (all : List Piece) (walk : Walk)
+pub record AreCounted (table : Tabled) (graph : List Obj) (all : List Piece) (walk : Walk)
     (again : List Bool) : Type 0 where
   pub is_walk : IsWalk table graph walk
   pub many : length again ≡ length graph

@@ -1,14 +1,14 @@
 -- What is put as long as no object is met again.
 use Rattle.std.specs.Prelude.{ℕ, ◌≡◌, List, [], ◌∷◌, ◌++◌, flat_map}
 use Rattle.om_model.specs.declared.value.Obj.{Obj}
-use Rattle.om_type_table.specs.declared.table.TypeTable.{TypeTable}
+use Rattle.om_type_table.specs.declared.tabled.Tabled.{Tabled}
 use Rattle.om_leaves.specs.FrameView.{frame_in}
 use Rattle.om_show.specs.Pieces.{Piece, firsts, agains, piece_text}
 use Rattle.om_print.specs.declared.block.OpenBlock.{OpenBlock}
 use Rattle.om_print.specs.declared.walk.Walk.{Walk}
 use Rattle.om_print.specs.Walking.{pieces_left, IsWalk, IsBegun}
 
-module _ (table : TypeTable) (graph : List Obj) where
+module _ (table : Tabled) (graph : List Obj) where
   -- the first of the pieces that were left are put, none of which meets an object again
   pub record IsPutOn (left : List Piece) (met_before old text : List ℕ) (new : Walk) : Type 0 where
     pub now : List Piece

@@ -6,7 +6,7 @@ use Rattle.om_model.specs.declared.value.Obj.{Obj}
 use Rattle.om_model.specs.Graph.{IsValue, IsGraph}
 use Rattle.om_types.specs.Fitting.{fits_int, or_none, fields_of as needed_of}
 use Rattle.om_types.specs.Typing.{field_at as typed_field}
-use Rattle.om_type_table.specs.declared.table.TypeTable.{TypeTable}
+use Rattle.om_type_table.specs.declared.tabled.Tabled.{Tabled}
 use Rattle.om_type_table.specs.Made.{table_of}
 use Rattle.om_heap.specs.Heap.{object_at, fields_of, field_at, word_of, IsFieldWord}
 use Rattle.om_fits.specs.Needs.{needs_in}
@@ -39,7 +39,7 @@ how_many (false ∷ marks) = how_many marks
 abbrev pub needs_left : OpenBlock → List (ℕ × ℕ)
 needs_left block = drop block.next (needs_in block.needs)
 
-module _ (table : TypeTable) (graph : List Obj) where
+module _ (table : Tabled) (graph : List Obj) where
   abbrev pub meet : ℕ → List ℕ → Val → ℕ → Met
   meet n seen v t = met_within (shape_in table) (names_in table) graph n seen v t
 

@@ -8,7 +8,7 @@ ghost use Rattle.om_types.specs.Fitting.{is_asked};
 ghost use Rattle.om_heap.specs.Heap.{object_at, fields_of, word_of};
 ghost use Rattle.om_leaves.specs.Frames.{object_text};
 ghost use Rattle.om_show.specs.Tables.{shape_in, names_in};
-ghost use Rattle.om_type_table.specs.Made.{table_of, IsLawful};
+ghost use Rattle.om_type_table.specs.Made.{table_of};
 ghost use Rattle.om_print.specs.Levels.{levels_of, last_outside};
 ghost use Rattle.om_print.specs.Typed.{IsTypedAt};
 ghost use Rattle.om_print.specs.Walking.{left_of, pieces_left, IsWalk};
@@ -33,8 +33,6 @@ pub fn put_until_again<'a>(
     walk: &mut Walk<'a>,
 ) -> Result<bool, Memory>
     requires walk { IsWalk table.now heap.now walk.old }
-    requires lawful { IsLawful (table_of table.now) }
-    requires named { length table.now.names ≡ length table.now.nodes }
     ensures put { IfOk result
         (λ _. IsPutOn table.now heap.now (pieces_left table.now heap.now walk.old) walk.old.order
         text.old.items text.new.items walk.new) }
@@ -58,8 +56,6 @@ pub fn put_some<'a>(
     few: usize,
 ) -> Result<bool, Memory>
     requires walk { IsWalk table.now heap.now walk.old }
-    requires lawful { IsLawful (table_of table.now) }
-    requires named { length table.now.names ≡ length table.now.nodes }
     ensures none { IfOk result (λ fresh. fresh ≡ true → walk.new.value ≡ None) }
     ensures put { IfOk result
         (λ _. IsPutOn table.now heap.now (pieces_left table.now heap.now walk.old) walk.old.order
@@ -80,8 +76,6 @@ fn put_next<'a>(
     walk: &mut Walk<'a>,
 ) -> Result<bool, Memory>
     requires walk { IsWalk table.now heap.now walk.old }
-    requires lawful { IsLawful (table_of table.now) }
-    requires named { length table.now.names ≡ length table.now.nodes }
     ensures none { IfOk result (λ fresh. fresh ≡ true → walk.new.value ≡ None) }
     ensures put { IfOk result
         (λ _. IsPutOn table.now heap.now (pieces_left table.now heap.now walk.old) walk.old.order
@@ -106,8 +100,6 @@ fn put_part<'a>(
     requires walk { IsWalk table.now heap.now walk.old }
     requires none { walk.old.value ≡ None }
     requires inside { 0 < vec_len walk.old.stack + vec_len walk.old.ends }
-    requires lawful { IsLawful (table_of table.now) }
-    requires named { length table.now.names ≡ length table.now.nodes }
     ensures none { IfOk result (λ fresh. fresh ≡ true → walk.new.value ≡ None) }
     ensures fewer { IfOk result
         (λ _. length (pieces_left table.now heap.now walk.new)
@@ -139,8 +131,6 @@ fn put_in<'a>(
     requires none { walk.old.value ≡ None }
     requires inside { 0 < vec_len walk.old.stack }
     requires innermost { vec_len walk.old.ends ≤ last_outside 0 walk.old.stack.items }
-    requires lawful { IsLawful (table_of table.now) }
-    requires named { length table.now.names ≡ length table.now.nodes }
     ensures none { IfOk result (λ fresh. fresh ≡ true → walk.new.value ≡ None) }
     ensures fewer { IfOk result
         (λ _. length (pieces_left table.now heap.now walk.new)
@@ -192,8 +182,6 @@ fn put_value<'a>(
     requires value { IsValue (length heap.now) v }
     requires word { word ≡ word_of heap.now v }
     requires typed { IsTypedAt (table_of table.now) heap.now v at }
-    requires lawful { IsLawful (table_of table.now) }
-    requires named { length table.now.names ≡ length table.now.nodes }
     ensures none { IfOk result (λ fresh. fresh ≡ true → walk.new.value ≡ None) }
     ensures put { IfOk result
         (λ _. IsPutOn table.now heap.now
@@ -242,8 +230,6 @@ fn put_object<'a>(
     requires word { word ≡ word_of heap.now (vals.Ref o) }
     requires typed { IsTypedAt (table_of table.now) heap.now (vals.Ref o) at }
     requires asked { IsTrue (is_asked (shape_in table.now at)) }
-    requires lawful { IsLawful (table_of table.now) }
-    requires named { length table.now.names ≡ length table.now.nodes }
     ensures none { OnOk result (walk.new.value ≡ None) }
     ensures put { OnOk result
         (IsPutOn table.now heap.now
@@ -284,7 +270,6 @@ pub fn put_leaf(
     requires inside { o < length heap.now }
     requires word { word ≡ word_of heap.now (vals.Ref o) }
     requires number { at < length table.now.nodes }
-    requires named { length table.now.names ≡ length table.now.nodes }
     ensures { OnOk result
         (text.new.items
         ≡ text.old.items
@@ -311,8 +296,6 @@ fn put_block<'a>(
     requires inside { o < length heap.now }
     requires word { word ≡ word_of heap.now (vals.Ref o) }
     requires typed { IsTypedAt (table_of table.now) heap.now (vals.Ref o) at }
-    requires lawful { IsLawful (table_of table.now) }
-    requires named { length table.now.names ≡ length table.now.nodes }
     ensures { OnOk result
         (IsOpened table.now heap.now o at tag outside stack.old.items stack.new.items
         text.old.items text.new.items) }

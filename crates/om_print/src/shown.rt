@@ -4,7 +4,7 @@ ghost use Rattle.std.specs.Prelude.{◌≡◌, ◌<◌, ◌++◌, None, [], leng
 ghost use Rattle.om_model.specs.Graph.{IsValue};
 ghost use Rattle.om_types.specs.Table.{table_shapes};
 ghost use Rattle.om_types.specs.Typing.{HasType};
-ghost use Rattle.om_type_table.specs.Made.{table_of, IsLawful};
+ghost use Rattle.om_type_table.specs.Made.{table_of};
 ghost use Rattle.om_show.specs.Pieces.{piece_text};
 ghost use Rattle.om_show.specs.Shown.{shown_text, pieces_of};
 ghost use Rattle.om_show.specs.Tables.{shape_in, names_in};
@@ -34,8 +34,6 @@ pub fn put_shown_at(
     at: usize,
 ) -> Result<(), Memory>
     requires value { IsValue (length heap.now) v }
-    requires lawful { IsLawful (table_of table.now) }
-    requires named { length table.now.names ≡ length table.now.nodes }
     requires number { at < length table.now.nodes }
     requires typed { HasType (table_shapes (table_of table.now)) heap.now v at }
     ensures { OnOk result
@@ -65,8 +63,6 @@ fn put_without_labels(
 ) -> Result<Option<Vec<u64>>, Memory>
     requires value { IsValue (length heap.now) v }
     requires typed { IsTypedAt (table_of table.now) heap.now v at }
-    requires lawful { IsLawful (table_of table.now) }
-    requires named { length table.now.names ≡ length table.now.nodes }
     ensures text { IfOk result
         (λ found. IsPut found text.old.items text.new.items
         (pieces_of (shape_in table.now) (names_in table.now) heap.now v at)) }
@@ -98,8 +94,6 @@ fn put_with_labels(
 ) -> Result<(), Memory>
     requires value { IsValue (length heap.now) v }
     requires typed { IsTypedAt (table_of table.now) heap.now v at }
-    requires lawful { IsLawful (table_of table.now) }
-    requires named { length table.now.names ≡ length table.now.nodes }
     requires labels { AreLabels labels.now }
     requires many { vec_len labels.now.numbers ≡ length heap.now }
     ensures { OnOk result
@@ -126,7 +120,6 @@ fn put_step(
     requires step { IsStep table.now heap.now step }
     requires labels { AreLabels labels.now }
     requires many { vec_len labels.now.numbers ≡ length heap.now }
-    requires named { length table.now.names ≡ length table.now.nodes }
     ensures { OnOk result
         (text.new.items
         ≡ text.old.items
@@ -160,7 +153,6 @@ fn put_plain(
     step: Step<'_>,
 ) -> Result<(), Memory>
     requires step { IsStep table.now heap.now step }
-    requires named { length table.now.names ≡ length table.now.nodes }
     ensures { OnOk result
         (text.new.items
         ≡ text.old.items

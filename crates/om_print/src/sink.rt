@@ -4,7 +4,7 @@ ghost use Rattle.std.specs.Prelude.{◌≡◌, ◌<◌, length, IsErrOf};
 ghost use Rattle.om_model.specs.Graph.{IsValue};
 ghost use Rattle.om_types.specs.Table.{table_shapes};
 ghost use Rattle.om_types.specs.Typing.{HasType};
-ghost use Rattle.om_type_table.specs.Made.{table_of, IsLawful};
+ghost use Rattle.om_type_table.specs.Made.{table_of};
 ghost use Rattle.om_edge.specs.Sink.{Writes};
 ghost use Rattle.om_edge.specs.State.{change};
 ghost use Rattle.om_show.specs.Dumped.{dump_text};
@@ -30,8 +30,6 @@ pub fn show_at<K: Sink>(
     out: &mut K,
 ) -> Result<(), WriteError>
     requires value { IsValue (length heap.now) v }
-    requires lawful { IsLawful (table_of table.now) }
-    requires named { length table.now.names ≡ length table.now.nodes }
     requires number { at < length table.now.nodes }
     requires typed { HasType (table_shapes (table_of table.now)) heap.now v at }
     ensures puts { Writes (change (K.state out.old) (K.state out.new))
@@ -53,13 +51,12 @@ pub fn show<K: Sink>(
     out: &mut K,
 ) -> Result<(), WriteError>
     requires value { IsValue (length heap.now) root }
-    requires lawful { IsLawful (table_of table.now) }
-    requires named { length table.now.names ≡ length table.now.nodes }
     requires typed { HasType (table_shapes (table_of table.now)) heap.now root 0 }
     ensures puts { Writes (change (K.state out.old) (K.state out.new))
         (shown_text (shape_in table.now) (names_in table.now) heap.now root 0) result }
     ensures untouched { IsErrOf result WriteError.Memory → out.new ≡ out.old }
 {
+    table.holds();
     show_at(alloc, heap, root, table, table.root(), out)
 }
 

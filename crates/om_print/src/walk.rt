@@ -10,7 +10,7 @@ ghost use Rattle.om_fits.specs.Needs.{needs_in};
 ghost use Rattle.om_leaves.specs.Frames.{frame_of};
 ghost use Rattle.om_leaves.specs.FrameView.{frame_in};
 ghost use Rattle.om_show.specs.Tables.{shape_in, names_in};
-ghost use Rattle.om_type_table.specs.Made.{table_of, IsLawful};
+ghost use Rattle.om_type_table.specs.Made.{table_of};
 ghost use Rattle.om_print.specs.Levels.{levels_of, last_outside, IsPassed};
 ghost use Rattle.om_print.specs.Typed.{IsTypedAt};
 ghost use Rattle.om_print.specs.Walking.{left_of, pieces_left, IsOpen, IsWalk, Goes, Gives};
@@ -92,8 +92,6 @@ impl<'a> Walk<'a> {
     #[inline(always)]
     pub fn next(&mut self, heap: &'a Heap, table: &'a TypeTable) -> Result<Option<Step<'a>>, Memory>
         requires walk { IsWalk table.now heap.now self.old }
-        requires lawful { IsLawful (table_of table.now) }
-        requires named { length table.now.names ≡ length table.now.nodes }
         ensures { IfOk result
             (Gives table.now heap.now (pieces_left table.now heap.now self.old) self.old.order
             self.new) }
@@ -118,8 +116,6 @@ impl<'a> Walk<'a> {
         requires none { self.old.value ≡ None }
         requires value { IsValue (length heap.now) v }
         requires typed { IsTypedAt (table_of table.now) heap.now v at }
-        requires lawful { IsLawful (table_of table.now) }
-        requires named { length table.now.names ≡ length table.now.nodes }
         ensures none { IfOk result (λ _. self.new.value ≡ None) }
         ensures goes { IfOk result
             (λ step. Goes table.now heap.now
@@ -152,8 +148,6 @@ impl<'a> Walk<'a> {
         requires inside { o < length heap.now }
         requires typed { IsTypedAt (table_of table.now) heap.now (vals.Ref o) at }
         requires asked { IsTrue (is_asked (shape_in table.now at)) }
-        requires lawful { IsLawful (table_of table.now) }
-        requires named { length table.now.names ≡ length table.now.nodes }
         ensures none { IfOk result (λ _. self.new.value ≡ None) }
         ensures goes { IfOk result
             (λ step. Goes table.now heap.now
@@ -309,8 +303,6 @@ pub fn open_block<'a>(
     requires inside { o < length heap.now }
     requires word { word ≡ word_of heap.now (vals.Ref o) }
     requires typed { IsTypedAt (table_of table.now) heap.now (vals.Ref o) at }
-    requires lawful { IsLawful (table_of table.now) }
-    requires named { length table.now.names ≡ length table.now.nodes }
     ensures object { result.object ≡ o }
     ensures frame { frame_in result.frame
         ≡ frame_of (shape_in table.now at) (names_in table.now at) tag
@@ -321,6 +313,7 @@ pub fn open_block<'a>(
     ensures outside { result.outside ≡ outside }
     ensures open { IsOpen table.now heap.now result }
 {
+    table.holds();
     let _count = heap.count();
     let shape = table.shape(at);
     OpenBlock {

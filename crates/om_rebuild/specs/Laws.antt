@@ -10,7 +10,7 @@ use Rattle.om_types.specs.Ty.{Ty}
 use Rattle.om_types.specs.Typing.{HasType}
 use Rattle.om_format.specs.Tree.{Tree, IsTree, ReferBack, root, made, objects_of}
 use Rattle.om_show.specs.Shown.{shown_text}
-use Rattle.om_type_table.specs.declared.table.TypeTable.{TypeTable}
+use Rattle.om_type_table.specs.declared.tabled.Tabled.{Tabled}
 use Rattle.om_type_table.specs.Made.{types_of, IsTypeTable}
 use Rattle.om_decl.specs.Read.{IsDeclared, IsTypeOf}
 use Rattle.om_literal_texts.specs.Readable.{AreReadable}
@@ -40,7 +40,7 @@ DeclaredTextsAreReadBack =
 -- so it is at the number 0 of its table
 abbrev pub LiteralsAreReadBack : Type 0
 LiteralsAreReadBack =
-    (file_text type_text : List ℕ) (decls : List Decl) (t : Ty) (table : TypeTable)
+    (file_text type_text : List ℕ) (decls : List Decl) (t : Ty) (table : Tabled)
     → IsDeclared file_text decls → IsTypeOf decls type_text t
     → AreWellFormed decls → IsSoundType decls t → IsTypeTable decls t table
     → NoneIsHidden decls (types_of table)

@@ -13,14 +13,14 @@ use Rattle.om_types.specs.Shape.{shape}
 use Rattle.om_types.specs.Ty.{Ty}
 use Rattle.om_types.specs.Typing.{HasType}
 use Rattle.om_show.specs.Shown.{shown_text}
-use Rattle.om_type_table.specs.declared.table.TypeTable.{TypeTable}
+use Rattle.om_type_table.specs.declared.tabled.Tabled.{Tabled}
 use Rattle.om_type_table.specs.Made.{types_of, IsTypeTable}
 use Rattle.om_decl.specs.Read.{IsDeclared, IsTypeOf}
 use Rattle.om_text.specs.Laws.{ReadsAgain}
 
 -- the text is read as the value of the tree: it is the same value, has the type, has that text, and
 -- its tree, which says its canonical bytes, is the tree
-pub record IsRebuilt (decls : List Decl) (t : Ty) (table : TypeTable) (g : List Obj) (v : Val)
+pub record IsRebuilt (decls : List Decl) (t : Ty) (table : Tabled) (g : List Obj) (v : Val)
     (tree : Tree) :
     Type 0 where
   pub reads : ReadsAgain table tree (shown_text (shape decls) (names_of decls) g v t)
@@ -34,7 +34,7 @@ pub record IsRebuilt (decls : List Decl) (t : Ty) (table : TypeTable) (g : List 
 -- that is reached is `_`
 abbrev pub ValuesAreRebuilt : Type 0
 ValuesAreRebuilt =
-    (file_text type_text : List ℕ) (decls : List Decl) (t : Ty) (table : TypeTable)
+    (file_text type_text : List ℕ) (decls : List Decl) (t : Ty) (table : Tabled)
     → IsDeclared file_text decls → IsTypeOf decls type_text t
     → AreWellFormed decls → IsSoundType decls t → IsTypeTable decls t table
     → NoneIsHidden decls (types_of table)

@@ -13,7 +13,7 @@ use om_type_table::TypeTable;
 pub fn hidden_type(heap: &Heap, table: &TypeTable) -> Option<usize>
     ensures { IfSome result (IsHidden (table_of table.now)) }
 {
-    let types = table.nodes.len();
+    let types = table.count();
     if heap.count() < types as u64 {
         return None;
     }

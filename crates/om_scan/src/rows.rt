@@ -23,7 +23,7 @@ pub fn rows_of(alloc: Global, heap: &Heap, table: &TypeTable) -> Result<Vec<Row>
     ensures { IfOk result (λ rows. AreRows table.now.nodes rows.items) }
 {
     let mut rows = Vec::new(alloc);
-    let types = table.nodes.len();
+    let types = table.count();
     if heap.count() < types as u64 {
         return Ok(rows);
     }

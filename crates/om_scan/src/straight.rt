@@ -8,7 +8,7 @@ ghost use Rattle.om_model.specs.declared.value.Val.TheVariants as vals;
 ghost use Rattle.om_heap.specs.Heap.{word_of, field_at, IsFieldWord, IsReferenceWord};
 ghost use Rattle.om_types.specs.Table.{table_shapes, is_asked_in};
 ghost use Rattle.om_fits.specs.Needs.{needs_in};
-ghost use Rattle.om_type_table.specs.Made.{table_of, IsLawful};
+ghost use Rattle.om_type_table.specs.Made.{table_of};
 ghost use Rattle.om_scan.specs.Fitting.{table_in};
 ghost use Rattle.om_scan.specs.Taken.{types_in};
 ghost use Rattle.om_scan.specs.Paths.{HasPath, IsHidden, IsLed, HavePaths};
@@ -79,14 +79,14 @@ pub fn scan(
     fitting: Fitting<'_>,
     steps: &mut Steps,
 ) -> Result<Scanned, Memory>
-    requires lawful { IsLawful (table_in fitting) }
     requires some { 0 < length heap.now }
     requires root { (table_shapes (table_in fitting)).fits heap.now (vals.Ref 0) 0 }
     ensures types { IfOk result (Tells (table_in fitting.entry) heap.now) }
     ensures paths { IfOk result (HavePaths (table_in fitting.entry) heap.now) }
     ensures steps { AreCounted (table_in fitting.entry) heap.now steps.old steps.new result }
 {
-    let most = fitting.table.classes.len();
+    fitting.table.holds();
+    let most = fitting.table.count();
     let mut marks = Cells::new(alloc, heap.keys(), most)?;
     marks.set(heap.key(heap.word(Val::Ref(0))), 1)?;
     let mut types = Cells::new(alloc, heap.count() as usize, most)?;
@@ -125,7 +125,6 @@ fn told(
     taken: Steps,
     steps: &mut Steps,
 ) -> Scanned
-    requires lawful { IsLawful (table_of table.now) }
     requires some { 0 < length heap.now }
     requires many { length types ≡ length heap.now }
     requires going { IsGoing (table_of table.now) heap.now marks.now types notes (length heap.now)
@@ -134,6 +133,7 @@ fn told(
     ensures paths { HavePaths (table_of table.now) heap.now result }
     ensures steps { AreCounted (table_of table.now) heap.now steps.old steps.new (Ok result) }
 {
+    table.holds();
     let _count = heap.count();
     let Some(first) = notes.first else {
         steps.raise_by(taken.taken());
@@ -161,7 +161,6 @@ fn stopped(
     stop: Stop,
     taken: Steps,
 ) -> (Taken, u64)
-    requires lawful { IsLawful (table_of table.now) }
     requires object { o < length heap.now }
     requires many { length types ≡ length heap.now }
     requires stopped { IsStopped (table_of table.now) heap.now marks.now types notes.now o taken
@@ -184,7 +183,6 @@ fn until_first(
     types: Cells,
     first: First,
 ) -> (Taken, u64)
-    requires lawful { IsLawful (table_of table.now) }
     requires many { length types ≡ length heap.now }
     requires stopped { IsStoppedAt (table_of table.now) heap.now marks.now types (length heap.now)
         first }
@@ -203,24 +201,24 @@ fn until_first(
 #[inline(never)]
 fn stop_at(
     _heap: &Heap,
-    _table: &TypeTable,
+    table: &TypeTable,
     _marks: &Cells,
     types: Cells,
     o: u64,
     stop: Stop,
     mut taken: Steps,
 ) -> (Taken, u64)
-    requires lawful { IsLawful (table_of _table.now) }
     requires object { o < length _heap.now }
     requires many { length types ≡ length _heap.now }
-    requires scanning { IsScanning (table_of _table.now) _heap.now _marks.now [] (take o types) o
+    requires scanning { IsScanning (table_of table.now) _heap.now _marks.now [] (take o types) o
         taken }
-    requires stops { Stops (table_of _table.now) _heap.now _marks.now [] o stop }
+    requires stops { Stops (table_of table.now) _heap.now _marks.now [] o stop }
     requires row { IsInRow types o stop }
     ensures row { result.0.types ≡ types }
-    ensures types { AreTaken (table_of _table.now) _heap.now result.0 }
+    ensures types { AreTaken (table_of table.now) _heap.now result.0 }
     ensures steps { result.1 + left_of _heap.now result.0 ≤ cost_of _heap.now (types_in result.0) }
 {
+    table.holds();
     let objects = o as usize;
     match stop {
         Stop::Needs(_ty, unmet) => {
@@ -279,7 +277,6 @@ fn take_object(
     hidden: Option<usize>,
     taken: &mut Steps,
 ) -> Result<Option<Stop>, Memory>
-    requires lawful { IsLawful (table_in fitting) }
     requires object { o < length heap.now }
     requires many { length types.old ≡ length heap.now }
     requires going { IsGoing (table_in fitting) heap.now marks.old types.old notes.old o
@@ -376,7 +373,6 @@ fn meet_all(
     needs: Needs<'_>,
     taken: &Steps,
 ) -> Result<Option<Unmet>, Memory>
-    requires lawful { IsLawful (table_in fitting) }
     requires object { o < length heap.now }
     requires word { word ≡ word_of heap.now (vals.Ref o) }
     requires node { ty < length fitting.table.now.nodes }
@@ -428,7 +424,6 @@ fn meet_each(
     needs: Needs<'_>,
     taken: &Steps,
 ) -> Result<Option<Unmet>, Memory>
-    requires lawful { IsLawful (table_in fitting) }
     requires object { o < length heap.now }
     requires word { word ≡ word_of heap.now (vals.Ref o) }
     requires node { ty < length fitting.table.now.nodes }
@@ -487,7 +482,6 @@ fn meet_need(
     word: u64,
     needed: usize,
 ) -> Result<bool, Memory>
-    requires lawful { IsLawful (table_in fitting) }
     requires object { o < length heap.now }
     requires node { ty < length fitting.table.now.nodes }
     requires need { slice_get (object_typed (table_in fitting) heap.now o ty) place
@@ -507,6 +501,7 @@ fn meet_need(
         taken.now place place
         × IsUnfit (table_in fitting.entry) heap.now (field_at heap.now o field) needed)) }
 {
+    fitting.table.holds();
     let _count = heap.count();
     if meet(heap, fitting, marks, word, needed)? {
         return Ok(true);
@@ -593,7 +588,6 @@ fn meet(
     word: u64,
     ty: usize,
 ) -> Result<bool, Memory>
-    requires lawful { IsLawful (table_in fitting) }
     requires word { IsFieldWord heap.now word }
     requires node { ty < length fitting.table.now.nodes }
     requires marks { AreMarks (table_in fitting) heap.now marks.old }
@@ -616,6 +610,7 @@ fn meet(
         (word % 8 ≡ 0 → (v : Val) → IsValue (length heap.now) v → word ≡ word_of heap.now v
         → IsOther (table_in fitting.entry) heap.now marks.new v ty)) }
 {
+    fitting.table.holds();
     let _count = heap.count();
     if word % 8 != 0 {
         return Ok(fits_type(heap, fitting, ty, word));

@@ -16,7 +16,7 @@ use Rattle.om_path.specs.declared.fault.PathFault.{PathFault}
 use Rattle.om_promises.specs.Call.{call}
 use Rattle.om_promises.specs.Account.{FetchesFor, Account}
 use Rattle.om_promises.specs.Commands.{Fetches, Prepares}
-use Rattle.om_declared.specs.declared.types.Requested.{Requested}
+use Rattle.om_declared.specs.declared.requested.Prepared.{Prepared}
 use Rattle.om_session.specs.declared.values.Job.{Job}
 use Rattle.om_session.specs.declared.values.Job.TheVariants as jobs
 use Rattle.om_session.specs.declared.verdict.Saying.{Saying}
@@ -86,7 +86,7 @@ module _ (words : List (List ℕ)) (name : List ℕ) (type : AskedType) (saying 
       (new_fetches declared_types words all_found files.before files.after files.after
       (inl (name, wants_file declared_types words all_found asks.request asks.asks name is_wanted, fetched)) (inr (refl, λ script is. refl))))
 
-  prepared_ok : (t : Bor Requested) → ReadsTypeOf declared_types (λ name. found) (name, type) (Ok (type_over t.now))
+  prepared_ok : (t : Bor Prepared) → ReadsTypeOf declared_types (λ name. found) (name, type) (Ok (type_over t.now))
       → Prepares on_values_after words all_found (Ok (passed_in reading, (reading.only, task_of (jobs.Say (speeches.Tell t saying) reading.limit))))
   prepared_ok t reads =
       let told = task_of (jobs.Say (speeches.Tell t saying) reading.limit) in
@@ -106,7 +106,7 @@ module _ (words : List (List ℕ)) (name : List ℕ) (type : AskedType) (saying 
       stop_account on_values_after words all_found input out files fetches err status stop (gives_err stop gives) r
 
   -- this is told of the values at the type
-  pub told_account : (t : Bor Requested) → GivesType name type found (Ok t.now) → (input out err : Change ByteState) (status : Status)
+  pub told_account : (t : Bor Prepared) → GivesType name type found (Ok t.now) → (input out err : Change ByteState) (status : Status)
       → DoesJob (jobs.Say (speeches.Tell t saying) reading.limit) (passed_in reading) reading.only input out err status → Account on_values_after words (call input files out err status)
   told_account t gives input out err status does = does words all_found files fetches (prepared_ok t gives.0)
 
@@ -137,7 +137,7 @@ module _ (words : List (List ℕ)) (file type script : List ℕ) (compat lines d
   file_account stop gives input out err status r = stop_account on_values_after words file_found input out files file_fetches err status stop (file_gives stop gives) r
 
 -- they are, and SCRIPT comes next
-module _ (words : List (List ℕ)) (r : Bor Requested) (script : List ℕ) (compat : Bool) (reading : Reading) (a b c : FilesState) (asks : AsksToEdit words r.now script compat reading (change a b))
+module _ (words : List (List ℕ)) (r : Bor Prepared) (script : List ℕ) (compat : Bool) (reading : Reading) (a b c : FilesState) (asks : AsksToEdit words r.now script compat reading (change a b))
     (found : Found) (fetched : Fetched (change b c) script found) where
   abbrev both_found : Fetches
   both_found = two_found asks.found found

@@ -15,7 +15,7 @@ use Rattle.std.specs.declared.alloc.Global.{Global}
 use Rattle.om_model.specs.declared.value.Val.{Val}
 use Rattle.om_model.specs.declared.value.Obj.{Obj}
 use Rattle.om_model.specs.Graph.{IsValue}
-use Rattle.om_type_table.specs.declared.table.TypeTable.{TypeTable}
+use Rattle.om_type_table.specs.declared.tabled.Tabled.{Tabled}
 use Rattle.om_path.specs.ScriptAnswer.{IsInTime, AreInTime}
 use Rattle.om_path.specs.Uses.{CopiesFrom, IsUnused, IsLastUse}
 use Rattle.om_path.specs.declared.edits.Action.{Action}
@@ -480,7 +480,7 @@ module _ (lines : List ScriptLine) (n : ℕ) (kept : List Earlier) (are : AreEar
 
 -- ---- what a line asks for
 
-module _ (table : TypeTable) (others : List Other) (old new : List Obj) (old_root new_root : Val) where
+module _ (table : Tabled) (others : List Other) (old new : List Obj) (old_root new_root : Val) where
   -- an edit
   pub edit_applied : (edit : Edit) (result : Result (Unit {0}) EditRefusal) → IsApplied table edit old old_root new new_root result
       → IsLineApplied table others (actions.Edit edit) old old_root new new_root result

@@ -32,7 +32,7 @@ use Rattle.om_session.specs.declared.edit.Edits.{Edits}
 use Rattle.om_stops.specs.declared.stop.Halt.{Halt}
 use Rattle.om_stops.specs.declared.stop.Halt.TheVariants as halts
 use Rattle.om_stops.specs.Stops.{IsOrMemory}
-use Rattle.om_declared.specs.declared.types.Requested.{Requested}
+use Rattle.om_declared.specs.declared.requested.Prepared.{Prepared}
 use Rattle.om_session.specs.Edits.{Edit, EditsOn, IsReasonStop, IsRefusedLine, EditsLine, EditsAll, EditsLines, PutsEdited, AnswersOf, IsPast}
 use Rattle.om_declared.specs.Language.{declared_types, AreBytesOf, lines_of_value}
 use Rattle.om_declared.specs.Types.{IsReady}
@@ -43,7 +43,7 @@ use Rattle.om_declared.specs.Bytes.{PutsBytes}
 
 -- ---- lines
 
-module _ (r : Requested) (others : List Other) (k : ℕ) (line : ScriptLine) where
+module _ (r : Prepared) (others : List Other) (k : ℕ) (line : ScriptLine) where
   -- a line of another value changes nothing
   pub other_line : (value : Value) → IsValue (length value.heap) value.root → (line.value == k) ≡ false → EditsOn r others k line value value
   other_line value valid other = record {
@@ -100,7 +100,7 @@ pub type_told : (refusal : EditRefusal) (fault : Fault) → refusal ≡ refusals
 type_told refusal fault is = (ill_typed fault, ap reason_of is)
 
 -- the reason of a refusal that is not for out of memory is told
-pub reason_stop : (r : Requested) (number : ℕ) (refusal : EditRefusal) (text : List ℕ) → (reason : Reason ℕ) × (reason_of refusal ≡ Some reason) → text ≡ reason_or_none (text_at r.table) (place_on r.lines number) (reason_of refusal)
+pub reason_stop : (r : Prepared) (number : ℕ) (refusal : EditRefusal) (text : List ℕ) → (reason : Reason ℕ) × (reason_of refusal ≡ Some reason) → text ≡ reason_or_none (text_at r.table) (place_on r.lines number) (reason_of refusal)
     → IsReasonStop r number (reason_of refusal) (script_line number text)
 reason_stop r number refusal text (reason, is) spelled = at (reason_of refusal) is spelled where
   at : (told : Option (Reason ℕ)) → told ≡ Some reason → text ≡ reason_or_none (text_at r.table) (place_on r.lines number) told → IsReasonStop r number told (script_line number text)
@@ -108,7 +108,7 @@ reason_stop r number refusal text (reason, is) spelled = at (reason_of refusal) 
   at (Some other) is spelled = ap (λ t. script_line number t) spelled
 
 -- what the lines so far made goes on to what all make
-pub record EditedSoFar (r : Requested) (others : List Other) (k : ℕ) (lines rest : List ScriptLine) (old value : Value) : Type 0 where
+pub record EditedSoFar (r : Prepared) (others : List Other) (k : ℕ) (lines rest : List ScriptLine) (old value : Value) : Type 0 where
   pub valid : IsValue (length value.heap) value.root
   pub goes_on : (all : Edited Ty) → Edit r others (lines_of_value k rest) value.heap value.root all → Edit r others (lines_of_value k lines) old.heap old.root all
 
@@ -120,7 +120,7 @@ same_kept test (x ∷ xs) = at (same_kept test xs) (test x) refl where
   at rest true is = rw is (ap (λ l. x ∷ l) rest)
   at rest false is = rest
 
-module _ (r : Requested) (others : List Other) (k : ℕ) (lines : List ScriptLine) (old : Value) where
+module _ (r : Prepared) (others : List Other) (k : ℕ) (lines : List ScriptLine) (old : Value) where
   -- the lines of a value are all that edit it
   pub edits_begin : IsValue (length old.heap) old.root → (own : List ScriptLine) → own ≡ lines_of_value k lines → EditedSoFar r others k lines own old old
   edits_begin valid own are = record {

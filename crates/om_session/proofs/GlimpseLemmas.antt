@@ -48,7 +48,7 @@ use Rattle.om_declared.specs.Types.{type_over, IsReady}
 use Rattle.om_declared.proofs.DoneLemmas.{MakeOf, as_it_came, done_length, done_more}
 use Rattle.om_declared.proofs.GivenLemmas.{ready_each}
 use Rattle.om_declared.proofs.VerdictLemmas.{is_first, made}
-use Rattle.om_declared.specs.declared.types.Requested.{Requested}
+use Rattle.om_declared.specs.declared.requested.Prepared.{Prepared}
 use Rattle.om_session.specs.declared.values.Values.{Values}
 use Rattle.om_session.specs.declared.edit.Edits.{Edits}
 use Rattle.om_session.specs.declared.values.Job.{Job}
@@ -62,7 +62,7 @@ use Rattle.om_session.proofs.ReadLemmas.{front_goes_on, none_goes_on, spell_coun
 use Rattle.om_session.proofs.VerdictLemmas.{puts_yes}
 
 -- a value that a pass shows to have the type has the declared one, and each closed instance of it
-pub yes_front : (r : Requested) → IsReady r → TheRootIsFirst → TablesDecide → (limit n : ℕ) (bytes : List ℕ) → IsTypedFront (table_of r.table) limit n bytes → IsYes r limit n bytes
+pub yes_front : (r : Prepared) → IsReady r → TheRootIsFirst → TablesDecide → (limit n : ℕ) (bytes : List ℕ) → IsTypedFront (table_of r.table) limit n bytes → IsYes r limit n bytes
 yes_front r ready first decide limit n bytes f =
     let put = puts_yes r ready first (objects_of f.tree 0) (root f.tree 0) decide f.typed sayings.Verdict refl [] (codes "yes") refl in record {
       within = f.within;
@@ -73,7 +73,7 @@ yes_front r ready first decide limit n bytes f =
 
 -- what a look that goes on with bytes that were kept shows of the type's table, it shows of the type
 pub glimpsed :
-    (r : Requested) → IsReady r → TheRootIsFirst → TablesDecide → (limit : ℕ) (old : Glance) (piece : List ℕ) (new : Glance) (result : Result Answer Memory) → IfOk result (Glances (table_of r.table) limit old piece new)
+    (r : Prepared) → IsReady r → TheRootIsFirst → TablesDecide → (limit : ℕ) (old : Glance) (piece : List ℕ) (new : Glance) (result : Result Answer Memory) → IfOk result (Glances (table_of r.table) limit old piece new)
     → IfOk result (IsGlimpse r limit old piece new)
 glimpsed r ready first decide limit old piece new (Err memory) it = it
 glimpsed r ready first decide limit old piece new (Ok (answers.Typed n)) it = record {
@@ -135,7 +135,7 @@ module _ (w : Job) (before : List ℕ) (said : List Said) (values : Values) (h :
         puts_nothing o,
       )
 
-module _ (r : Bor Requested) (limit : ℕ) (before : List ℕ) (said : List Said) (values : Values) (h : HasRead (verdict_job r limit) values before said) (between : IsBetween values) (kept in_hand : List ℕ) (n : ℕ)
+module _ (r : Bor Prepared) (limit : ℕ) (before : List ℕ) (said : List Said) (values : Values) (h : HasRead (verdict_job r limit) values before said) (between : IsBetween values) (kept in_hand : List ℕ) (n : ℕ)
     (yes' : IsYes r.now limit (length kept + n) (kept ++ in_hand)) where
   abbrev w : Job
   w = verdict_job r limit
@@ -195,7 +195,7 @@ module _ (r : Bor Requested) (limit : ℕ) (before : List ℕ) (said : List Said
 -- ---- a value that is put as it came
 
 -- one that a pass shows to have the type, and whose bytes are what the runtime writes
-unchanged_front : (r : Requested) → IsReady r → TheRootIsFirst → TablesDecide → (limit n : ℕ) (bytes : List ℕ) → IsTypedFront (table_of r.table) limit n bytes → IsAsWritten (take n bytes) → IsUnchanged r limit n bytes
+unchanged_front : (r : Prepared) → IsReady r → TheRootIsFirst → TablesDecide → (limit n : ℕ) (bytes : List ℕ) → IsTypedFront (table_of r.table) limit n bytes → IsAsWritten (take n bytes) → IsUnchanged r limit n bytes
 unchanged_front r ready first decide limit n bytes f written =
     let graph = objects_of f.tree 0 in
     let v = root f.tree 0 in
@@ -210,7 +210,7 @@ unchanged_front r ready first decide limit n bytes f written =
 
 -- what a look at a piece shows of the type's table, it shows of the type
 pub unchanged_next :
-    (r : Requested) → IsReady r → TheRootIsFirst → TablesDecide → (limit : ℕ) (old : Glance) (piece : List ℕ) (new : Glance) (n : ℕ) → old.kept.items ≡ [] → IsTypedNext (table_of r.table) limit old piece new n → IsAsWritten (take n piece)
+    (r : Prepared) → IsReady r → TheRootIsFirst → TablesDecide → (limit : ℕ) (old : Glance) (piece : List ℕ) (new : Glance) (n : ℕ) → old.kept.items ≡ [] → IsTypedNext (table_of r.table) limit old piece new n → IsAsWritten (take n piece)
     → IsUnchangedNext r limit piece new n
 unchanged_next r ready first decide limit old piece new n none it written =
     let size : 0 + n ≡ n = omega arith in

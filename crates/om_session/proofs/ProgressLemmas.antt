@@ -20,8 +20,7 @@ use Rattle.om_outcome.specs.RefusalText.{truncated_text}
 use Rattle.om_outcome.specs.declared.stop.Stop.{Stop}
 use Rattle.om_outcome.specs.declared.stop.Stop.TheVariants.{Value as value, Memory as out_of_memory}
 use Rattle.om_declared.specs.Language.{declared_types}
-use Rattle.om_declared.specs.Types.{IsReady}
-use Rattle.om_declared.specs.declared.types.Requested.{Requested}
+use Rattle.om_declared.specs.declared.requested.Prepared.{Prepared}
 use Rattle.om_glance.specs.declared.glance.Glance.{Glance}
 use Rattle.om_glance.specs.Glance.{IsGlance}
 use Rattle.om_session.specs.declared.values.Values.{Values}
@@ -77,7 +76,7 @@ read_taken w values g taken said none glanced h = record {
 }
 
 -- nothing is kept, and whatever was looked at
-pub fresh_glanced : (w : Job) (values : Values) (g : Glance) → g.kept.items ≡ [] → ((r : Bor Requested) (limit : ℕ) → IsGlance (table_of r.now.table) limit g) → IsGlanced w values g
+pub fresh_glanced : (w : Job) (values : Values) (g : Glance) → g.kept.items ≡ [] → ((r : Bor Prepared) (limit : ℕ) → IsGlance (table_of r.now.table) limit g) → IsGlanced w values g
 fresh_glanced (jobs.Say (speeches.Tell r sayings.Verdict) limit) values g none glance = (glance r limit, inl none)
 fresh_glanced (jobs.Say (speeches.Tell r (sayings.Text style)) limit) values g none glance = none
 fresh_glanced (jobs.Say (speeches.Tell r (sayings.Part path style)) limit) values g none glance = none
@@ -139,7 +138,7 @@ module _ (w : Job) (values : Values) (g : Glance) (taken : List ℕ) (said : Lis
 
 -- all in hand was kept
 pub more_taken :
-    (r : Bor Requested) (limit : ℕ) (values : Values) (old new : Glance) (taken : List ℕ) (said : List Said) (in_hand : List ℕ) → (old.kept.items ≡ [] → IsBetween values) → new.kept.items ≡ old.kept.items ++ in_hand
+    (r : Bor Prepared) (limit : ℕ) (values : Values) (old new : Glance) (taken : List ℕ) (said : List Said) (in_hand : List ℕ) → (old.kept.items ≡ [] → IsBetween values) → new.kept.items ≡ old.kept.items ++ in_hand
     → IsGlance (table_of r.now.table) limit new → HasTaken (verdict_job r limit) values old taken said → HasTaken (verdict_job r limit) values new (taken ++ take (length in_hand) in_hand) (said ++ [])
 more_taken r limit values old new taken said in_hand due same glance h =
     let all : take (length in_hand) in_hand ≡ in_hand = take_all (length in_hand) in_hand (omega arith) in
@@ -162,15 +161,15 @@ front_taken w taken said values h front reader fed f may not_done =
 
 -- ---- where the verdict is told
 
-abbrev IsVerdict : Job → Bor Requested → ℕ → Type 0
+abbrev IsVerdict : Job → Bor Prepared → ℕ → Type 0
 IsVerdict w r limit = w ≡ verdict_job r limit
 
-module _ (w : Job) (r : Bor Requested) (limit : ℕ) (is : IsVerdict w r limit) (values : Values) (g : Glance) where
+module _ (w : Job) (r : Bor Prepared) (limit : ℕ) (is : IsVerdict w r limit) (values : Values) (g : Glance) where
   -- a look can be taken
-  pub ready_to_look : (taken : List ℕ) (said : List Said) → HasTaken w values g taken said → IsReady r.now × IsGlance (table_of r.now.table) limit g
+  pub ready_to_look : (taken : List ℕ) (said : List Said) → HasTaken w values g taken said → IsGlance (table_of r.now.table) limit g
   ready_to_look taken said =
-      let P : Job → Type 0 = λ w. HasTaken w values g taken said → IsReady r.now × IsGlance (table_of r.now.table) limit g in
-      subst P (sym is) (λ h. (h.read.ready, h.glanced.0))
+      let P : Job → Type 0 = λ w. HasTaken w values g taken said → IsGlance (table_of r.now.table) limit g in
+      subst P (sym is) (λ h. h.glanced.0)
 
   pub is_between : (taken : List ℕ) (said : List Said) → (g.kept.items ≡ [] → IsBetween values) → HasTaken w values g taken said → IsBetween values
   is_between taken said due =
@@ -224,10 +223,10 @@ module _ (w : Job) (r : Bor Requested) (limit : ℕ) (is : IsVerdict w r limit) 
 
 module _ (w : Job) (e : Edits) (limit : ℕ) (is : w ≡ jobs.Edit e limit) (values : Values) (g : Glance) where
   -- a look can be taken
-  pub ready_to_leave : (taken : List ℕ) (said : List Said) → HasTaken w values g taken said → IsReady e.requested.now × IsGlance (table_of e.requested.now.table) limit g
+  pub ready_to_leave : (taken : List ℕ) (said : List Said) → HasTaken w values g taken said → IsGlance (table_of e.requested.now.table) limit g
   ready_to_leave taken said =
-      let P : Job → Type 0 = λ w. HasTaken w values g taken said → IsReady e.requested.now × IsGlance (table_of e.requested.now.table) limit g in
-      subst P (sym is) (λ h. (h.read.ready.0, h.glanced.0))
+      let P : Job → Type 0 = λ w. HasTaken w values g taken said → IsGlance (table_of e.requested.now.table) limit g in
+      subst P (sym is) (λ h. h.glanced.0)
 
   pub short_edited : (taken : List ℕ) (said : List Said) (more : ℕ) → length taken + more < 2 ^ 63 → HasTaken w values g taken said
       → (before : List ℕ) × (said : List Said) × HasRead (jobs.Edit e limit) values before said × (length before < 2 ^ 63)

@@ -10,7 +10,7 @@ use Rattle.om_promises.specs.Account.{IsWanted, FetchesIn, FetchesFor, Account}
 use Rattle.om_promises.specs.Call.{call}
 use Rattle.om_promises.specs.Commands.{Fetches, Prepares}
 use Rattle.om_promises.specs.Given.{Fetched}
-use Rattle.om_declared.specs.declared.types.Requested.{Requested}
+use Rattle.om_declared.specs.declared.requested.Prepared.{Prepared}
 use Rattle.om_declared.specs.Types.{type_over, GivesType}
 use Rattle.om_work.specs.Reported.{HasAccount}
 use Rattle.om_work.proofs.StopLemmas.{stop_account}
@@ -62,7 +62,7 @@ module _ (words : List (List ℕ)) (file type : List ℕ) (lines decimal : Bool)
       stop_account on_texts words all_found input out files fetches err status stop why r
 
   -- bytes are made of the texts at the type
-  pub texts_account : (r : Requested) → GivesType file (asked_with type lines decimal) found (Ok r)
+  pub texts_account : (r : Prepared) → GivesType file (asked_with type lines decimal) found (Ok r)
       → (input out err : Change ByteState) (status : Status)
       → HasAccount on_texts (type_over r) input out err status
       → Account on_texts words (call input files out err status)

@@ -11,8 +11,7 @@ use Rattle.om_types.specs.Table.{table_shapes}
 use Rattle.om_types.specs.Typing.{HasType}
 use Rattle.om_table.specs.TableDecides.{TheRootIsFirst, TablesDecide}
 use Rattle.om_type_table.specs.Made.{types_of, table_of}
-use Rattle.om_type_table.specs.Laws.{MadeAreLawful}
-use Rattle.om_declared.specs.declared.types.Requested.{Requested}
+use Rattle.om_declared.specs.declared.requested.Prepared.{Prepared}
 use Rattle.om_outcome.specs.Outcome as outcome
 use Rattle.om_outcome.specs.declared.style.Style.{Style}
 use Rattle.om_show.specs.Laws.{RootsShowAlike, SameClass}
@@ -27,12 +26,11 @@ use Rattle.om_tree_check.specs.VerdictText.{is_sound, verdict_text}
 use Rattle.om_trees.specs.declared.verdict.TreeVerdict.{TreeVerdict}
 use Rattle.om_declared.specs.Types.{type_over, IsReady}
 use Rattle.om_session.specs.Verdict.{PutsLine, saying_of}
-use Rattle.om_session.proofs.TypedLemmas.{place_has_type}
 use Rattle.om_declared.proofs.GivenLemmas.{ready_each}
-use Rattle.om_declared.proofs.VerdictLemmas.{ready_lawful, is_first, made}
+use Rattle.om_declared.proofs.VerdictLemmas.{is_first, made}
 use Rattle.om_declared.specs.Verdict.{PutsNo}
 
-module _ (r : Requested) (ready : IsReady r) where
+module _ (r : Prepared) (ready : IsReady r) where
   module _ (root_first : TheRootIsFirst) (graph : List Obj) (root : Val) where
     module _ (decide : TablesDecide) (has : HasType (table_shapes (table_of r.table)) graph root 0) where
       -- what is told of a value that has the type is put after another text
@@ -96,12 +94,6 @@ module _ (r : Requested) (ready : IsReady r) where
               puts_part None
               (ap (λ (place : Option (Val × ℕ)). option_map (λ (p : Val × ℕ). shown_text (shape_in r.table) (names_in r.table) graph p.0 p.1) place) (sym leads)) old new put
 
-  -- the value at the end of a path has its type
-  pub place_typed : MadeAreLawful → (graph : List Obj) (root : Val) → HasType (table_shapes (table_of r.table)) graph root 0 → (path : List ℕ) (w : Val) (i : ℕ)
-      → Some (w, i) ≡ value_at (table_shapes (table_of r.table)) graph root 0 path → HasType (table_shapes (table_of r.table)) graph w i
-  place_typed law graph root has path w i leads =
-      place_has_type (table_shapes (table_of r.table)) (ready_lawful r ready law).lawful graph path root 0 w i has (sym leads)
-
 -- that line is said whatever was asked for
-pub no_line : (saying : outcome.Saying) (r : Requested) (graph : List Obj) (root : Val) (old new : List ℕ) → PutsNo (type_over r) graph root old new → PutsLine saying (type_over r) graph root old new false
+pub no_line : (saying : outcome.Saying) (r : Prepared) (graph : List Obj) (root : Val) (old new : List ℕ) → PutsNo (type_over r) graph root old new → PutsLine saying (type_over r) graph root old new false
 no_line saying r graph root old new (line, why, some_not, put) = (line, inr (record { why = why; some_not = some_not; is_well = refl }), put)

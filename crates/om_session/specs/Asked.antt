@@ -4,13 +4,13 @@ use Rattle.om_outcome.specs.declared.reading.Reading.{Reading}
 use Rattle.om_outcome.specs.Outcome.{Found, AskedType, Saying}
 use Rattle.om_edge.specs.State.{FilesState, Change, change}
 use Rattle.om_path.specs.declared.edits.Script.{Script}
-use Rattle.om_declared.specs.declared.types.Requested.{Requested}
+use Rattle.om_declared.specs.declared.requested.Prepared.{Prepared}
 use Rattle.om_promises.specs.Given.{Fetched}
 use Rattle.om_session.specs.Telling.{AsksToTell, AsksToEdit}
 use Rattle.om_declared.specs.Types.{GivesType, GivesScript}
 
 -- FILE and TYPE gave this type, and this is told of the values
-pub record AsksToSay (words : List (List ℕ)) (r : Requested) (saying : Saying)
+pub record AsksToSay (words : List (List ℕ)) (r : Prepared) (saying : Saying)
     (reading : Reading) (files : Change FilesState) : Type 0 where
   pub file : List ℕ
   pub type : AskedType
@@ -20,7 +20,7 @@ pub record AsksToSay (words : List (List ℕ)) (r : Requested) (saying : Saying)
   pub gives : GivesType file type found (Ok r)
 
 -- they did, and SCRIPT gave these lines
-pub record AsksForLines (words : List (List ℕ)) (r : Requested) (script : Script) (compat : Bool)
+pub record AsksForLines (words : List (List ℕ)) (r : Prepared) (script : Script) (compat : Bool)
     (reading : Reading) (files : Change FilesState) : Type 0 where
   pub name : List ℕ
   pub between : FilesState

@@ -23,7 +23,7 @@ use Rattle.om_outcome.specs.declared.stop.Stop.TheVariants.{Script as script_lin
 use Rattle.om_session.specs.declared.edit.Edits.{Edits}
 use Rattle.om_stops.specs.declared.stop.Halt.{Halt}
 use Rattle.om_stops.specs.declared.stop.Halt.TheVariants as halts
-use Rattle.om_declared.specs.declared.types.Requested.{Requested}
+use Rattle.om_declared.specs.declared.requested.Prepared.{Prepared}
 use Rattle.om_declared.specs.Language.{declared_types, IsBytesLine, lines_of_value}
 use Rattle.om_declared.specs.Types.{type_over}
 use Rattle.om_declared.specs.Bytes.{PutsAnswer}
@@ -32,12 +32,12 @@ use Rattle.om_declared.specs.Checked.{OrMemory}
 -- ---- lines
 
 -- what lines make of a value at the type, after these values
-abbrev pub Edit : Requested → List Other → List ScriptLine → List Obj → Val → Edited Ty → Type 0
+abbrev pub Edit : Prepared → List Other → List ScriptLine → List Obj → Val → Edited Ty → Type 0
 Edit r others lines graph v all =
     AreEdited (shape r.decls) (names_of r.decls) (Equal r.decls) r.ty others lines graph v all
 
 -- a line, of value k or of another one, is followed by others
-pub record EditsOn (r : Requested) (others : List Other) (k : ℕ) (line : ScriptLine)
+pub record EditsOn (r : Prepared) (others : List Other) (k : ℕ) (line : ScriptLine)
     (old new : Value) : Type 0 where
   pub valid : IsValue (length new.heap) new.root
   pub goes_on : (rest : List ScriptLine) (all : Edited Ty)
@@ -46,20 +46,20 @@ pub record EditsOn (r : Requested) (others : List Other) (k : ℕ) (line : Scrip
 
 -- the stop at a line of this number that is refused for this reason; without one there is no such
 -- stop
-abbrev pub IsReasonStop : Requested → ℕ → Option (Reason ℕ) → Stop → Type 0
+abbrev pub IsReasonStop : Prepared → ℕ → Option (Reason ℕ) → Stop → Type 0
 IsReasonStop r number None stop = ⊥
 IsReasonStop r number (Some reason) stop =
     stop ≡ script_line number (reason_text (text_at r.table) (place_on r.lines number) reason)
 
 -- it is refused, whatever lines come after it
-abbrev pub IsRefusedLine : Requested → List Other → ℕ → ScriptLine → Value → Stop → Type 0
+abbrev pub IsRefusedLine : Prepared → List Other → ℕ → ScriptLine → Value → Stop → Type 0
 IsRefusedLine r others k line old stop =
     (reason : Reason Ty)
     × ((rest : List ScriptLine)
     → Edit r others (lines_of_value k (line ∷ rest)) old.heap old.root (Err (line.number, reason)))
     × (stop ≡ script_line line.number (reason_text type_text (place_on r.lines line.number) reason))
 
-abbrev pub EditsLine : {U : Type 0} → Requested → List Other → ℕ → ScriptLine → Value → Value
+abbrev pub EditsLine : {U : Type 0} → Prepared → List Other → ℕ → ScriptLine → Value → Value
     → Result U Halt → Type 0
 EditsLine r others k line old new (Ok unit) = EditsOn r others k line old new
 EditsLine r others k line old new (Err (halts.Stop stop)) =
@@ -67,19 +67,19 @@ EditsLine r others k line old new (Err (halts.Stop stop)) =
 EditsLine r others k line old new (Err halts.WriteFault) = ⊥
 
 -- some line of value k is refused
-abbrev pub AreRefusedLines : Requested → List Other → ℕ → List ScriptLine → Value → Stop → Type 0
+abbrev pub AreRefusedLines : Prepared → List Other → ℕ → List ScriptLine → Value → Stop → Type 0
 AreRefusedLines r others k lines old stop =
     (number : ℕ) × (reason : Reason Ty)
     × Edit r others (lines_of_value k lines) old.heap old.root (Err (number, reason))
     × (stop ≡ script_line number (reason_text type_text (place_on r.lines number) reason))
 
 -- the lines of value k made this of it
-pub record EditsAll (r : Requested) (others : List Other) (k : ℕ) (lines : List ScriptLine)
+pub record EditsAll (r : Prepared) (others : List Other) (k : ℕ) (lines : List ScriptLine)
     (old new : Value) : Type 0 where
   pub valid : IsValue (length new.heap) new.root
   pub made : Edit r others (lines_of_value k lines) old.heap old.root (Ok (new.heap, new.root))
 
-abbrev pub EditsLines : {U : Type 0} → Requested → List Other → ℕ → List ScriptLine → Value → Value
+abbrev pub EditsLines : {U : Type 0} → Prepared → List Other → ℕ → List ScriptLine → Value → Value
     → Result U Halt → Type 0
 EditsLines r others k lines old new (Ok unit) = EditsAll r others k lines old new
 EditsLines r others k lines old new (Err (halts.Stop stop)) =

@@ -18,7 +18,7 @@ use Rattle.om_glance.specs.declared.glance.Answer.TheVariants as answers
 use Rattle.om_glance.specs.Glance.{IsGlance}
 use Rattle.om_declared.specs.Language.{SaysLine, lines_of_value}
 use Rattle.om_declared.specs.Types.{type_over}
-use Rattle.om_declared.specs.declared.types.Requested.{Requested}
+use Rattle.om_declared.specs.declared.requested.Prepared.{Prepared}
 use Rattle.om_session.specs.Earlier.{IsUsedUpTo}
 use Rattle.om_session.specs.declared.edit.Edits.{Edits}
 use Rattle.om_session.specs.declared.values.Values.{Values}
@@ -32,7 +32,7 @@ abbrev pub yes : Said
 yes = record { text = line (codes "yes"); well = true }
 
 -- the first n bytes spell a value of at most so many words, and its line is `yes`
-pub record IsYes (r : Requested) (limit n : ℕ) (bytes : List ℕ) : Type 0 where
+pub record IsYes (r : Prepared) (limit n : ℕ) (bytes : List ℕ) : Type 0 where
   pub within : n ≤ length bytes
   pub tree : Tree
   pub spelled : SpelledUnder limit (take n bytes) tree
@@ -40,7 +40,7 @@ pub record IsYes (r : Requested) (limit n : ℕ) (bytes : List ℕ) : Type 0 whe
 
 -- the bytes that were kept, and the first n of the piece, are such a value; nothing is kept of the
 -- next one
-pub record IsYesNext (r : Requested) (limit : ℕ) (old : Glance) (piece : List ℕ) (new : Glance)
+pub record IsYesNext (r : Prepared) (limit : ℕ) (old : Glance) (piece : List ℕ) (new : Glance)
     (n : ℕ) : Type 0 where
   pub some : 0 < n
   pub within : n ≤ length piece
@@ -49,7 +49,7 @@ pub record IsYesNext (r : Requested) (limit : ℕ) (old : Glance) (piece : List 
   pub glance : (table : Table) (limit' : ℕ) → IsGlance table limit' new
 
 -- what a look at a piece shows: such a value, or more has to come, or nothing
-abbrev pub IsGlimpse : Requested → ℕ → Glance → List ℕ → Glance → Answer → Type 0
+abbrev pub IsGlimpse : Prepared → ℕ → Glance → List ℕ → Glance → Answer → Type 0
 IsGlimpse r limit old piece new (answers.Typed n) = IsYesNext r limit old piece new n
 IsGlimpse r limit old piece new answers.More =
     (new.kept.items ≡ old.kept.items ++ piece) × IsGlance (table_of r.table) limit new
@@ -61,7 +61,7 @@ abbrev pub Later : List ℕ → Has → Has
 Later kept has taken said = (before : List ℕ) × (taken ≡ before ++ kept) × has before said
 
 -- the work that tells the verdict of each value
-abbrev pub verdict_job : Bor Requested → ℕ → Job
+abbrev pub verdict_job : Bor Prepared → ℕ → Job
 verdict_job r limit = jobs.Say (speeches.Tell r sayings.Verdict) limit
 
 -- the reader waits for a value, and has taken nothing of it
@@ -74,7 +74,7 @@ IsBetween values =
 
 -- the first n bytes spell a value of at most so many words that has the type, and each closed
 -- instance of it, and they are its canonical bytes
-pub record IsUnchanged (r : Requested) (limit n : ℕ) (bytes : List ℕ) : Type 0 where
+pub record IsUnchanged (r : Prepared) (limit n : ℕ) (bytes : List ℕ) : Type 0 where
   pub within : n ≤ length bytes
   pub tree : Tree
   pub spelled : SpelledUnder limit (take n bytes) tree
@@ -83,7 +83,7 @@ pub record IsUnchanged (r : Requested) (limit n : ℕ) (bytes : List ℕ) : Type
   pub each : HasEachInstance r.decls (objects_of tree 0) (root tree 0) r.ty
 
 -- the first n bytes of the piece are such a value; nothing is kept of the next one
-pub record IsUnchangedNext (r : Requested) (limit : ℕ) (piece : List ℕ) (new : Glance) (n : ℕ)
+pub record IsUnchangedNext (r : Prepared) (limit : ℕ) (piece : List ℕ) (new : Glance) (n : ℕ)
     : Type 0 where
   pub some : 0 < n
   pub unchanged : IsUnchanged r limit n piece
@@ -92,7 +92,7 @@ pub record IsUnchangedNext (r : Requested) (limit : ℕ) (piece : List ℕ) (new
 
 -- what a look at a piece shows, of whose value nothing was kept: such a value, or more has to come,
 -- or nothing
-abbrev pub IsUnchangedGlimpse : Requested → ℕ → List ℕ → Glance → Answer → Type 0
+abbrev pub IsUnchangedGlimpse : Prepared → ℕ → List ℕ → Glance → Answer → Type 0
 IsUnchangedGlimpse r limit piece new (answers.Typed n) = IsUnchangedNext r limit piece new n
 IsUnchangedGlimpse r limit piece new answers.More =
     (new.kept.items ≡ piece) × IsGlance (table_of r.table) limit new

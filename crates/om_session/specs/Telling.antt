@@ -7,7 +7,7 @@ use Rattle.om_outcome.specs.declared.stop.Stop.{Stop}
 use Rattle.om_path.specs.declared.edits.ScriptLine.{ScriptLine}
 use Rattle.om_declared.specs.Language.{TypeOver, declared_types}
 use Rattle.om_edge.specs.State.{FilesState, Change}
-use Rattle.om_declared.specs.declared.types.Requested.{Requested}
+use Rattle.om_declared.specs.declared.requested.Prepared.{Prepared}
 use Rattle.om_passing.specs.Asked.{passed_by}
 use Rattle.om_picking.specs.Asked.{picked_by}
 use Rattle.om_passing.specs.Skipping.{Passed}
@@ -34,7 +34,7 @@ pub record AsksToTell (words : List (List ℕ)) (name : List ℕ) (type : AskedT
       → FindsWork declared_types found request result
 
 -- FILE and TYPE gave this type, and SCRIPT comes next
-pub record AsksToEdit (words : List (List ℕ)) (r : Requested) (script : List ℕ) (compat : Bool)
+pub record AsksToEdit (words : List (List ℕ)) (r : Prepared) (script : List ℕ) (compat : Bool)
     (reading : Reading) (files : Change FilesState) : Type 0 where
   pub file : List ℕ
   pub type : List ℕ

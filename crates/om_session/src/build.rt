@@ -6,7 +6,7 @@ ghost use Rattle.om_edge.specs.State.{change};
 ghost use Rattle.om_promises.specs.Account.{Account};
 ghost use Rattle.om_promises.specs.Call.{call};
 ghost use Rattle.om_work.specs.Reported.{HasAccount};
-ghost use Rattle.om_declared.specs.Types.{type_over, IsReady};
+ghost use Rattle.om_declared.specs.Types.{type_over};
 ghost use Rattle.om_session.specs.All.{on_texts};
 
 use om_build::Texts;
@@ -25,7 +25,6 @@ fn build_over<S: Source, K: Sink, E: Sink>(
     out: &mut K,
     err: &mut E,
 ) -> Status
-    requires { IsReady requested }
     ensures { HasAccount on_texts (type_over requested)
         (change (S.state input.old) (S.state input.new))
         (change (K.state out.old) (K.state out.new)) (change (E.state err.old) (E.state err.new))

@@ -9,7 +9,6 @@ ghost use Rattle.om_edit.specs.Grafts.{Other};
 ghost use Rattle.om_edit.specs.LineLaws.{IsLineApplied};
 ghost use Rattle.om_edit.specs.Reasons.{Reason, literal_reason, reason_of};
 ghost use Rattle.om_declared.specs.Language.{lines_of_value};
-ghost use Rattle.om_declared.specs.Types.{IsReady};
 
 use crate::earlier::{Earlier, earlier_value};
 use om_declared::{Requested, check_type, put_bytes};
@@ -22,7 +21,6 @@ use om_outcome::stop::Stop;
 use om_path::{Action, Script, ScriptLine};
 use om_read::Value;
 use om_stops::stop::Halt;
-use om_type_table::laws::tables_are_lawful;
 use std::alloc::Global;
 
 /// The lines of a script, at a type; and whether a value that a reader on 32 bits cannot hold is
@@ -68,7 +66,6 @@ pub fn edit_value<K: Sink>(
     out: &mut K,
 ) -> Result<(), Halt>
     requires value { IsValue (length value.old.heap) value.old.root }
-    requires ready { IsReady edits.requested.now }
     requires kept { (others : List Other) × AreMade others kept.now }
     requires served { AreServed kept.now (lines_of_value number edits.script.now.lines) }
     ensures puts { (others : List Other) → AreMade others kept.now
@@ -94,7 +91,6 @@ fn edit_by_lines(
     kept: &[Earlier],
 ) -> Result<(), Halt>
     requires value { IsValue (length value.old.heap) value.old.root }
-    requires ready { IsReady requested.now }
     requires kept { (others : List Other) × AreMade others kept.now }
     requires served { AreServed kept.now (lines_of_value number script.now.lines) }
     ensures { (others : List Other) → AreMade others kept.now
@@ -117,7 +113,6 @@ fn edit_by_line(
     kept: &[Earlier],
 ) -> Result<(), Halt>
     requires value { IsValue (length value.old.heap) value.old.root }
-    requires ready { IsReady requested.now }
     requires kept { (others : List Other) × AreMade others kept.now }
     requires served { IsServed kept.now line.now.action }
     ensures { (others : List Other) → AreMade others kept.now
@@ -127,6 +122,7 @@ fn edit_by_line(
         return Ok(());
     }
     tables_answer_lines_alike();
+    requested.holds();
     match act(alloc, value, requested, &line.action, kept) {
         Ok(()) => Ok(()),
         Err(refusal) => Err(Halt::Stop(line_stop(alloc, requested, line.number, &refusal)?)),
@@ -142,7 +138,6 @@ fn act(
     kept: &[Earlier],
 ) -> Result<(), EditRefusal>
     requires value { IsValue (length value.old.heap) value.old.root }
-    requires ready { IsReady requested.now }
     requires kept { (others : List Other) × AreMade others kept.now }
     requires served { IsServed kept.now action.now }
     ensures applied { (others : List Other) → AreMade others kept.now
@@ -150,22 +145,16 @@ fn act(
         value.new.heap value.new.root result }
     ensures value { IsValue (length value.new.heap) value.new.root }
 {
-    tables_are_lawful();
+    let table = requested.table();
     match action {
-        Action::Edit(edit) => apply(
-            alloc,
-            &mut value.heap,
-            &mut value.root,
-            &requested.table,
-            edit,
-        ),
+        Action::Edit(edit) => apply(alloc, &mut value.heap, &mut value.root, table, edit),
         Action::Graft(path, number, source) => {
             let from = earlier_value(kept, *number);
             graft(
                 alloc,
                 &mut value.heap,
                 &mut value.root,
-                &requested.table,
+                table,
                 path,
                 &from.heap,
                 from.root,
@@ -182,14 +171,13 @@ fn line_stop(
     number: usize,
     refusal: &EditRefusal,
 ) -> Result<Stop, Memory>
-    requires { IsReady requested.now }
     ensures { IfOk result (λ stop. IsReasonStop requested.now number (reason_of refusal.now) stop) }
 {
     if is_memory(refusal) {
         return Err(Memory);
     }
-    let places = Places::of_line(requested.lines, number as u64);
-    let text = refusal_text(alloc, &requested.table, &places, refusal)?;
+    let places = Places::of_line(requested.lines(), number as u64);
+    let text = refusal_text(alloc, requested.table(), &places, refusal)?;
     Ok(Stop::Script(number, text))
 }
 

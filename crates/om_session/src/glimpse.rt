@@ -5,7 +5,6 @@ ghost use Rattle.std.specs.Bool.{OnTrue};
 ghost use Rattle.std.specs.Prelude.{◌≡◌, ◌≤◌, [], length, take, IfOk};
 ghost use Rattle.om_glance.specs.Glance.{IsGlance};
 ghost use Rattle.om_type_table.specs.Made.{table_of};
-ghost use Rattle.om_declared.specs.Types.{IsReady};
 ghost use Rattle.om_session.specs.Glimpse.{IsGlimpse, IsUnchangedGlimpse};
 ghost use Rattle.om_written.specs.Written.{IsAsWritten};
 
@@ -13,7 +12,6 @@ use om_declared::Requested;
 use om_glance::{Answer, Glance};
 use om_model::Memory;
 use om_table::tables_decide;
-use om_type_table::laws::tables_are_lawful;
 use om_written::is_as_written;
 
 /// After so many looks in a row that showed nothing most values are not looked at.
@@ -71,13 +69,12 @@ pub fn glimpse<'a>(
     glance: &mut Glance<'a>,
     piece: &[u8],
 ) -> Result<Answer, Memory>
-    requires ready { IsReady requested.now }
     requires glance { IsGlance (table_of requested.now.table) limit glance.old }
     ensures { IfOk result (IsGlimpse requested.now limit glance.old piece.now glance.new) }
 {
-    tables_are_lawful();
+    requested.holds();
     tables_decide();
-    glance.feed(&requested.table, limit, piece)
+    glance.feed(requested.table(), limit, piece)
 }
 
 /// Whether the first n bytes are what the runtime writes for the value that they spell.
@@ -96,14 +93,13 @@ pub fn glimpse_unchanged<'a>(
     glance: &mut Glance<'a>,
     piece: &[u8],
 ) -> Result<Answer, Memory>
-    requires ready { IsReady requested.now }
     requires glance { IsGlance (table_of requested.now.table) limit glance.old }
     requires none { glance.old.kept.items ≡ [] }
     ensures { IfOk result (IsUnchangedGlimpse requested.now limit piece.now glance.new) }
 {
-    tables_are_lawful();
+    requested.holds();
     tables_decide();
-    let answer = glance.feed(&requested.table, limit, piece)?;
+    let answer = glance.feed(requested.table(), limit, piece)?;
     match answer {
         Answer::Typed(n) => {
             if is_front_as_written(piece, n) {

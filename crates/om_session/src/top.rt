@@ -26,7 +26,6 @@ ghost use Rattle.om_picking.specs.Tables.{picking_tables};
 ghost use Rattle.om_session.specs.All.{on_values, on_values_after, on_texts, on_certificates_after, on_certified_after, on_places, all_commands, IsOfValues, IsOfTexts, IsOfMade, IsOfCertificates, IsOfSections, IsOfPlaces, AskOnly};
 ghost use Rattle.om_work.specs.Reported.{HasAccount};
 ghost use Rattle.om_session.specs.Telling.{AsksToTell, AsksToEdit};
-ghost use Rattle.om_declared.specs.Types.{IsReady};
 ghost use Rattle.om_path.specs.ScriptAnswer.{AreInTime};
 ghost use Rattle.om_session.specs.Values.{IsReadyJob, task_of};
 ghost use Rattle.om_session.specs.Verdict.{saying_of};
@@ -104,7 +103,6 @@ fn tell_over<S: Source, K: Sink, E: Sink>(
     out: &mut K,
     err: &mut E,
 ) -> Status
-    requires { IsReady requested }
     ensures { (words : List (List ℕ)) (files : Change FilesState)
         → AsksToSay words requested (saying_of saying.entry) reading files
         → Account on_values_after words
@@ -112,6 +110,7 @@ fn tell_over<S: Source, K: Sink, E: Sink>(
         (change (K.state out.old) (K.state out.new))
         (change (E.state err.old) (E.state err.new)) result) }
 {
+    requested.holds();
     let job = Job::Say(Speech::Tell(&requested, saying), reading.limit);
     let over = Over {
         bytes: reading.skip,
@@ -192,7 +191,6 @@ fn edit_with<S: Source, K: Sink, E: Sink>(
     out: &mut K,
     err: &mut E,
 ) -> Status
-    requires ready { IsReady requested.now }
     requires in_time { AreInTime script.lines }
     ensures { (words : List (List ℕ)) (before after : FilesState)
         → AsksForLines words requested.now script compat reading (change before after)
@@ -201,6 +199,7 @@ fn edit_with<S: Source, K: Sink, E: Sink>(
         (change (K.state out.old) (K.state out.new))
         (change (E.state err.old) (E.state err.new)) result) }
 {
+    requested.holds();
     let edits = Edits {
         requested,
         script: &script,
@@ -226,7 +225,6 @@ fn edit_by<S: Source, O: Opener, K: Sink, E: Sink>(
     out: &mut K,
     err: &mut E,
 ) -> Status
-    requires { IsReady requested.now }
     ensures { (words : List (List ℕ)) (before : FilesState)
         → AsksToEdit words requested.now script.now compat reading
         (change before (O.state files.old))
@@ -236,7 +234,7 @@ fn edit_by<S: Source, O: Opener, K: Sink, E: Sink>(
         (change (E.state err.old) (E.state err.new)) result) }
 {
     lines_in_time();
-    match find_script(alloc, files, script, requested.lines, requested.decimal) {
+    match find_script(alloc, files, script, requested.lines(), requested.decimal()) {
         Ok(script) => edit_with(alloc, requested, script, compat, reading, input, out, err),
         Err(stop) => report(alloc, err, stop),
     }
@@ -254,7 +252,6 @@ fn edit_over<S: Source, O: Opener, K: Sink, E: Sink>(
     out: &mut K,
     err: &mut E,
 ) -> Status
-    requires { IsReady requested }
     ensures { (words : List (List ℕ)) (before : FilesState)
         → AsksToEdit words requested script.now compat reading (change before (O.state files.old))
         → Account on_values_after words

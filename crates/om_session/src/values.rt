@@ -13,7 +13,6 @@ ghost use Rattle.om_work.specs.Works.{Feeds, EndsAt};
 ghost use Rattle.om_session.specs.declared.values.Job.{Job};
 ghost use Rattle.om_session.specs.declared.values.Job.TheVariants as jobs;
 ghost use Rattle.om_declared.specs.Language.{declared_types};
-ghost use Rattle.om_session.specs.Verdict.{IsReadySpeech};
 ghost use Rattle.om_session.specs.SaidOfValue.{PutsSaid};
 ghost use Rattle.om_session.specs.Glimpse.{IsYes, IsUnchanged, IsLeft, IsBetween, Later, verdict_job};
 ghost use Rattle.om_session.specs.Values.{IsReadyJob, AreValues, IsFull, MayTake, HasRead, IsValueRead, KeepsNext, PutsNext, Compares, EndsScript, task_of, word_limit};
@@ -81,7 +80,6 @@ fn put_said<K: Sink>(
     out: &mut K,
 ) -> Result<bool, Halt>
     requires value { IsValue (length heap.now) root }
-    requires ready { IsReadySpeech speech }
     ensures { PutsSaid speech.entry heap.now root (change (K.state out.old) (K.state out.new))
         result }
 {

@@ -4,12 +4,12 @@ ghost use Rattle.std.specs.Prelude.{◌≡◌, ◌<◌, ◌++◌, length, IfOk, 
 ghost use Rattle.om_model.specs.Graph.{IsValue};
 ghost use Rattle.om_types.specs.Typing.{HasType};
 ghost use Rattle.om_types.specs.Table.{table_shapes};
-ghost use Rattle.om_type_table.specs.Made.{table_of, IsLawful};
+ghost use Rattle.om_type_table.specs.Made.{table_of};
 ghost use Rattle.om_show.specs.Shown.{shown_text};
 ghost use Rattle.om_show.specs.Tables.{shape_in, names_in};
 ghost use Rattle.om_declared.specs.Language.{styled};
-ghost use Rattle.om_declared.specs.Types.{type_over, IsReady};
-ghost use Rattle.om_session.specs.Verdict.{IsReadySpeech, IsSaidOf, PutsLine, saying_of, with_decimals};
+ghost use Rattle.om_declared.specs.Types.{type_over};
+ghost use Rattle.om_session.specs.Verdict.{IsSaidOf, PutsLine, saying_of, with_decimals};
 ghost use Rattle.om_session.specs.declared.verdict.Speech.TheVariants as speeches;
 ghost use Rattle.om_check.specs.declared.verdict.Verdict.TheVariants.{No};
 ghost use Rattle.om_outcome.specs.Outcome.{the_part, the_trees};
@@ -34,7 +34,6 @@ use om_table::tables_decide;
 use om_tree_check::{put_verdict, tables_have_the_verdict, tables_judge_trees, trees};
 use om_trees::TreeVerdict;
 use om_type_table::TypeTable;
-use om_type_table::laws::tables_are_lawful;
 use std::alloc::Global;
 
 /// What is told of a value that has a type: that it has it, its text, the text of the part at a
@@ -67,7 +66,6 @@ const ROOM: usize = 96;
 /// What is said of a value.
 pub fn line_of(alloc: Global, heap: &Heap, root: Val, speech: Speech<'_>) -> Result<Line, Memory>
     requires value { IsValue (length heap.now) root }
-    requires ready { IsReadySpeech speech }
     ensures { IfOk result (λ line. IsSaidOf speech.entry heap.now root line.text line.well) }
 {
     match speech {
@@ -98,7 +96,6 @@ fn told_line(
     saying: Saying<'_>,
 ) -> Result<Line, Memory>
     requires value { IsValue (length heap.now) root }
-    requires ready { IsReady requested.now }
     ensures { IfOk result
         (λ line. IsSaidOf (speeches.Tell requested.entry saying.entry) heap.now root line.text
         line.well) }
@@ -123,7 +120,6 @@ fn put_checked(
     saying: Saying<'_>,
 ) -> Result<bool, Memory>
     requires value { IsValue (length heap.now) root }
-    requires ready { IsReady requested.now }
     ensures { IfOk result
         (PutsLine (saying_of saying.entry) (type_over requested.now) heap.now root text.old.items
         text.new.items) }
@@ -148,7 +144,6 @@ fn put_soon(
     saying: Saying<'_>,
 ) -> Result<bool, Memory>
     requires value { IsValue (length heap.now) root }
-    requires ready { IsReady requested.now }
     ensures { IfOk result
         (λ told. MatchBool told
         (PutsNo (type_over requested.now) heap.now root text.old.items text.new.items)
@@ -172,7 +167,6 @@ fn put_line(
     verdict: &Verdict,
 ) -> Result<bool, Memory>
     requires value { IsValue (length heap.now) root }
-    requires ready { IsReady requested.now }
     requires verdict { IsVerdictOf requested.now heap.now root verdict.now }
     ensures { IfOk result
         (PutsLine (saying_of saying.entry) (type_over requested.now) heap.now root text.old.items
@@ -198,14 +192,13 @@ fn put_told(
     saying: Saying<'_>,
 ) -> Result<bool, Memory>
     requires value { IsValue (length heap.now) root }
-    requires ready { IsReady requested.now }
     requires typed { HasType (table_shapes (table_of requested.now.table)) heap.now root 0 }
     ensures { IfOk result
         (PutsLine (saying_of saying.entry) (type_over requested.now) heap.now root text.old.items
         text.new.items) }
 {
+    requested.holds();
     tables_decide();
-    tables_are_lawful();
     roots_show_alike();
     match saying {
         Saying::Verdict => {
@@ -213,7 +206,9 @@ fn put_told(
             Ok(true)
         }
         Saying::Text(style) => {
-            put_styled_at(text, alloc, heap, root, &requested.table, 0, style)?;
+            let table = requested.table();
+            table.holds();
+            put_styled_at(text, alloc, heap, root, table, 0, style)?;
             Ok(true)
         }
         Saying::Part(path, style) => put_part(text, alloc, heap, root, requested, path, style),
@@ -233,8 +228,6 @@ fn put_plain_at(
     decimal: bool,
 ) -> Result<(), Memory>
     requires value { IsValue (length heap.now) v }
-    requires lawful { IsLawful (table_of table.now) }
-    requires named { length table.now.names ≡ length table.now.nodes }
     requires number { at < length table.now.nodes }
     requires typed { HasType (table_shapes (table_of table.now)) heap.now v at }
     ensures { OnOk result
@@ -262,8 +255,6 @@ fn put_styled_at(
     style: Style,
 ) -> Result<(), Memory>
     requires value { IsValue (length heap.now) v }
-    requires lawful { IsLawful (table_of table.now) }
-    requires named { length table.now.names ≡ length table.now.nodes }
     requires number { at < length table.now.nodes }
     requires typed { HasType (table_shapes (table_of table.now)) heap.now v at }
     ensures { OnOk result
@@ -291,18 +282,19 @@ fn put_part(
     style: Style,
 ) -> Result<bool, Memory>
     requires value { IsValue (length heap.now) root }
-    requires ready { IsReady requested.now }
     requires typed { HasType (table_shapes (table_of requested.now.table)) heap.now root 0 }
     ensures { IfOk result
         (PutsLine (the_part path.now style) (type_over requested.now) heap.now root
         text.old.items text.new.items) }
 {
+    requested.holds();
     tables_decide();
-    tables_are_lawful();
     roots_show_alike();
-    match walk(heap, root, &requested.table, path) {
+    let table = requested.table();
+    table.holds();
+    match walk(heap, root, table, path) {
         Some((value, at)) => {
-            put_styled_at(text, alloc, heap, value, &requested.table, at, style)?;
+            put_styled_at(text, alloc, heap, value, table, at, style)?;
             Ok(true)
         }
         None => {
@@ -331,15 +323,15 @@ fn put_trees(
     requested: &Requested,
 ) -> Result<bool, Memory>
     requires value { IsValue (length heap.now) root }
-    requires ready { IsReady requested.now }
     requires typed { HasType (table_shapes (table_of requested.now.table)) heap.now root 0 }
     ensures { IfOk result
         (PutsLine the_trees (type_over requested.now) heap.now root text.old.items text.new.items) }
 {
+    requested.holds();
     tables_decide();
     tables_judge_trees();
     tables_have_the_verdict();
-    let verdict = trees(alloc, heap, root, &requested.table)?;
+    let verdict = trees(alloc, heap, root, requested.table())?;
     put_verdict(text, alloc, &verdict)?;
     Ok(is_sound(&verdict))
 }

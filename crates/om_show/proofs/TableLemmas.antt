@@ -18,7 +18,7 @@ use Rattle.om_types.specs.Shape.{shape}
 use Rattle.om_types.specs.Table.{with_parts, node_or_none, table_shapes}
 use Rattle.om_equal.proofs.SimulationLemmas.{SamePlace, place_same}
 use Rattle.om_equal.proofs.TableLemmas.{slice_get-mapped, mapped_some, asked_at, fields_same, table_says}
-use Rattle.om_type_table.specs.declared.table.TypeTable.{TypeTable}
+use Rattle.om_type_table.specs.declared.tabled.Tabled.{Tabled}
 use Rattle.om_type_table.specs.Made.{types_of, table_of, IsTypeTable}
 use Rattle.om_leaves.specs.Frames.{Frame, frame_of, doubles_frame, int_text, double_text, object_text, row_text}
 use Rattle.om_show.specs.Laws.{SameClass, ShowAlike}
@@ -81,7 +81,7 @@ module _ {T : Type 0} (shape : T → ShapeOf T) (Equal Other : T → T → Type 
 
 -- ---- tables
 
-module _ (decls : List Decl) (t : Ty) (table : TypeTable) (is : IsTypeTable decls t table) where
+module _ (decls : List Decl) (t : Ty) (table : Tabled) (is : IsTypeTable decls t table) where
   abbrev pub Is : ℕ → Ty → Type 0
   Is i u = slice_get (types_of table) i ≡ Some u
 

@@ -12,19 +12,19 @@ use Rattle.om_types.specs.Reached.{IsReached}
 use Rattle.om_types.specs.Shape.{shape}
 use Rattle.om_types.specs.Ty.{Ty}
 use Rattle.om_types.specs.Typing.{HasType}
-use Rattle.om_type_table.specs.declared.table.TypeTable.{TypeTable}
+use Rattle.om_type_table.specs.declared.tabled.Tabled.{Tabled}
 use Rattle.om_type_table.specs.Made.{types_of, IsTypeTable}
 use Rattle.om_show.specs.Named.{HasItsNames}
 use Rattle.om_show.specs.Shown.{met_within, shown_text, shown_at}
 use Rattle.om_show.specs.Tables.{shape_in, names_in}
 
 -- numbers of one class are equal
-abbrev pub SameClass : TypeTable → ℕ → ℕ → Type 0
+abbrev pub SameClass : Tabled → ℕ → ℕ → Type 0
 SameClass table i j = slice_get table.classes i ≡ slice_get table.classes j
 
 -- A value has one text at a number and at its type, and so has the part at each path. Which types
 -- are equal does not matter: it is said for those of one class, and for those that are the same.
-pub record ShowAlike (decls : List Decl) (table : TypeTable) (i : ℕ) (t : Ty) : Type 0 where
+pub record ShowAlike (decls : List Decl) (table : Tabled) (i : ℕ) (t : Ty) : Type 0 where
   pub whole : (graph : List Obj) (v : Val)
       → shown_text (shape_in table) (names_in table) graph v i
       ≡ shown_text (shape decls) (names_of decls) graph v t
@@ -38,13 +38,13 @@ pub record ShowAlike (decls : List Decl) (table : TypeTable) (i : ℕ) (t : Ty) 
 -- so it is at every number of a table
 abbrev pub TablesShowAlike : Type 0
 TablesShowAlike =
-    (decls : List Decl) (t : Ty) (table : TypeTable) → IsTypeTable decls t table
+    (decls : List Decl) (t : Ty) (table : Tabled) → IsTypeTable decls t table
     → (i : ℕ) (u : Ty) → slice_get (types_of table) i ≡ Some u → ShowAlike decls table i u
 
 -- and at the number 0, which is that of the type that was asked for
 abbrev pub RootsShowAlike : Type 0
 RootsShowAlike =
-    (decls : List Decl) (t : Ty) (table : TypeTable) → IsTypeTable decls t table
+    (decls : List Decl) (t : Ty) (table : Tabled) → IsTypeTable decls t table
     → ShowAlike decls table 0 t
 
 -- where more values may be one inside the other than there are objects, and one, the same pieces
@@ -58,7 +58,7 @@ MoreIsTheSame =
 -- the same at a number of a table
 abbrev pub MoreIsTheSameByNumbers : Type 0
 MoreIsTheSameByNumbers =
-    (table : TypeTable) (graph : List Obj) (v : Val) (i : ℕ) (more : ℕ)
+    (table : Tabled) (graph : List Obj) (v : Val) (i : ℕ) (more : ℕ)
     → met_within (shape_in table) (names_in table) graph (length graph + 1 + more) [] v i
     ≡ met_within (shape_in table) (names_in table) graph (length graph + 1) [] v i
 

@@ -5,10 +5,10 @@ use Rattle.om_types.specs.declared.names.Names.{Names}
 use Rattle.om_types.specs.declared.shape.ShapeOf.{ShapeOf}
 use Rattle.om_types.specs.Names.{no_names}
 use Rattle.om_types.specs.Table.{node_or_none}
-use Rattle.om_type_table.specs.declared.table.TypeTable.{TypeTable}
+use Rattle.om_type_table.specs.declared.tabled.Tabled.{Tabled}
 
-abbrev pub shape_in : TypeTable → ℕ → ShapeOf ℕ
+abbrev pub shape_in : Tabled → ℕ → ShapeOf ℕ
 shape_in table i = node_or_none (slice_get table.nodes i)
 
-abbrev pub names_in : TypeTable → ℕ → Names
+abbrev pub names_in : Tabled → ℕ → Names
 names_in table i = unwrap_or (slice_get table.names i) no_names

@@ -6,7 +6,7 @@ use Rattle.om_types.specs.Names.{names_of}
 use Rattle.om_types.specs.Shape.{shape}
 use Rattle.om_types.specs.Ty.{Ty}
 use Rattle.om_table.proofs.DecideLemmas.{root_is_first}
-use Rattle.om_type_table.specs.declared.table.TypeTable.{TypeTable}
+use Rattle.om_type_table.specs.declared.tabled.Tabled.{Tabled}
 use Rattle.om_type_table.specs.Made.{types_of, IsTypeTable}
 use Rattle.om_format.specs.Tree.{Tree, objects_of}
 use Rattle.om_literal.specs.Reading.{Reading, Refusal}
@@ -16,7 +16,7 @@ use Rattle.om_readback.specs.ReadBack.{IsReadBack}
 use Rattle.om_readback.proofs.DeclaredLemmas.{texts_are_read_back}
 use Rattle.om_text.specs.Laws.{ReadsAgain, TextsAreReadAgain}
 
-module _ (decls : List Decl) (t : Ty) (table : TypeTable) (is : IsTypeTable decls t table) where
+module _ (decls : List Decl) (t : Ty) (table : Tabled) (is : IsTypeTable decls t table) where
   abbrev Is : ℕ → Ty → Type 0
   Is i u = slice_get (types_of table) i ≡ Some u
 

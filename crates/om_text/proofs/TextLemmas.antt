@@ -17,7 +17,7 @@ use Rattle.std.proofs.Common.{true, false, ◌++◌, length-append}
 use Rattle.om_grammar.specs.Grammar.{mark}
 use Rattle.om_lex.specs.declared.lexeme.Symbol.TheVariants as symbols
 use Rattle.om_literal_grammar.specs.Literal.{Head, upper_head, tag_head, cons_head, empty_head, ref_head, Literal, labelled, again, Plain, integer, character, string, double, truth, unit, constant, applied, fields, tuple, empty_array, array, head_kinds, owner_kinds, plain_kinds, literal_kinds, parts_kinds, rows_kinds, row_start}
-use Rattle.om_type_table.specs.declared.table.TypeTable.{TypeTable}
+use Rattle.om_type_table.specs.declared.tabled.Tabled.{Tabled}
 use Rattle.om_format.specs.Tree.{Tree, root, objects_of}
 use Rattle.om_text.specs.Laws.{ReadsAgain}
 use Rattle.om_text.specs.Text.{HasOneTextAnswer, Gives, TextAnswer, IsTextAnswer, ReadsText, GivesTree, text_fault}
@@ -34,13 +34,13 @@ faults_same : (line : List ℕ) (f g : LexFault) → Faults line f → Faults li
 faults_same line f g one other = let o = has_one_outcome line in let e : Err f ≡ Err g = o.2 (Err f) one ∙ sym (o.2 (Err g) other) in cc
 
 -- two answers of lexemes of one line are one
-literals_same : (table : TypeTable) (line : List ℕ) (l m : List Lexeme) (x y : Result (List Obj × Val) LiteralFault) → Lexes line l → Lexes line m
+literals_same : (table : Tabled) (line : List ℕ) (l m : List Lexeme) (x y : Result (List Obj × Val) LiteralFault) → Lexes line l → Lexes line m
     → IsAnswer table 0 l (length line) [] x → IsAnswer table 0 m (length line) [] y → x ≡ y
 literals_same table line l m x y one other at_x at_y =
     let o = one_answer table 0 l (length line) [] in
     o.2 x at_x ∙ sym (o.2 y (subst (λ k. IsAnswer table 0 k (length line) [] y) (sym (lexed_same line l m one other)) at_y))
 
-same_answer : (table : TypeTable) (line : List ℕ) (a b : TextAnswer) → IsTextAnswer table line a → IsTextAnswer table line b → a ≡ b
+same_answer : (table : Tabled) (line : List ℕ) (a b : TextAnswer) → IsTextAnswer table line a → IsTextAnswer table line b → a ≡ b
 same_answer table line (Ok None) (Ok None) one other = refl
 same_answer table line (Ok None) (Ok (Some b)) one other = absurd (other.2 (lexed_same line other.0 [] other.1 one))
 same_answer table line (Ok None) (Err (faults.Lex f)) one other = lexed_or_fault line [] f one other
@@ -68,17 +68,17 @@ same_answer table line (Err (faults.Literal f)) (Err faults.Memory) one other = 
 same_answer table line (Err faults.Memory) other one both = absurd one
 
 -- some answer there is
-answer_of_literal : (table : TypeTable) (line : List ℕ) (l : Lexeme) (ls : List Lexeme) → Lexes line (l ∷ ls)
+answer_of_literal : (table : Tabled) (line : List ℕ) (l : Lexeme) (ls : List Lexeme) → Lexes line (l ∷ ls)
     → (r : Result (List Obj × Val) LiteralFault) → IsAnswer table 0 (l ∷ ls) (length line) [] r → (answer : TextAnswer) × IsTextAnswer table line answer
 answer_of_literal table line l ls lexes (Ok built) is = (Ok (Some built), (l ∷ ls, lexes, (λ e. absurd cc), is))
 answer_of_literal table line l ls lexes (Err fault) is = (Err (faults.Literal fault), (l ∷ ls, lexes, (λ e. absurd cc), is))
 
-answer_of : (table : TypeTable) (line : List ℕ) (o : Result (List Lexeme) LexFault) → Outcome line o → (answer : TextAnswer) × IsTextAnswer table line answer
+answer_of : (table : Tabled) (line : List ℕ) (o : Result (List Lexeme) LexFault) → Outcome line o → (answer : TextAnswer) × IsTextAnswer table line answer
 answer_of table line (Ok []) is = (Ok None, is)
 answer_of table line (Ok (l ∷ ls)) is = let o = one_answer table 0 (l ∷ ls) (length line) [] in answer_of_literal table line l ls is o.0 o.1
 answer_of table line (Err fault) is = (Err (faults.Lex fault), is)
 
-pub one_text_answer : (table : TypeTable) (line : List ℕ) → HasOneTextAnswer table line
+pub one_text_answer : (table : Tabled) (line : List ℕ) → HasOneTextAnswer table line
 one_text_answer table line =
     let o = has_one_outcome line in
     let a = answer_of table line o.0 o.1 in
@@ -113,14 +113,14 @@ spelled_some (labelled None p) e = plain_some p e
 spelled_some (labelled (Some k) p) e = absurd cc
 
 -- so lexemes with an answer are some
-some_lexemes : (table : TypeTable) (line : List ℕ) (lexemes : List Lexeme) (answer : List Obj × Val) → IsAnswer table 0 lexemes (length line) [] (Ok answer) → lexemes ≢ []
+some_lexemes : (table : Tabled) (line : List ℕ) (lexemes : List Lexeme) (answer : List Obj × Val) → IsAnswer table 0 lexemes (length line) [] (Ok answer) → lexemes ≢ []
 some_lexemes table line lexemes answer is none = spelled_some is.literal (is.spelled ∙ ap (λ (ls : List Lexeme). map (λ (l : Lexeme). l.kind) ls) none)
 
 tree_some : (lexemes : List Lexeme) (nodes : List Node) → IsTreeOf lexemes nodes → lexemes ≢ []
 tree_some lexemes nodes is none = spelled_some is.0 (is.1 ∙ ap (λ (ls : List Lexeme). map (λ (l : Lexeme). l.kind) ls) none)
 
 -- a value or a fault over no objects is one of the line
-module _ (table : TypeTable) (line : List ℕ) (lexemes : List Lexeme) (nodes : List Node) (old new : List Obj) (empty : old ≡ []) (lexes : Lexes line lexemes) (tree : IsTreeOf lexemes nodes) where
+module _ (table : Tabled) (line : List ℕ) (lexemes : List Lexeme) (nodes : List Node) (old new : List Obj) (empty : old ≡ []) (lexes : Lexes line lexemes) (tree : IsTreeOf lexemes nodes) where
   refused : (fault : LiteralFault) → IsAnswer table 0 lexemes (length line) old (Err fault)
       → (xs : List Lexeme) × Lexes line xs × (xs ≢ []) × IsAnswer table 0 xs (length line) [] (Err fault)
   refused fault is = (lexemes, lexes, tree_some lexemes nodes tree, subst (λ (os : List Obj). IsAnswer table 0 lexemes (length line) os (Err fault)) empty is)
@@ -132,17 +132,17 @@ module _ (table : TypeTable) (line : List ℕ) (lexemes : List Lexeme) (nodes : 
   placed_fault (literal.IntRange place) is = (is.0 ∙ empty, refused (literal.IntRange place) is.1)
   placed_fault (literal.Label place) is = (is.0 ∙ empty, refused (literal.Label place) is.1)
 
-read_back_answer : (table : TypeTable) (tree : Tree) (line : List ℕ) → ReadsAgain table tree line → IsTextAnswer table line (Ok (Some (objects_of tree 0, root tree 0)))
+read_back_answer : (table : Tabled) (tree : Tree) (line : List ℕ) → ReadsAgain table tree line → IsTextAnswer table line (Ok (Some (objects_of tree 0, root tree 0)))
 read_back_answer table tree line r = (r.lexemes, r.lexes, some_lexemes table line r.lexemes (objects_of tree 0, root tree 0) (r.answer (length line)), r.answer (length line))
 
 -- so it is the line's answer
-is_back : (table : TypeTable) (tree : Tree) (line : List ℕ) (a : TextAnswer) → ReadsAgain table tree line → IsTextAnswer table line a → a ≡ Ok (Some (objects_of tree 0, root tree 0))
+is_back : (table : Tabled) (tree : Tree) (line : List ℕ) (a : TextAnswer) → ReadsAgain table tree line → IsTextAnswer table line a → a ≡ Ok (Some (objects_of tree 0, root tree 0))
 is_back table tree line a back is = same_answer table line a (Ok (Some (objects_of tree 0, root tree 0))) is (read_back_answer table tree line back)
 
 -- ---- what a call gives
 
 -- the one answer
-pub gives_answer : (table : TypeTable) (line : List ℕ) (new : List Obj) (r : Result (Option Val) TextFault) → ReadsText table line new r
+pub gives_answer : (table : Tabled) (line : List ℕ) (new : List Obj) (r : Result (Option Val) TextFault) → ReadsText table line new r
     → (answer : TextAnswer) → IsTextAnswer table line answer → Gives answer new r
 gives_answer table line new (Ok None) reads answer is = same_answer table line answer (Ok None) is reads.1
 gives_answer table line new (Ok (Some value)) reads answer is = same_answer table line answer (Ok (Some (new, value))) is reads.1
@@ -160,7 +160,7 @@ fault_back : {A : Type 0} (fault : TextFault) (graph : List Obj) (v : Val) → �
 fault_back fault graph v e = absurd cc
 
 -- the value of a tree
-pub gives_back : (table : TypeTable) (line : List ℕ) (new : List Obj) (r : Result (Option Val) TextFault) → ReadsText table line new r
+pub gives_back : (table : Tabled) (line : List ℕ) (new : List Obj) (r : Result (Option Val) TextFault) → ReadsText table line new r
     → (tree : Tree) → ReadsAgain table tree line → GivesTree tree new r
 gives_back table line new (Ok None) reads tree back = none_back (objects_of tree 0) (root tree 0) (is_back table tree line (Ok None) back reads.1)
 gives_back table line new (Ok (Some value)) reads tree back = pair_parts new (objects_of tree 0) value (root tree 0) (is_back table tree line (Ok (Some (new, value))) back reads.1)

@@ -12,14 +12,14 @@ use Rattle.om_types.specs.Ty.{Ty}
 use Rattle.om_types.specs.Typing.{HasType}
 use Rattle.om_format.specs.Tree.{Tree, IsTree, ReferBack, root, made, objects_of}
 use Rattle.om_show.specs.Shown.{shown_text}
-use Rattle.om_type_table.specs.declared.table.TypeTable.{TypeTable}
+use Rattle.om_type_table.specs.declared.tabled.Tabled.{Tabled}
 use Rattle.om_type_table.specs.Made.{types_of, IsTypeTable}
 use Rattle.om_literal.specs.LiteralAnswers.{IsAnswer}
 use Rattle.om_literal_texts.specs.Readable.{AreReadable}
 
 -- The text is one line that is not empty, and what its lexemes are, over no objects, at the number
 -- 0 of the table is the tree's value with its objects.
-pub record ReadsAgain (table : TypeTable) (tree : Tree) (text : List ℕ) : Type 0 where
+pub record ReadsAgain (table : Tabled) (tree : Tree) (text : List ℕ) : Type 0 where
   pub lexemes : List Lexeme
   pub lexes : Lexes text lexemes
   pub some : 0 < length text
@@ -30,7 +30,7 @@ pub record ReadsAgain (table : TypeTable) (tree : Tree) (text : List ℕ) : Type
 -- read back
 abbrev pub TextsAreReadAgain : Type 0
 TextsAreReadAgain =
-    (decls : List Decl) (t : Ty) (table : TypeTable)
+    (decls : List Decl) (t : Ty) (table : Tabled)
     → AreWellFormed decls → IsSoundType decls t → IsTypeTable decls t table
     → AreReadable decls (types_of table)
     → (tree : Tree) → IsTree tree → ReferBack tree 0 → made tree < 2 ^ 63

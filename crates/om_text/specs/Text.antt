@@ -6,7 +6,7 @@ use Rattle.om_model.specs.Graph.{IsValue}
 use Rattle.om_lex.specs.declared.lexeme.Lexeme.{Lexeme}
 use Rattle.om_lex.specs.LexText.{Lexes, Faults}
 use Rattle.om_format.specs.Tree.{Tree, root, objects_of}
-use Rattle.om_type_table.specs.declared.table.TypeTable.{TypeTable}
+use Rattle.om_type_table.specs.declared.tabled.Tabled.{Tabled}
 use Rattle.om_literal.specs.declared.fault.LiteralFault.{LiteralFault}
 use Rattle.om_literal.specs.declared.fault.LiteralFault.TheVariants as literal
 use Rattle.om_literal.specs.LiteralAnswers.{IsAnswer}
@@ -20,7 +20,7 @@ TextAnswer = Result (Option (List Obj × Val)) TextFault
 
 -- A line without lexemes is blank. Else they are a literal of a value and its objects, or have the
 -- fault of a literal, over no objects and with the line's end as the end.
-abbrev pub IsTextAnswer : TypeTable → List ℕ → TextAnswer → Type 0
+abbrev pub IsTextAnswer : Tabled → List ℕ → TextAnswer → Type 0
 IsTextAnswer table line (Ok None) = Lexes line []
 IsTextAnswer table line (Ok (Some built)) =
     (lexemes : List Lexeme) × Lexes line lexemes × (lexemes ≢ [])
@@ -37,7 +37,7 @@ text_fault literal.Memory = faults.Memory
 text_fault fault = faults.Literal fault
 
 -- a line has one answer, and no other
-abbrev pub HasOneTextAnswer : TypeTable → List ℕ → Type 0
+abbrev pub HasOneTextAnswer : Tabled → List ℕ → Type 0
 HasOneTextAnswer table line =
     (answer : TextAnswer) × IsTextAnswer table line answer
     × ((other : TextAnswer) → IsTextAnswer table line other → other ≡ answer)
@@ -45,7 +45,7 @@ HasOneTextAnswer table line =
 -- ---- what a call gives, with the heap that is left
 
 -- the objects of a value are those of the heap; else it has none
-abbrev pub ReadsText : TypeTable → List ℕ → List Obj → Result (Option Val) TextFault → Type 0
+abbrev pub ReadsText : Tabled → List ℕ → List Obj → Result (Option Val) TextFault → Type 0
 ReadsText table line new (Ok None) = (new ≡ []) × IsTextAnswer table line (Ok None)
 ReadsText table line new (Ok (Some value)) =
     IsValue (length new) value × IsTextAnswer table line (Ok (Some (new, value)))
@@ -60,7 +60,7 @@ Gives answer new (Err faults.Memory) = ⊤
 Gives answer new (Err fault) = answer ≡ Err fault
 
 -- whatever the line's answer is
-abbrev pub GivesAnswer : TypeTable → List ℕ → List Obj → Result (Option Val) TextFault → Type 0
+abbrev pub GivesAnswer : Tabled → List ℕ → List Obj → Result (Option Val) TextFault → Type 0
 GivesAnswer table line new result =
     (answer : TextAnswer) → IsTextAnswer table line answer → Gives answer new result
 
@@ -72,6 +72,6 @@ GivesTree tree new (Err faults.Memory) = ⊤
 GivesTree tree new (Err fault) = ⊥
 
 -- whatever tree's value the line is the text of
-abbrev pub GivesBack : TypeTable → List ℕ → List Obj → Result (Option Val) TextFault → Type 0
+abbrev pub GivesBack : Tabled → List ℕ → List Obj → Result (Option Val) TextFault → Type 0
 GivesBack table line new result =
     (tree : Tree) → ReadsAgain table tree line → GivesTree tree new result

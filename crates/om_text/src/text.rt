@@ -1,6 +1,6 @@
 //! Lines of text as values.
 
-ghost use Rattle.std.specs.Prelude.{◌≡◌, [], length};
+ghost use Rattle.std.specs.Prelude.{◌≡◌, []};
 ghost use Rattle.om_literal_grammar.specs.Placed.{IsPlaced};
 ghost use Rattle.om_text.specs.Text.{GivesAnswer, GivesBack, ReadsText, text_fault};
 
@@ -33,7 +33,6 @@ pub fn read_text(
     table: &TypeTable,
     line: &[u8],
 ) -> Result<Option<Val>, TextFault>
-    requires { length table.now.names ≡ length table.now.nodes }
 
     // What the line is, or why it is no value, and then the heap is empty. So it is out of memory
     // too.
@@ -66,7 +65,6 @@ fn read_nodes(
     line: &[u8],
     placed: &Placed,
 ) -> Result<Option<Val>, TextFault>
-    requires named { length table.now.names ≡ length table.now.nodes }
     requires empty { heap.old ≡ [] }
     requires placed { IsPlaced line.now placed.now.places.items placed.now.tree }
     ensures { ReadsText table.now line.now heap.new result }
@@ -84,7 +82,6 @@ fn read_long(
     table: &TypeTable,
     line: &[u8],
 ) -> Result<Option<Val>, TextFault>
-    requires named { length table.now.names ≡ length table.now.nodes }
     requires empty { heap.old ≡ [] }
     ensures { ReadsText table.now line.now heap.new result }
 {
@@ -110,7 +107,6 @@ fn read(
     table: &TypeTable,
     line: &[u8],
 ) -> Result<Option<Val>, TextFault>
-    requires { length table.now.names ≡ length table.now.nodes }
     ensures { ReadsText table.now line.now heap.new result }
 {
     heap.clear();

@@ -16,7 +16,7 @@ use Rattle.om_types.specs.Table.{table_shapes}
 use Rattle.om_types.specs.Typing.{HasType}
 use Rattle.om_typing.proofs.SearchedLemmas.{before_transitive}
 use Rattle.om_equal.proofs.TableLemmas.{mapped_some}
-use Rattle.om_type_table.specs.declared.table.TypeTable.{TypeTable}
+use Rattle.om_type_table.specs.declared.tabled.Tabled.{Tabled}
 use Rattle.om_type_table.specs.Made.{table_of}
 use Rattle.om_check.specs.declared.visits.Visit.{Visit}
 use Rattle.om_check.specs.Told.{IsPathOf}
@@ -46,7 +46,7 @@ abbrev pair_of : Option (Entry ℕ) → ℕ × ℕ
 pair_of None = (0, 0)
 pair_of (Some e) = (e.object, e.type)
 
-module _ (table : TypeTable) (graph : List Obj) (root : Val) (its : IsTreeTable table)
+module _ (table : Tabled) (graph : List Obj) (root : Val) (its : IsTreeTable table)
     (has : HasType (table_shapes (table_of table)) graph root 0)
     (all : List Visit) (met : AreAllMet (table_of table) graph root all)
     (nodes : Nodes) (among : AreNodeVisits (IsTreeNumber table) all (length all) nodes) where
@@ -440,7 +440,7 @@ module _ (table : TypeTable) (graph : List Obj) (root : Val) (its : IsTreeTable 
 
 -- ---- no type of a set or a map
 
-module _ (table : TypeTable) (graph : List Obj) (root : Val)
+module _ (table : Tabled) (graph : List Obj) (root : Val)
     (none : (t : ℕ) → ¬ IsTreeNumber table t) where
   no_node_at : (Has : List Obj → ℕ → Type 0) (path : List ℕ) → ¬ IsNodeWith (shape_in table)
       (names_in table) (SameClass table) graph root 0 Has path

@@ -16,7 +16,7 @@ use Rattle.om_types.specs.Table.{table_shapes}
 use Rattle.om_types.specs.Typing.{IsHeld, HasType}
 use Rattle.om_types.proofs.FaultLemmas.{place_is_held}
 use Rattle.om_typing.specs.StepLaws.{AreApart, key_of}
-use Rattle.om_type_table.specs.declared.table.TypeTable.{TypeTable}
+use Rattle.om_type_table.specs.declared.tabled.Tabled.{Tabled}
 use Rattle.om_type_table.specs.Made.{table_of}
 use Rattle.om_scan.specs.Paths.{HasPath}
 use Rattle.om_check.specs.Verdict.{IsYes}
@@ -105,7 +105,7 @@ never_before_root [] (inr same) = same.1
 never_before_root (i ∷ path) (inl less) = omega (arith, less)
 never_before_root (i ∷ path) (inr same) = same.1
 
-module _ (table : TypeTable) (graph : List Obj) (root : Val) (its : IsTreeTable table)
+module _ (table : Tabled) (graph : List Obj) (root : Val) (its : IsTreeTable table)
     (has : HasType (table_shapes (table_of table)) graph root 0) where
   abbrev IsNodeHere : List ℕ → ℕ → ℕ → Type 0
   IsNodeHere path o u = IsNode (shape_in table) (names_in table) (SameClass table) graph root 0

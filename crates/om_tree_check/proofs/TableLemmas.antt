@@ -19,7 +19,7 @@ use Rattle.om_types.specs.Ty.{Ty}
 use Rattle.om_equal.proofs.SoundLemmas.{known_by_hash}
 use Rattle.om_equal.proofs.TableLemmas.{slice_get-mapped, mapped_some, table_says, types_say}
 use Rattle.om_table.proofs.DecideLemmas.{root_is_first}
-use Rattle.om_type_table.specs.declared.table.TypeTable.{TypeTable}
+use Rattle.om_type_table.specs.declared.tabled.Tabled.{Tabled}
 use Rattle.om_type_table.specs.Made.{types_of, table_of, IsTypeTable, IsLawful}
 use Rattle.om_trees.specs.declared.verdict.TreeVerdict.{TreeVerdict}
 use Rattle.om_trees.specs.Laws.{IsVerdictOf}
@@ -132,7 +132,7 @@ module _ {T U V : Type 0} (f : T → V) (g : U → V) where
 
 -- ---- tables
 
-module _ (decls : List Decl) (t : Ty) (table : TypeTable) (is : IsTypeTable decls t table) where
+module _ (decls : List Decl) (t : Ty) (table : Tabled) (is : IsTypeTable decls t table) where
   abbrev Is : ℕ → Ty → Type 0
   Is i u = slice_get (types_of table) i ≡ Some u
 

@@ -8,7 +8,7 @@ use Rattle.om_types.specs.Accepted.{AreWellFormed, IsSoundType}
 use Rattle.om_types.specs.Equal.{declared_shapes}
 use Rattle.om_types.specs.Reached.{IsReached}
 use Rattle.om_types.specs.Typing.{HasType}
-use Rattle.om_type_table.specs.declared.table.TypeTable.{TypeTable}
+use Rattle.om_type_table.specs.declared.tabled.Tabled.{Tabled}
 use Rattle.om_type_table.specs.Made.{IsTypeTable}
 use Rattle.om_trees.specs.declared.verdict.TreeVerdict.{TreeVerdict}
 use Rattle.om_trees.specs.Laws.{HasSearchTrees, IsVerdictOf}
@@ -18,13 +18,13 @@ use Rattle.om_tree_check.specs.VerdictText.{is_sound}
 -- Sets and maps can be judged by the table of a sound type over well-formed declarations.
 abbrev pub TablesJudgeTrees : Type 0
 TablesJudgeTrees =
-    (decls : List Decl) (t : Ty) (table : TypeTable) → AreWellFormed decls → IsSoundType decls t
+    (decls : List Decl) (t : Ty) (table : Tabled) → AreWellFormed decls → IsSoundType decls t
     → IsTypeTable decls t table → IsTreeTable table
 
 -- The verdict by the table of a type is that by the type.
 abbrev pub TablesHaveTheVerdict : Type 0
 TablesHaveTheVerdict =
-    (decls : List Decl) (t : Ty) (table : TypeTable) → IsTypeTable decls t table
+    (decls : List Decl) (t : Ty) (table : Tabled) → IsTypeTable decls t table
     → (graph : List Obj) (root : Val) (verdict : TreeVerdict)
     → IsTableVerdict table graph root verdict ↔ IsVerdictOf decls graph root t verdict
 
@@ -41,7 +41,7 @@ SoundVerdictsTellSearchTrees =
 -- The same of the verdict by the table of the type.
 abbrev pub SoundTableVerdictsTellSearchTrees : Type 0
 SoundTableVerdictsTellSearchTrees =
-    (decls : List Decl) (t : Ty) (table : TypeTable) → AreWellFormed decls → IsSoundType decls t
+    (decls : List Decl) (t : Ty) (table : Tabled) → AreWellFormed decls → IsSoundType decls t
     → IsTypeTable decls t table
     → (graph : List Obj) (root : Val) → HasType (declared_shapes decls) graph root t
     → (verdict : TreeVerdict) → IsTableVerdict table graph root verdict

@@ -2,7 +2,7 @@
 use Rattle.std.specs.Prelude.{ℕ, ◌≡◌, Bool, false, List, filter, map, slice_index_or}
 use Rattle.om_model.specs.declared.value.Val.{Val}
 use Rattle.om_model.specs.declared.value.Obj.{Obj}
-use Rattle.om_type_table.specs.declared.table.TypeTable.{TypeTable}
+use Rattle.om_type_table.specs.declared.tabled.Tabled.{Tabled}
 use Rattle.om_trees.specs.TreeType.{shape_in, names_in, SameClass}
 use Rattle.om_trees.specs.Verdict.{AreNodes}
 
@@ -18,7 +18,7 @@ abbrev pub marked_objects : List Bool → List (ℕ × ℕ) → List ℕ
 marked_objects found pairs = objects_of (filter (is_node_pair found) pairs)
 
 -- these are the objects of the nodes, each as often as there are classes at which it is one
-pub record AreNodeObjects (table : TypeTable) (graph : List Obj) (root : Val) (objects : List ℕ)
+pub record AreNodeObjects (table : Tabled) (graph : List Obj) (root : Val) (objects : List ℕ)
     : Type 0 where
   pub pairs : List (ℕ × ℕ)
   pub nodes : AreNodes (shape_in table) (names_in table) (SameClass table) graph root 0 pairs

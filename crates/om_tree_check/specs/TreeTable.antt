@@ -2,7 +2,7 @@
 use Rattle.std.specs.Prelude.{ℕ, ◌≡◌, ◌↔◌, Bool, false, List, length, IsTrue, slice_index_or}
 use Rattle.om_model.specs.declared.value.Val.{Val}
 use Rattle.om_model.specs.declared.value.Obj.{Obj}
-use Rattle.om_type_table.specs.declared.table.TypeTable.{TypeTable}
+use Rattle.om_type_table.specs.declared.tabled.Tabled.{Tabled}
 use Rattle.om_type_table.specs.Made.{table_of, IsLawful}
 use Rattle.om_trees.specs.declared.verdict.TreeVerdict.{TreeVerdict}
 use Rattle.om_trees.specs.TreeType.{shape_in, names_in, SameClass, IsTreeNumber}
@@ -10,17 +10,17 @@ use Rattle.om_trees.specs.Verdict.{IsTreeVerdict}
 
 -- Values can be checked by the table, each of its types has names, and a type that is equal to that
 -- of a set or a map is one too.
-pub record IsTreeTable (table : TypeTable) : Type 0 where
+pub record IsTreeTable (table : Tabled) : Type 0 where
   pub lawful : IsLawful (table_of table)
   pub named : length table.names ≡ length table.nodes
   pub alike : (i j : ℕ) → SameClass table i j → IsTreeNumber table j → IsTreeNumber table i
 
 -- the types of sets and maps are marked, and no others
-abbrev pub AreMarked : TypeTable → List Bool → Type 0
+abbrev pub AreMarked : Tabled → List Bool → Type 0
 AreMarked table found =
     (t : ℕ) → IsTrue (slice_index_or found t false) ↔ IsTreeNumber table t
 
 -- the verdict on the value at the type that is number 0
-abbrev pub IsTableVerdict : TypeTable → List Obj → Val → TreeVerdict → Type 0
+abbrev pub IsTableVerdict : Tabled → List Obj → Val → TreeVerdict → Type 0
 IsTableVerdict table graph root verdict =
     IsTreeVerdict (shape_in table) (names_in table) (SameClass table) graph root 0 verdict

@@ -11,7 +11,7 @@ use Rattle.std.proofs.lemmas.Option.{slice_get-get_or, slice_get_within}
 use Rattle.om_model.proofs.Options.{slice_get-Contains, none_or_some}
 use Rattle.om_types.specs.Reached.{named_in}
 use Rattle.om_types.specs.Table.{node_or_none}
-use Rattle.om_type_table.specs.declared.table.TypeTable.{TypeTable}
+use Rattle.om_type_table.specs.declared.tabled.Tabled.{Tabled}
 use Rattle.om_trees.specs.declared.types.Layout.TheVariants as layouts
 use Rattle.om_trees.specs.TreeType.{layout_of, fields_in, tree_shape, shape_in, IsTreeNumber}
 use Rattle.om_trees.specs.NodeType.{AreParts, IsNamed, IsNodeType}
@@ -27,7 +27,7 @@ five_fields (a ∷ b ∷ c ∷ d ∷ []) many = absurd (omega (arith, many))
 five_fields (a ∷ b ∷ c ∷ d ∷ e ∷ []) many = refl
 five_fields (a ∷ b ∷ c ∷ d ∷ e ∷ f ∷ more) many = absurd (omega (arith, many))
 
-module _ (table : TypeTable) (t : ℕ) (constr : Constr ℕ) where
+module _ (table : Tabled) (t : ℕ) (constr : Constr ℕ) where
   constr_is : constr.mutable ≡ false → (xs : List ℕ) → constr.fields ≡ xs → constr ≡ record { mutable = false; fields = xs }
   constr_is fixed xs is = ap (λ (m : Bool). record constr { mutable = m }) fixed ∙ ap (λ (ys : List ℕ). record { mutable = false; fields = ys }) is
 
@@ -55,7 +55,7 @@ module _ (table : TypeTable) (t : ℕ) (constr : Constr ℕ) where
 
 -- ---- the shape of a tree's type
 
-module _ (table : TypeTable) (t : ℕ) where
+module _ (table : Tabled) (t : ℕ) where
   shape_is : (s : ShapeOf ℕ) → slice_get table.nodes t ≡ Some s → shape_in table t ≡ s
   shape_is s at = ap node_or_none at
 
@@ -97,7 +97,7 @@ alone (y ∷ []) x many is = ap (λ z. z ∷ []) (sym is)
 alone (y ∷ z ∷ more) x many is = absurd (omega (arith, many))
 
 pub map_type_of :
-    (table : TypeTable) (t : ℕ) (constr : Constr ℕ) (xs : List ℕ) (r : Bool) → constr.mutable ≡ false → xs ≡ constr.fields → length xs ≡ 5
+    (table : Tabled) (t : ℕ) (constr : Constr ℕ) (xs : List ℕ) (r : Bool) → constr.mutable ≡ false → xs ≡ constr.fields → length xs ≡ 5
     → (IsTrue r ↔ (IsNamed table t layouts.Map × AreParts table t (get_or xs 0 0) (get_or xs 1 0) (get_or xs 3 0) (get_or xs 4 0)))
     → IsTrue r ↔ IsNodeType table t constr
 map_type_of table t constr xs r fixed are many test =
@@ -145,7 +145,7 @@ found_more P found new n b many so_far is test = (ap length is ∙ length-append
       subst (λ x. IsTrue x ↔ P t) (sym same) (subst (λ k. IsTrue b ↔ P k) (sym here) test))
       (cases_lt t n)
 
-none_beyond : (table : TypeTable) (t : ℕ) → length table.nodes ≤ t → IsTreeNumber table t → ⊥
+none_beyond : (table : Tabled) (t : ℕ) → length table.nodes ≤ t → IsTreeNumber table t → ⊥
 none_beyond table t beyond tree = by_node (none_or_some (slice_get table.nodes t)) where
   by_node : (slice_get table.nodes t ≡ None) ⊎ ((s : ShapeOf ℕ) × (slice_get table.nodes t ≡ Some s)) → ⊥
   by_node (inl none) = no_shape (sym (ap node_or_none none) ∙ tree.shaped) where
@@ -154,7 +154,7 @@ none_beyond table t beyond tree = by_node (none_or_some (slice_get table.nodes t
   by_node (inr some) = let within = slice_get_within table.nodes t some.0 some.1 in omega (arith, beyond, within)
 
 pub all_found :
-    (table : TypeTable) (found : List Bool) → length found ≡ length table.nodes → ((t : ℕ) → t < length table.nodes → IsTrue (get_or found t false) ↔ IsTreeNumber table t)
+    (table : Tabled) (found : List Bool) → length found ≡ length table.nodes → ((t : ℕ) → t < length table.nodes → IsTrue (get_or found t false) ↔ IsTreeNumber table t)
     → (t : ℕ) → IsTrue (get_or found t false) ↔ IsTreeNumber table t
 all_found table found many all t = ⊎_elim
     (λ below. all t below)

@@ -2,12 +2,12 @@
 use Rattle.std.specs.Prelude.{ℕ, ◌≡◌, ◌⊎◌, false, Option}
 use Rattle.om_types.specs.declared.shape.Constr.{Constr}
 use Rattle.om_types.specs.declared.shape.ShapeOf.TheVariants as shapes
-use Rattle.om_type_table.specs.declared.table.TypeTable.{TypeTable}
+use Rattle.om_type_table.specs.declared.tabled.Tabled.{Tabled}
 use Rattle.om_trees.specs.declared.types.Layout.{Layout}
 use Rattle.om_trees.specs.TreeType.{layout_of, field_names, names_with, fields_in, shape_in, names_in, SameClass}
 
 -- the types of a node's parts: two of the tree itself, an element, and a number
-pub record AreParts (table : TypeTable) (t left element right height : ℕ) : Type 0 where
+pub record AreParts (table : Tabled) (t left element right height : ℕ) : Type 0 where
   pub left_same : SameClass table left t
   pub right_same : SameClass table right t
   pub ordered :
@@ -15,11 +15,11 @@ pub record AreParts (table : TypeTable) (t left element right height : ℕ) : Ty
   pub counted : shape_in table height ≡ shapes.AnyInt
 
 -- the type has the names of such a tree
-abbrev pub IsNamed : TypeTable → ℕ → Layout → Type 0
+abbrev pub IsNamed : Tabled → ℕ → Layout → Type 0
 IsNamed table t layout = names_in table t ≡ names_with (field_names layout)
 
 -- this is the constructor of the nodes of a set or of a map
-pub record IsNodeType (table : TypeTable) (t : ℕ) (constr : Constr ℕ) : Type 0 where
+pub record IsNodeType (table : Tabled) (t : ℕ) (constr : Constr ℕ) : Type 0 where
   pub left : ℕ
   pub element : ℕ
   pub kept : Option ℕ

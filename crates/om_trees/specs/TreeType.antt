@@ -10,7 +10,7 @@ use Rattle.om_types.specs.declared.shape.ShapeOf.{ShapeOf}
 use Rattle.om_types.specs.declared.shape.ShapeOf.TheVariants as shapes
 use Rattle.om_types.specs.Names.{no_names}
 use Rattle.om_types.specs.Table.{node_or_none}
-use Rattle.om_type_table.specs.declared.table.TypeTable.{TypeTable}
+use Rattle.om_type_table.specs.declared.tabled.Tabled.{Tabled}
 use Rattle.om_trees.specs.declared.types.Layout.{Layout}
 use Rattle.om_trees.specs.declared.types.Layout.TheVariants as layouts
 
@@ -65,18 +65,18 @@ module _ {T : Type 0} (shape : T → ShapeOf T) (names : T → Names) (Equal : T
 
 -- ---- the types of a table, by their numbers
 
-abbrev pub shape_in : TypeTable → ℕ → ShapeOf ℕ
+abbrev pub shape_in : Tabled → ℕ → ShapeOf ℕ
 shape_in table i = node_or_none (slice_get table.nodes i)
 
 abbrev pub names_or_none : Option Names → Names
 names_or_none None = no_names
 names_or_none (Some names) = names
 
-abbrev pub names_in : TypeTable → ℕ → Names
+abbrev pub names_in : Tabled → ℕ → Names
 names_in table i = names_or_none (slice_get table.names i)
 
-abbrev pub SameClass : TypeTable → ℕ → ℕ → Type 0
+abbrev pub SameClass : Tabled → ℕ → ℕ → Type 0
 SameClass table i j = slice_get table.classes i ≡ slice_get table.classes j
 
-abbrev pub IsTreeNumber : TypeTable → ℕ → Type 0
+abbrev pub IsTreeNumber : Tabled → ℕ → Type 0
 IsTreeNumber table i = IsTreeType (shape_in table) (names_in table) (SameClass table) i

@@ -2,7 +2,6 @@
 
 ghost use Rattle.std.specs.Prelude.{ℕ, ◌≡◌, ◌<◌, ◌⊎◌, ◌↔◌, false, [], ◌∷◌, length, map, slice_index, slice_index_or, slice_get, Some, All, IsTrue, IfOk};
 ghost use Rattle.om_types.specs.declared.shape.ShapeOf.TheVariants as shapes;
-ghost use Rattle.om_type_table.specs.Made.{table_of, IsLawful};
 ghost use Rattle.om_trees.specs.TreeType.{IsTreeNumber, names_with, node_with};
 ghost use Rattle.om_trees.specs.TreeType.{field_names, SameClass};
 ghost use Rattle.om_trees.specs.NodeType.{AreParts, IsNamed, IsNodeType};
@@ -24,13 +23,11 @@ pub enum Layout {
 
 /// For each type of a table, whether it is the type of a set or of a map.
 pub fn tree_types(alloc: Global, table: &TypeTable) -> Result<Vec<bool>, Memory>
-    requires lawful { IsLawful (table_of table.now) }
-    requires named { length table.now.names ≡ length table.now.nodes }
     ensures { IfOk result (λ found. (t : ℕ)
         → IsTrue (slice_index_or found.items t false) ↔ IsTreeNumber table.now t) }
 {
     let mut found = Vec::new(alloc);
-    for number in 0..table.nodes.len() {
+    for number in 0..table.count() {
         found.push(is_tree_type(table, number))?;
     }
     Ok(found)
@@ -38,8 +35,6 @@ pub fn tree_types(alloc: Global, table: &TypeTable) -> Result<Vec<bool>, Memory>
 
 /// Whether a type is that of a set or of a map.
 fn is_tree_type(table: &TypeTable, number: usize) -> bool
-    requires lawful { IsLawful (table_of table.now) }
-    requires named { length table.now.names ≡ length table.now.nodes }
     requires inside { number < length table.now.nodes }
     ensures { IsTrue result ↔ IsTreeNumber table.now number }
 {
@@ -53,11 +48,10 @@ fn is_tree_type(table: &TypeTable, number: usize) -> bool
 
 /// Whether a type is that of a set or of a map, by its constructors.
 fn is_tree_sum(table: &TypeTable, number: usize, constants: u64, blocks: &[Constr<usize>]) -> bool
-    requires lawful { IsLawful (table_of table.now) }
-    requires named { length table.now.names ≡ length table.now.nodes }
     requires shape { slice_get table.now.nodes number ≡ Some (shapes.Sum constants blocks.now) }
     ensures { IsTrue result ↔ IsTreeNumber table.now number }
 {
+    table.holds();
     if constants != 1 || blocks.len() != 1 {
         return false;
     }
@@ -66,8 +60,6 @@ fn is_tree_sum(table: &TypeTable, number: usize, constants: u64, blocks: &[Const
 
 /// Whether the one constructor with fields is that of a set's or a map's nodes.
 fn is_node_type(table: &TypeTable, number: usize, constr: &Constr<usize>) -> bool
-    requires lawful { IsLawful (table_of table.now) }
-    requires named { length table.now.names ≡ length table.now.nodes }
     requires inside { number < length table.now.nodes }
     requires closed { All (λ i. i < length table.now.nodes) constr.now.fields }
     ensures { IsTrue result ↔ IsNodeType table.now number constr.now }
@@ -85,8 +77,6 @@ fn is_node_type(table: &TypeTable, number: usize, constr: &Constr<usize>) -> boo
 
 /// Whether names and fields are those of a set's nodes.
 fn is_set_type(table: &TypeTable, number: usize, fields: &[usize]) -> bool
-    requires lawful { IsLawful (table_of table.now) }
-    requires named { length table.now.names ≡ length table.now.nodes }
     requires inside { number < length table.now.nodes }
     requires closed { All (λ i. i < length table.now.nodes) fields.now }
     requires four { length fields.now ≡ 4 }
@@ -102,8 +92,6 @@ fn is_set_type(table: &TypeTable, number: usize, fields: &[usize]) -> bool
 
 /// Whether names and fields are those of a map's nodes.
 fn is_map_type(table: &TypeTable, number: usize, fields: &[usize]) -> bool
-    requires lawful { IsLawful (table_of table.now) }
-    requires named { length table.now.names ≡ length table.now.nodes }
     requires inside { number < length table.now.nodes }
     requires closed { All (λ i. i < length table.now.nodes) fields.now }
     requires five { length fields.now ≡ 5 }
@@ -126,7 +114,6 @@ fn are_parts(
     right: usize,
     height: usize,
 ) -> bool
-    requires lawful { IsLawful (table_of table.now) }
     requires number { number < length table.now.nodes }
     requires left { left < length table.now.nodes }
     requires element { element < length table.now.nodes }
@@ -143,11 +130,11 @@ fn are_parts(
 
 /// Whether two types are equal.
 fn is_same(table: &TypeTable, first: usize, second: usize) -> bool
-    requires lawful { IsLawful (table_of table.now) }
     requires first { first < length table.now.nodes }
     requires second { second < length table.now.nodes }
     ensures { IsTrue result ↔ SameClass table.now first second }
 {
+    table.holds();
     table.class(first) == table.class(second)
 }
 

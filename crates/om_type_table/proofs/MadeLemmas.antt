@@ -9,15 +9,17 @@ use Rattle.om_model.proofs.Options.{Contains-map, Contains-none, map-Contains}
 use Rattle.om_types.specs.declared.decl.Decl.{Decl}
 use Rattle.om_types.specs.declared.shape.ShapeOf.{ShapeOf}
 use Rattle.om_types.specs.Ty.{Ty}
+use Rattle.om_types.specs.Nodes.{type_at}
 use Rattle.om_types.specs.Accepted.{AreWellFormed, IsSoundType}
+use Rattle.om_types.specs.Names.{names_of}
 use Rattle.om_types.specs.Reached.{named_in}
 use Rattle.om_types.specs.Shape.{shape}
 use Rattle.om_types.proofs.ShapeLemmas.{named_in-map}
 use Rattle.om_types.specs.Table.{Table, with_parts, IsTableOf}
 use Rattle.om_equal.proofs.SoundLemmas.{known_by_hash}
 use Rattle.om_equal.proofs.TableLemmas.{slice_get-mapped, mapped_some, table_is_lawful}
-use Rattle.om_type_table.specs.declared.table.TypeTable.{TypeTable}
-use Rattle.om_type_table.specs.Made.{types_of, table_of, IsTypeTable, IsLawful}
+use Rattle.om_type_table.specs.declared.tabled.Tabled.{Tabled}
+use Rattle.om_type_table.specs.Made.{types_of, table_of, IsTypeTable, IsLawful, IsCheckable}
 
 -- ---- tables
 
@@ -56,7 +58,7 @@ module _ (decls : List Decl) (types : List Ty) (table : Table) (made : IsTableOf
         subst (λ n. get_or (named_in node) j i < n) (sym many) below
 
 pub made_is_lawful :
-    (decls : List Decl) (t : Ty) (table : TypeTable) → AreWellFormed decls → IsSoundType decls t
+    (decls : List Decl) (t : Ty) (table : Tabled) → AreWellFormed decls → IsSoundType decls t
     → IsTypeTable decls t table → IsLawful (table_of table)
 made_is_lawful decls t table well sound is = record {
   lawful = table_is_lawful decls well.sound t (types_of table) is.reached
@@ -75,3 +77,17 @@ made_is_lawful decls t table well sound is = record {
   rooted : 0 < length table.nodes
   rooted =
       subst (λ n. 0 < n) (sym (many decls (types_of table) (table_of table) is.made)) some_type
+
+pub made_is_checkable :
+    (decls : List Decl) (t : Ty) (table : Tabled) → AreWellFormed decls → IsSoundType decls t
+    → IsTypeTable decls t table → IsCheckable table
+made_is_checkable decls t table well sound is = record {
+  lawful = made_is_lawful decls t table well sound is;
+  named =
+      ap length is.named ∙ length-map (types_of table) (names_of decls)
+      ∙ sym (many decls (types_of table) (table_of table) is.made);
+  numbered =
+      sym (length-map table.stored (type_at table.store))
+      ∙ sym (many decls (types_of table) (table_of table) is.made);
+  within = is.within;
+}

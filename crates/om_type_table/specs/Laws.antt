@@ -3,11 +3,11 @@ use Rattle.std.specs.Prelude.{List}
 use Rattle.om_types.specs.declared.decl.Decl.{Decl}
 use Rattle.om_types.specs.Ty.{Ty}
 use Rattle.om_types.specs.Accepted.{AreWellFormed, IsSoundType}
-use Rattle.om_type_table.specs.declared.table.TypeTable.{TypeTable}
+use Rattle.om_type_table.specs.declared.tabled.Tabled.{Tabled}
 use Rattle.om_type_table.specs.Made.{table_of, IsTypeTable, IsLawful}
 
 -- values can be checked by the table of a sound type over well-formed declarations
 abbrev pub MadeAreLawful : Type 0
 MadeAreLawful =
-    (decls : List Decl) (t : Ty) (table : TypeTable) → AreWellFormed decls → IsSoundType decls t
+    (decls : List Decl) (t : Ty) (table : Tabled) → AreWellFormed decls → IsSoundType decls t
     → IsTypeTable decls t table → IsLawful (table_of table)

@@ -7,18 +7,18 @@ use Rattle.om_types.specs.Lawful.{AreLawful, Everything}
 use Rattle.om_types.specs.Names.{names_of}
 use Rattle.om_types.specs.Reached.{IsReached, named_in}
 use Rattle.om_types.specs.Table.{Table, table_shapes, IsTableOf}
-use Rattle.om_type_table.specs.declared.table.TypeTable.{TypeTable}
+use Rattle.om_type_table.specs.declared.tabled.Tabled.{Tabled}
 
 -- the types, by their numbers
-abbrev pub types_of : TypeTable → List Ty
+abbrev pub types_of : Tabled → List Ty
 types_of t = map (type_at t.store) t.stored
 
 -- the shapes and the classes
-abbrev pub table_of : TypeTable → Table
+abbrev pub table_of : Tabled → Table
 table_of t = record { nodes = t.nodes; classes = t.classes }
 
 -- The table of the types that t reaches over the declarations, at most 65,536.
-pub record IsTypeTable (decls : List Decl) (t : Ty) (table : TypeTable) : Type 0 where
+pub record IsTypeTable (decls : List Decl) (t : Ty) (table : Tabled) : Type 0 where
   pub within : All (λ i. i < length table.store) table.stored
   pub reached : IsReached decls t (types_of table)
   pub made : IsTableOf decls (types_of table) (table_of table)
@@ -32,3 +32,11 @@ pub record IsLawful (table : Table) : Type 0 where
   pub rooted : 0 < length table.nodes
   pub closed : All (λ node. All (λ i. i < length table.nodes) (named_in node)) table.nodes
   pub classed : length table.classes ≡ length table.nodes
+
+-- What holds of each table of types: values can be checked by it, each type has names and a number,
+-- and the numbers are of the store.
+pub record IsCheckable (table : Tabled) : Type 0 where
+  pub lawful : IsLawful (table_of table)
+  pub named : length table.names ≡ length table.nodes
+  pub numbered : length table.stored ≡ length table.nodes
+  pub within : All (λ i. i < length table.store) table.stored

@@ -4,7 +4,9 @@
 
 pub mod laws;
 mod table;
+mod tabled;
 mod text;
 mod waiting;
 
 pub use table::TypeTable;
+pub use tabled::Tabled;

@@ -1,29 +1,59 @@
 //! The table.
 
-ghost use Rattle.std.specs.Prelude.{◌≡◌, ◌<◌, length, Some, slice_get};
+ghost use Rattle.std.specs.Prelude.{◌≡◌, ◌<◌, length, Some, slice_get, IfOk, IfSome};
+ghost use Rattle.om_types.specs.TypeText.{type_text};
 
+use crate::tabled::Tabled;
+use crate::text::text_in;
+use om_model::Memory;
 use om_model::list::List;
 use om_store::Types;
 use om_types::names::Names;
 use om_types::shape::ShapeOf;
+use std::alloc::Global;
+use std::marker::Model;
 
-/// Types by their numbers, in the order in which they are met. The type that was asked for has the
-/// number 0.
+/// A table of types that values can be checked by. Contracts see what it is made of.
 #[derive(Drop)]
 pub struct TypeTable {
-    /// A store that has the types.
-    pub store: Types,
-    /// The number of each type in the store.
-    pub stored: List<usize>,
-    /// The shapes, whose parts are numbers of the table.
-    pub nodes: List<ShapeOf<usize>>,
-    /// Two types have one class exactly where they are equal.
-    pub classes: List<usize>,
-    /// What their declarations or variants name.
-    pub names: List<Names>,
+    of: Tabled,
+}
+
+impl Model for TypeTable {
+    ghost use Rattle.std.specs.Coded.{codes};
+    ghost use Rattle.om_types.specs.TyCode.{code};
+    ghost use Rattle.om_type_table.specs.declared.tabled.Tabled.{Tabled};
+
+    ghost Value = { Tabled };
+
+    ghost coded = { Prim.hlevel (codes, code) };
+
+    ghost view = { λ t. t.of };
+
+    ghost use Rattle.om_type_table.specs.Made.{IsCheckable};
+
+    ghost invariant = { λ t. IsCheckable t.of };
 }
 
 impl TypeTable {
+    ghost use Rattle.om_type_table.specs.Made.{types_of, IsCheckable};
+
+    /// The table that is made of this.
+    pub fn new(of: Tabled) -> TypeTable
+        requires { IsCheckable of }
+        ensures { result ≡ of }
+    {
+        TypeTable { of }
+    }
+
+    /// What always holds of it. It does nothing.
+    #[inline(always)]
+    pub fn holds(&self)
+        ensures { IsCheckable self.now }
+    {
+        let _ = &self.of;
+    }
+
     /// The number of the type that was asked for.
     pub fn root(&self) -> usize
         ensures { result ≡ 0 }
@@ -35,30 +65,75 @@ impl TypeTable {
     pub fn len(&self) -> usize
         ensures { result ≡ length self.now.stored }
     {
-        self.stored.len()
+        self.of.stored.len()
+    }
+
+    /// How many shapes there are, and classes.
+    #[inline(always)]
+    pub fn count(&self) -> usize
+        ensures nodes { result ≡ length self.now.nodes }
+        ensures classes { result ≡ length self.now.classes }
+    {
+        self.of.nodes.len()
+    }
+
+    /// The store that has the types.
+    #[inline(always)]
+    pub fn store(&self) -> &Types
+        ensures { result.now ≡ self.now.store }
+    {
+        &self.of.store
+    }
+
+    /// The number of each type in the store.
+    #[inline(always)]
+    pub fn stored(&self) -> &[usize]
+        ensures { result.now ≡ self.now.stored }
+    {
+        self.of.stored.as_slice()
+    }
+
+    /// The shapes of all types.
+    #[inline(always)]
+    pub fn nodes(&self) -> &[ShapeOf<usize>]
+        ensures { result.now ≡ self.now.nodes }
+    {
+        self.of.nodes.as_slice()
     }
 
     /// The shape of a type.
+    #[inline(always)]
     pub fn shape(&self, number: usize) -> &ShapeOf<usize>
         requires { number < length self.now.nodes }
         ensures { slice_get self.now.nodes number ≡ Some result.now }
     {
-        &self.nodes.as_slice()[number]
+        &self.of.nodes.as_slice()[number]
     }
 
     /// The class of a type.
+    #[inline(always)]
     pub fn class(&self, number: usize) -> usize
         requires { number < length self.now.classes }
         ensures { slice_get self.now.classes number ≡ Some result }
     {
-        self.classes.as_slice()[number]
+        self.of.classes.as_slice()[number]
     }
 
     /// The names of a type.
+    #[inline(always)]
     pub fn names(&self, number: usize) -> &Names
-        requires { number < length self.now.names }
+        requires { number < length self.now.nodes }
         ensures { slice_get self.now.names number ≡ Some result.now }
     {
-        &self.names.as_slice()[number]
+        &self.of.names.as_slice()[number]
+    }
+
+    /// The text of a type.
+    pub fn text(&self, alloc: Global, number: usize) -> Result<List<u8>, Memory>
+        requires { number < length self.now.stored }
+        ensures { IfOk result
+            (λ text. IfSome (slice_get (types_of self.now) number) (λ t. text ≡ type_text t)) }
+    {
+        text_in(alloc, &self.of.store, self.of.stored.as_slice()[number])
     }
 }

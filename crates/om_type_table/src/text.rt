@@ -1,32 +1,18 @@
 //! The text of a type.
 
-ghost use Rattle.std.specs.Prelude.{◌≡◌, ◌<◌, ◌++◌, length, slice_get, All, IfOk, IfSome, OnOk, codes};
+ghost use Rattle.std.specs.Prelude.{◌≡◌, ◌<◌, ◌++◌, length, All, IfOk, OnOk, codes};
 ghost use Rattle.om_types.specs.Nodes.{type_at};
 ghost use Rattle.om_types.specs.TypeText.{type_text};
-ghost use Rattle.om_type_table.specs.Made.{types_of};
 ghost use Rattle.om_type_table.specs.Texts.{is_tuple, in_parentheses, added_text, arguments_text, text_of_waiting, IsWithin, IsPut};
 
-use crate::table::TypeTable;
 use crate::waiting::{Waiting, before_part, push_parts, stem_of, wait};
 use om_model::Memory;
 use om_model::list::List;
 use om_store::{TypeNode, Types};
 use std::alloc::Global;
 
-impl TypeTable {
-    /// The text of a type.
-    pub fn text(&self, alloc: Global, number: usize) -> Result<List<u8>, Memory>
-        requires within { All (λ i. i < length self.now.store) self.now.stored }
-        requires number { number < length self.now.stored }
-        ensures { IfOk result
-            (λ text. IfSome (slice_get (types_of self.now) number) (λ t. text ≡ type_text t)) }
-    {
-        text_in(alloc, &self.store, self.stored.as_slice()[number])
-    }
-}
-
 /// The text of a type of a store.
-fn text_in(alloc: Global, types: &Types, number: usize) -> Result<List<u8>, Memory>
+pub(crate) fn text_in(alloc: Global, types: &Types, number: usize) -> Result<List<u8>, Memory>
     requires { number < length types.now }
     ensures { IfOk result (λ text. text ≡ type_text (type_at types.now number)) }
 {

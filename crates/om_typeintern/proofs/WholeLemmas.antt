@@ -15,7 +15,7 @@ use Rattle.om_types.specs.Reached.{IsReached, IsWithoutRepeats, reached_from}
 use Rattle.om_types.specs.Table.{with_parts, head_with_parts, head_at, AreHeadsOf, IsTableOf}
 use Rattle.om_equal.proofs.NumberLemmas.{types_equal, numbers_equal, parts_below}
 use Rattle.om_store.proofs.HeldLemmas.{Grows-none}
-use Rattle.om_type_table.specs.declared.table.TypeTable.{TypeTable}
+use Rattle.om_type_table.specs.declared.tabled.Tabled.{Tabled}
 use Rattle.om_type_table.specs.Made.{types_of, table_of, IsTypeTable}
 use Rattle.om_typeintern.specs.declared.listing.Listing.{Listing}
 use Rattle.om_typeintern.specs.Listed.{types_at, met_types, AreWithin, IsWhole, IsTableOfListing}
@@ -53,7 +53,7 @@ module _ (decls : List Decl) (t : Ty) (listing : Listing) (whole : IsWhole decls
     from_earlier = whole.listed.from_earlier;
   }
 
-  module _ (table : TypeTable) (is : IsTableOfListing listing table) where
+  module _ (table : Tabled) (is : IsTableOfListing listing table) where
     types_same : types_of table ≡ all
     types_same =
         ap (λ (us : List Ty). types_at us table.stored) is.store

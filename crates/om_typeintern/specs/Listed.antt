@@ -16,7 +16,7 @@ use Rattle.om_store.specs.Held.{Grows}
 use Rattle.om_layout.specs.declared.layout.Layout.{Layout}
 use Rattle.om_layout.specs.Layout.{AreNamesAt}
 use Rattle.om_classes.specs.Found.{AreClasses}
-use Rattle.om_type_table.specs.declared.table.TypeTable.{TypeTable}
+use Rattle.om_type_table.specs.declared.tabled.Tabled.{Tabled}
 use Rattle.om_typeintern.specs.declared.entry.Entry.{Entry}
 use Rattle.om_typeintern.specs.declared.listing.Listing.{Listing}
 use Rattle.om_typeintern.specs.Placed.{IsShapePlaced, IsHeadPlaced}
@@ -90,7 +90,7 @@ pub record IsWhole (decls : List Decl) (t : Ty) (listing : Listing) : Type 0 whe
 -- ---- the table
 
 -- the table has what was listed, and the classes of the heads
-pub record IsTableOfListing (listing : Listing) (table : TypeTable) : Type 0 where
+pub record IsTableOfListing (listing : Listing) (table : Tabled) : Type 0 where
   pub store : table.store ≡ listing.types
   pub stored : table.stored ≡ listing.met.keys
   pub nodes : table.nodes ≡ listing.nodes.items

@@ -14,7 +14,7 @@ use om_classes::classes;
 use om_model::Memory;
 use om_model::list::List;
 use om_scope::SoundEnvironment;
-use om_type_table::TypeTable;
+use om_type_table::{Tabled, TypeTable};
 use om_types::decl::Decl;
 use om_types::ty::Ty;
 use std::alloc::Global;
@@ -31,8 +31,8 @@ pub fn build(alloc: Global, decls: &[Decl], ty: &Ty) -> Result<TypeTable, TypeFa
     ensures err { IfErr result (IsTypeFault decls.now ty.now) }
 {
     let listing = listed(alloc, decls, ty)?;
-    let table = finished(alloc, listing)?;
-    Ok(table)
+    let of = finished(alloc, listing)?;
+    Ok(TypeTable::new(of))
 }
 
 /// All types that a type reaches.
@@ -60,8 +60,8 @@ fn listed_by(alloc: Global, decls: &SoundEnvironment<'_>, ty: &Ty) -> Result<Lis
     Ok(listing)
 }
 
-/// The table of what was listed.
-fn finished(alloc: Global, listing: Listing) -> Result<TypeTable, Memory>
+/// What the table of a listing is made of.
+fn finished(alloc: Global, listing: Listing) -> Result<Tabled, Memory>
     requires { PartsBelow (length listing.heads.items) (head_at listing.heads.items) }
     ensures { IfOk result (IsTableOfListing listing) }
 {
@@ -74,7 +74,7 @@ fn finished(alloc: Global, listing: Listing) -> Result<TypeTable, Memory>
     } = listing;
     let found = classes(alloc, heads.as_slice())?;
     let stored = Vec::from_slice(alloc, met.as_slice())?;
-    Ok(TypeTable {
+    Ok(Tabled {
         store: types,
         stored: List::of(stored),
         nodes: List::of(nodes),

@@ -12,7 +12,7 @@ use Rattle.om_promises.specs.Account.{IsWanted, FetchesIn, FetchesFor, Account}
 use Rattle.om_promises.specs.Call.{call}
 use Rattle.om_promises.specs.Commands.{Fetches, Prepares}
 use Rattle.om_promises.specs.Given.{Fetched}
-use Rattle.om_declared.specs.declared.types.Requested.{Requested}
+use Rattle.om_declared.specs.declared.requested.Prepared.{Prepared}
 use Rattle.om_declared.specs.Language.{TypeOver}
 use Rattle.om_declared.specs.Types.{type_over, GivesType}
 use Rattle.om_work.specs.Reported.{HasAccount}
@@ -103,7 +103,7 @@ module _ (words : List (List ℕ)) (file type certificate : List ℕ) (lines : B
       (gives_stop stop gives) r
 
 -- they are, and CERT comes next
-module _ (words : List (List ℕ)) (r : Requested) (certificate : List ℕ) (reading : Reading)
+module _ (words : List (List ℕ)) (r : Prepared) (certificate : List ℕ) (reading : Reading)
     (a b c : FilesState) (asks : AsksToVerify words r certificate reading (change a b))
     (found : Found) (fetched : Fetched (change b c) certificate found) where
   abbrev both_found : Fetches

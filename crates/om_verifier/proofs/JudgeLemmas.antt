@@ -24,7 +24,7 @@ use Rattle.om_cert.specs.declared.verified.Verified.TheVariants.{Yes, No, Reject
 use Rattle.om_cert.specs.Verified.{IsVerified}
 use Rattle.om_cert.proofs.VerifiedLemmas.{shown_is_so}
 use Rattle.om_outcome.specs.Outcome.{line}
-use Rattle.om_declared.specs.declared.types.Requested.{Requested}
+use Rattle.om_declared.specs.declared.requested.Prepared.{Prepared}
 use Rattle.om_declared.specs.Language.{TypeOver}
 use Rattle.om_declared.specs.Types.{type_over, IsReady}
 use Rattle.om_declared.proofs.GivenLemmas.{ready_each, ready_some_not}
@@ -48,7 +48,7 @@ stated_fault table graph root (sections.Clash one two) fault (inl (accepted, is)
     let same : fault ≡ faults.Clash one two = cc is in
     subst (IsFault (table_shapes table) graph root 0) (sym same) accepted
 
-module _ (r : Requested) (ready : IsReady r) (graph : List Obj) (root : Val) (section : Section) where
+module _ (r : Prepared) (ready : IsReady r) (graph : List Obj) (root : Val) (section : Section) where
   -- by the table that was made
   answer_at :
       (verified : Verified) → IsVerified (table_of r.table) graph root section verified

@@ -38,7 +38,7 @@ use Rattle.om_commands.specs.Tasks.{IsFirstValue}
 use Rattle.om_commands.proofs.FirstLemmas.{front_end}
 use Rattle.om_work.specs.Works.{ItemsStay, HaltsIn, PutsLast}
 use Rattle.om_work.proofs.FirstLemmas.{first_stays, first_next}
-use Rattle.om_declared.specs.declared.types.Requested.{Requested}
+use Rattle.om_declared.specs.declared.requested.Prepared.{Prepared}
 use Rattle.om_declared.specs.Language.{TypeOver, declared_types}
 use Rattle.om_declared.specs.Types.{type_over, IsReady}
 use Rattle.om_verification.specs.Verification.{Shown, shows, rejects, Verification, IsShown, IsUncertified, StopsHere}
@@ -49,7 +49,7 @@ use Rattle.om_verifier.specs.Reading.{on_certificates, certified, HasRead, IsVal
 
 -- a value stays one when bytes follow
 pub values_stay :
-    (r : Requested) (all : List Section) (limit : ℕ)
+    (r : Prepared) (all : List Section) (limit : ℕ)
     → ItemsStay on_certificates (certified r all limit)
 values_stay r all limit items =
     item_stays declared_sections (certified r all limit) declared_types reads_sections
@@ -79,7 +79,7 @@ uncertified_read t all limit number value tree reason is (inr (why, by, spelled)
 
 -- what was read stays for equal types, sections and limits
 pub has_same :
-    (r s : Requested) (all others : List Section) (limit most : ℕ) (reader : Reader) (count : ℕ)
+    (r s : Prepared) (all others : List Section) (limit most : ℕ) (reader : Reader) (count : ℕ)
     (well : Bool) (taken : List ℕ) (said : List Said) → r ≡ s → all ≡ others → limit ≡ most
     → HasRead r all limit reader count well taken said
     → HasRead s others most reader count well taken said
@@ -88,7 +88,7 @@ has_same r s all others limit most reader count well taken said e f g h =
     (subst (λ o. HasRead r o most reader count well taken said) f
     (subst (λ m. HasRead r all m reader count well taken said) g h))
 
-module _ (r : Requested) (all : List Section) (limit : ℕ) where
+module _ (r : Prepared) (all : List Section) (limit : ℕ) where
   abbrev a : Verification TypeOver Section
   a = certified r all limit
 

@@ -4,11 +4,11 @@ use Rattle.om_outcome.specs.declared.reading.Reading.{Reading}
 use Rattle.om_outcome.specs.Outcome.{Found, asked_type, own, verify, Asks}
 use Rattle.om_edge.specs.State.{FilesState, Change}
 use Rattle.om_promises.specs.Given.{Fetched}
-use Rattle.om_declared.specs.declared.types.Requested.{Requested}
+use Rattle.om_declared.specs.declared.requested.Prepared.{Prepared}
 use Rattle.om_declared.specs.Types.{GivesType}
 
 -- FILE and TYPE gave this type, and CERT comes next
-pub record AsksToVerify (words : List (List ℕ)) (r : Requested) (certificate : List ℕ)
+pub record AsksToVerify (words : List (List ℕ)) (r : Prepared) (certificate : List ℕ)
     (reading : Reading) (files : Change FilesState) : Type 0 where
   pub file : List ℕ
   pub type : List ℕ

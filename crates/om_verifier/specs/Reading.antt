@@ -12,7 +12,7 @@ use Rattle.om_stops.specs.declared.stop.Halt.TheVariants as halts
 use Rattle.om_promises.specs.Commands.{Item, Commands, SaysFirst}
 use Rattle.om_work.specs.Works.{AreSaid}
 use Rattle.om_declared.specs.Checked.{OrMemory}
-use Rattle.om_declared.specs.declared.types.Requested.{Requested}
+use Rattle.om_declared.specs.declared.requested.Prepared.{Prepared}
 use Rattle.om_declared.specs.Language.{TypeOver, declared_types}
 use Rattle.om_declared.specs.Types.{type_over, IsReady}
 use Rattle.om_verification.specs.Verification.{Verification, ComesUncertified, verifying}
@@ -29,17 +29,17 @@ abbrev pub on_certificates_after : Commands (Passed × Verification TypeOver Sec
 on_certificates_after = skipping passed_by on_certificates
 
 -- what is done
-abbrev pub certified : Requested → List Section → ℕ → Verification TypeOver Section
+abbrev pub certified : Prepared → List Section → ℕ → Verification TypeOver Section
 certified r sections limit =
     record { type = type_over r; sections = sections; limit = limit }
 
 -- and what is passed over before
 abbrev pub certified_after :
-    Requested → List Section → Reading → Passed × Verification TypeOver Section
+    Prepared → List Section → Reading → Passed × Verification TypeOver Section
 certified_after r sections reading =
     (record { bytes = reading.skip; copied = false }, certified r sections reading.limit)
 
-module _ (r : Requested) (sections : List Section) (limit : ℕ) (reader : Reader) (count : ℕ)
+module _ (r : Prepared) (sections : List Section) (limit : ℕ) (reader : Reader) (count : ℕ)
     (well : Bool) (taken : List ℕ) (said : List Said) where
   -- Of these bytes the reader has taken what comes after the values, a front of the next one; this
   -- is said of the values.
@@ -67,7 +67,7 @@ module _ (r : Requested) (sections : List Section) (limit : ℕ) (reader : Reade
 
 -- What is said of the value that is there, after these, is put, and the reader waits for the next
 -- one; or the value is not certified, or memory ran out; or out failed.
-abbrev pub PutsNext : {U : Type 0} → Requested → List Section → ℕ → Reader → ℕ → Bool → List ℕ
+abbrev pub PutsNext : {U : Type 0} → Prepared → List Section → ℕ → Reader → ℕ → Bool → List ℕ
     → List Said → List Item → List ℕ → Change ByteState → Result U Halt → Type 0
 PutsNext r sections limit reader count well taken said items whole out (Ok unit) =
     (next : Said) × HasRead r sections limit reader count well taken (said ++ next ∷ [])

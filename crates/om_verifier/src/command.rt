@@ -6,7 +6,6 @@ ghost use Rattle.om_edge.specs.State.{FilesState, change};
 ghost use Rattle.om_promises.specs.Account.{Account};
 ghost use Rattle.om_promises.specs.Call.{call};
 ghost use Rattle.om_work.specs.Reported.{HasAccount};
-ghost use Rattle.om_declared.specs.Types.{IsReady};
 ghost use Rattle.om_verifier.specs.Asked.{AsksToVerify};
 ghost use Rattle.om_verifier.specs.Reading.{on_certificates_after, certified_after};
 
@@ -33,7 +32,6 @@ fn verify_values<S: Source, K: Sink, E: Sink>(
     out: &mut K,
     err: &mut E,
 ) -> Status
-    requires { IsReady requested.now }
     ensures { HasAccount on_certificates_after (certified_after requested.now sections.now reading)
         (change (S.state input.old) (S.state input.new))
         (change (K.state out.old) (K.state out.new)) (change (E.state err.old) (E.state err.new))
@@ -59,7 +57,6 @@ fn verify_by<S: Source, O: Opener, K: Sink, E: Sink>(
     out: &mut K,
     err: &mut E,
 ) -> Status
-    requires { IsReady requested.now }
     ensures { (words : List (List ℕ)) (before : FilesState)
         → AsksToVerify words requested.now certificate.now reading
         (change before (O.state files.old))
@@ -93,7 +90,6 @@ fn verify_over<S: Source, O: Opener, K: Sink, E: Sink>(
     out: &mut K,
     err: &mut E,
 ) -> Status
-    requires { IsReady requested }
     ensures { (words : List (List ℕ)) (before : FilesState)
         → AsksToVerify words requested certificate.now reading (change before (O.state files.old))
         → Account on_certificates_after words

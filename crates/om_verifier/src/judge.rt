@@ -5,7 +5,7 @@ ghost use Rattle.om_model.specs.Graph.{IsValue};
 ghost use Rattle.om_type_table.specs.Made.{table_of};
 ghost use Rattle.om_cert.specs.Verified.{IsVerified};
 ghost use Rattle.om_cert.specs.declared.verified.Verified.TheVariants.{No};
-ghost use Rattle.om_declared.specs.Types.{type_over, IsReady};
+ghost use Rattle.om_declared.specs.Types.{type_over};
 ghost use Rattle.om_verifier.specs.Judged.{Judges, JudgesAt};
 
 use crate::reason::put_why;
@@ -43,7 +43,6 @@ pub fn judge(
     number: u64,
 ) -> Result<Judged, Memory>
     requires value { IsValue (length heap.now) root }
-    requires ready { IsReady requested.now }
     ensures { IfOk result
         (JudgesAt (type_over requested.now) sections.now number heap.now root) }
 {
@@ -64,11 +63,9 @@ fn judge_by(
     section: &Section,
 ) -> Result<Judged, Memory>
     requires value { IsValue (length heap.now) root }
-    requires ready { IsReady requested.now }
     ensures { IfOk result (Judges (type_over requested.now) section.now heap.now root) }
 {
-    tables_are_lawful();
-    let verified = verify(alloc, heap, root, &requested.table, section)?;
+    let verified = verify(alloc, heap, root, requested.table(), section)?;
     told(alloc, heap, root, requested, section, &verified)
 }
 
@@ -82,12 +79,12 @@ fn told(
     verified: &Verified,
 ) -> Result<Judged, Memory>
     requires value { IsValue (length heap.now) root }
-    requires ready { IsReady requested.now }
     requires verified { IsVerified (table_of requested.now.table) heap.now root section.now
         verified.now }
     ensures { IfOk result (Judges (type_over requested.now) section.now heap.now root) }
 {
     tables_are_lawful();
+    requested.holds();
     tables_decide();
     match verified {
         Verified::Yes => {
@@ -115,17 +112,17 @@ fn told_fault(
     fault: &Fault,
 ) -> Result<Judged, Memory>
     requires value { IsValue (length heap.now) root }
-    requires ready { IsReady requested.now }
     requires verified { IsVerified (table_of requested.now.table) heap.now root section.now
         (No fault.now) }
     ensures { IfOk result (Judges (type_over requested.now) section.now heap.now root) }
 {
     tables_are_lawful();
+    requested.holds();
     tables_decide();
     tables_have_the_faults();
     texts_are_of_types();
     type_or_fault();
-    let why = fault_text(alloc, heap, root, &requested.table, fault)?;
+    let why = fault_text(alloc, heap, root, requested.table(), fault)?;
     let mut text = Vec::new(alloc);
     put(&mut text, b"no ")?;
     put(&mut text, why.as_slice())?;

@@ -4,7 +4,7 @@ ghost use Rattle.std.specs.Prelude.{◌≡◌, ◌<◌, ◌+◌, ◌^◌, ℕ, L
 ghost use Rattle.om_model.specs.Graph.{IsValue};
 ghost use Rattle.om_outcome.specs.Outcome.{Said};
 ghost use Rattle.om_edge.specs.State.{change};
-ghost use Rattle.om_declared.specs.Types.{type_over, IsReady};
+ghost use Rattle.om_declared.specs.Types.{type_over};
 ghost use Rattle.om_verifier.specs.Judged.{PutsShown};
 ghost use Rattle.om_verifier.specs.Reading.{HasRead, IsValueRead, PutsNext, certified};
 
@@ -34,7 +34,6 @@ fn put_shown<K: Sink>(
     out: &mut K,
 ) -> Result<bool, Halt>
     requires value { IsValue (length heap.now) root }
-    requires ready { IsReady requested.now }
     ensures { PutsShown (type_over requested.now) sections.now number heap.now root
         (change (K.state out.old) (K.state out.new)) result }
 {
@@ -67,13 +66,13 @@ impl<'a> Certified<'a> {
         sections: &'a [Section],
         limit: u64,
     ) -> Certified<'a>
-        requires { IsReady requested.now }
         ensures requested { result.requested ≡ requested.entry }
         ensures sections { result.sections ≡ sections.entry }
         ensures limit { result.limit ≡ limit }
         ensures has { HasRead result.requested.now result.sections.now result.limit result.reader
             result.count result.well [] [] }
     {
+        requested.holds();
         Certified {
             requested,
             sections,

@@ -2,14 +2,12 @@
 
 ghost use Rattle.std.specs.Prelude.{◌<◌, length, IfOk, IfSome};
 ghost use Rattle.om_model.specs.Graph.{IsValue};
-ghost use Rattle.om_type_table.specs.Made.{table_of, IsLawful};
 ghost use Rattle.om_types.specs.Accepted.{AreWellFormed, IsSoundType};
 
 use om_decl::{DeclFault, read_decls, read_type};
 use om_model::Memory;
 use om_read::{Reader, Value};
 use om_type_table::TypeTable;
-use om_type_table::laws::tables_are_lawful;
 use om_typeintern::{TypeFault, build};
 use om_types::decl::Decl;
 use om_types::ty::Ty;
@@ -27,9 +25,7 @@ pub(crate) const MAPS: &[u8] =
 fn table_over(alloc: Global, decls: &[Decl], ty: &Ty) -> Result<Option<TypeTable>, Memory>
     requires well { AreWellFormed decls.now }
     requires sound { IsSoundType decls.now ty.now }
-    ensures { IfOk result (λ found. IfSome found (λ table. IsLawful (table_of table))) }
 {
-    tables_are_lawful();
     match build(alloc, decls, ty) {
         Ok(table) => Ok(Some(table)),
         Err(TypeFault::Memory) => Err(Memory),
@@ -38,9 +34,11 @@ fn table_over(alloc: Global, decls: &[Decl], ty: &Ty) -> Result<Option<TypeTable
 }
 
 // The table of a type over a text of declarations, if the texts are accepted.
-pub(crate) fn table_in(alloc: Global, file: &[u8], text: &[u8]) -> Result<Option<TypeTable>, Memory>
-    ensures { IfOk result (λ found. IfSome found (λ table. IsLawful (table_of table))) }
-{
+pub(crate) fn table_in(
+    alloc: Global,
+    file: &[u8],
+    text: &[u8],
+) -> Result<Option<TypeTable>, Memory> {
     let decls = match read_decls(alloc, file) {
         Ok(decls) => decls,
         Err(DeclFault::Memory) => return Err(Memory),

@@ -1,7 +1,5 @@
 //! Lines of text that are read as values of a type.
 
-ghost use Rattle.std.specs.Prelude.{◌≡◌, length};
-
 use crate::values::given::table_in;
 use om_heap::Heap;
 use om_model::Memory;
@@ -11,9 +9,7 @@ use std::alloc::Global;
 use std::test::Fail;
 
 // How many objects a line has as a literal of a table's type, or none where it is blank or refused.
-fn objects_in(alloc: Global, table: &TypeTable, line: &[u8]) -> Result<Option<u64>, Memory>
-    requires { length table.now.names ≡ length table.now.nodes }
-{
+fn objects_in(alloc: Global, table: &TypeTable, line: &[u8]) -> Result<Option<u64>, Memory> {
     let mut heap = Heap::new(alloc);
     match read_text(alloc, &mut heap, table, line) {
         Ok(Some(_)) => Ok(Some(heap.count())),
@@ -24,8 +20,8 @@ fn objects_in(alloc: Global, table: &TypeTable, line: &[u8]) -> Result<Option<u6
 
 fn objects_of(alloc: Global, line: &[u8]) -> Result<Option<u64>, Memory> {
     match table_in(alloc, b"", b"int list")? {
-        Some(table) if table.names.len() == table.nodes.len() => objects_in(alloc, &table, line),
-        _ => Ok(None),
+        Some(table) => objects_in(alloc, &table, line),
+        None => Ok(None),
     }
 }
 

@@ -2,7 +2,6 @@
 
 ghost use Rattle.std.specs.Prelude.{◌<◌, length};
 ghost use Rattle.om_model.specs.Graph.{IsValue};
-ghost use Rattle.om_type_table.specs.Made.{table_of, IsLawful};
 ghost use Rattle.om_check.specs.Told.{AreOrdered};
 
 use crate::values::given::{table_in, value_of};
@@ -58,7 +57,6 @@ fn shown_by(
     section: &Section,
 ) -> Result<Answer, Memory>
     requires value { IsValue (length value.now.heap) value.now.root }
-    requires lawful { IsLawful (table_of table.now) }
 {
     let verified = verify(alloc, &value.heap, value.root, table, section)?;
     Ok(word_of(&verified))
@@ -66,7 +64,6 @@ fn shown_by(
 
 fn certified(alloc: Global, table: &TypeTable, value: &Value) -> Result<Answer, Memory>
     requires value { IsValue (length value.now.heap) value.now.root }
-    requires lawful { IsLawful (table_of table.now) }
 {
     let mut steps = Steps::new();
     let verdict = check(alloc, &value.heap, value.root, table, &mut steps)?;
@@ -81,7 +78,6 @@ fn shown(
     certificate: &[u8],
 ) -> Result<Answer, Memory>
     requires value { IsValue (length value.now.heap) value.now.root }
-    requires lawful { IsLawful (table_of table.now) }
 {
     match read_cert(alloc, certificate) {
         Ok(sections) => match sections.as_slice() {
@@ -123,7 +119,6 @@ fn met_last(
     text: &[u8],
 ) -> Result<Answer, Memory>
     requires value { IsValue (length value.now.heap) value.now.root }
-    requires lawful { IsLawful (table_of table.now) }
 {
     let mut steps = Steps::new();
     match check(alloc, &value.heap, value.root, table, &mut steps)? {
@@ -145,7 +140,6 @@ fn grafted_from(
 ) -> Result<Answer, Memory>
     requires value { IsValue (length value.old.heap) value.old.root }
     requires other { IsValue (length other.now.heap) other.now.root }
-    requires lawful { IsLawful (table_of table.now) }
 {
     match graft(
         alloc,
@@ -171,7 +165,6 @@ fn grafted(
     text: &[u8],
 ) -> Result<Answer, Memory>
     requires value { IsValue (length value.old.heap) value.old.root }
-    requires lawful { IsLawful (table_of table.now) }
 {
     let place = match read_path(alloc, text) {
         Ok(place) => place,
@@ -193,7 +186,6 @@ fn answer_at(
     question: Question<'_>,
 ) -> Result<Answer, Memory>
     requires value { IsValue (length value.old.heap) value.old.root }
-    requires lawful { IsLawful (table_of table.now) }
 {
     match question {
         Question::Certified => certified(alloc, table, value),
@@ -208,9 +200,7 @@ fn answer_in(
     table: &TypeTable,
     bytes: &[u8],
     question: Question<'_>,
-) -> Result<Answer, Memory>
-    requires { IsLawful (table_of table.now) }
-{
+) -> Result<Answer, Memory> {
     match value_of(alloc, bytes)? {
         Some(mut value) => answer_at(alloc, table, &mut value, bytes, question),
         None => Ok(NOTHING),

@@ -1,7 +1,5 @@
 //! Sets and maps of OCaml's library among the types of a table.
 
-ghost use Rattle.om_type_table.specs.Made.{table_of, IsLawful};
-
 use crate::values::given::{MAPS, table_in};
 use om_heap::Heap;
 use om_model::Memory;
@@ -11,12 +9,7 @@ use std::alloc::Global;
 use std::test::Fail;
 
 // Whether the type of number 0 is that of a set or of a map.
-fn is_first_tree(alloc: Global, table: &TypeTable) -> Result<Option<bool>, Memory>
-    requires { IsLawful (table_of table.now) }
-{
-    if table.names.len() != table.nodes.len() {
-        return Ok(None);
-    }
+fn is_first_tree(alloc: Global, table: &TypeTable) -> Result<Option<bool>, Memory> {
     let types = tree_types(alloc, table)?;
     Ok(types.first().copied())
 }

@@ -11,16 +11,16 @@ use Rattle.om_cert.proofs.right.are_accepted.Goals as goal
 
 pub is_backed-requires-clause-near : goal.is_backed-requires-clause-near
 is_backed-requires-clause-near c =
-    worded_stands (table_of c.args.fitting.table.now) c.args.heap.now c.args.pairs.now 0 c.pair_at-near.result c.requires.there c.pair_at-near.ensures
+    worded_stands (table_of c.args.stated.fitting.table.now) c.args.stated.heap.now c.args.stated.pairs.now 0 c.pair_at-near.result c.args.stated.there c.pair_at-near.ensures
 
 pub is_backed-requires-clause-word : goal.is_backed-requires-clause-word
 is_backed-requires-clause-word c = (c.args.root, c.requires.value, c.word.ensures)
 
 pub returns : goal.returns
 returns c = OnTrue_from c.is_backed.result _ (λ yes'.
-    let t = table_of c.args.fitting.table.now in
+    let t = table_of c.args.stated.fitting.table.now in
     let right = OnTrue_at c.if-not-are_right.false c.are_right.ensures in
-    let asked = shape_asked c.args.fitting.table.now.nodes c.root-ty.result c.shape.result.now c.shape.ensures (sym c.is_asked.ensures ∙ c.if-not-is_asked.false) in
-    let held = OnTrue_at yes' c.is_backed.ensures c.args.root c.requires.value c.word.ensures asked (right_fit t c.args.heap.now c.args.pairs.now right) in
-    accepted t c.args.heap.now c.args.root c.args.pairs.now c.requires.there (length c.args.pairs.now) (omega arith) right
-    (subst (λ u. IsHeld (table_shapes t) c.args.heap.now c.args.pairs.now c.args.root u) c.root-ty.ensures held))
+    let asked = shape_asked c.args.stated.fitting.table.now.nodes c.root-ty.result c.shape.result.now c.shape.ensures (sym c.is_asked.ensures ∙ c.if-not-is_asked.false) in
+    let held = OnTrue_at yes' c.is_backed.ensures c.args.root c.requires.value c.word.ensures asked (right_fit t c.args.stated.heap.now c.args.stated.pairs.now right) in
+    accepted t c.args.stated.heap.now c.args.root c.args.stated.pairs.now c.args.stated.there (length c.args.stated.pairs.now) (omega arith) right
+    (subst (λ u. IsHeld (table_shapes t) c.args.stated.heap.now c.args.stated.pairs.now c.args.root u) c.root-ty.ensures held))

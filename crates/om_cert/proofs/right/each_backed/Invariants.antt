@@ -5,4 +5,4 @@ use Rattle.om_cert.specs.Right.{AllFit}
 use Rattle.om_cert.proofs.right.each_backed.Given as goal
 
 abbrev pub invariant-loop-k : goal.invariant-loop-k
-invariant-loop-k l = AllFit (table_of l.fitting.table.now) l.heap l.pairs → HoldsFirst (table_of l.fitting.table.now) l.heap l.pairs l._object (needs_in l.needs) l.k
+invariant-loop-k l = AllFit (table_of l.stated.fitting.table.now) l.stated.heap.now l.stated.pairs.now → HoldsFirst (table_of l.stated.fitting.table.now) l.stated.heap.now l.stated.pairs.now l._object (needs_in l.needs) l.k

@@ -9,19 +9,19 @@ use Rattle.om_cert.proofs.RightLemmas.{worded_there, right_with_all}
 use Rattle.om_cert.proofs.right.holds_needs.Goals as goal
 
 pub known_needs-requires-clause-object : goal.known_needs-requires-clause-object
-known_needs-requires-clause-object c = (worded_there (table_of c.args.fitting.table.now) c.args.heap.now c.args.pairs.now c.args._i c.args.own c.requires.there c.requires.own).0
+known_needs-requires-clause-object c = (worded_there (table_of c.args.stated.fitting.table.now) c.args.stated.heap.now c.args.stated.pairs.now c.args._i c.args.own c.args.stated.there c.requires.own).0
 
 pub known_needs-requires-clause-fits : goal.known_needs-requires-clause-fits
 known_needs-requires-clause-fits c =
-    subst IsSome (ap (λ n. fields_of c.args.heap.now (vals.Ref c.args.own.object) (node_or_none n)) c.requires.shape) c.requires.fits
+    subst IsSome (ap (λ n. fields_of c.args.stated.heap.now (vals.Ref c.args.own.object) (node_or_none n)) c.requires.shape) c.requires.fits
 
 pub are_backed-requires-clause-object : goal.are_backed-requires-clause-object
-are_backed-requires-clause-object c = (worded_there (table_of c.args.fitting.table.now) c.args.heap.now c.args.pairs.now c.args._i c.args.own c.requires.there c.requires.own).0
+are_backed-requires-clause-object c = (worded_there (table_of c.args.stated.fitting.table.now) c.args.stated.heap.now c.args.stated.pairs.now c.args._i c.args.own c.args.stated.there c.requires.own).0
 
 pub are_backed-requires-clause-ty : goal.are_backed-requires-clause-ty
-are_backed-requires-clause-ty c = (worded_there (table_of c.args.fitting.table.now) c.args.heap.now c.args.pairs.now c.args._i c.args.own c.requires.there c.requires.own).1
+are_backed-requires-clause-ty c = (worded_there (table_of c.args.stated.fitting.table.now) c.args.stated.heap.now c.args.stated.pairs.now c.args._i c.args.own c.args.stated.there c.requires.own).1
 
 pub returns : goal.returns
 returns c = OnTrue_from c.are_backed.result _ (λ yes'.
-    right_with_all (table_of c.args.fitting.table.now) c.args.heap.now c.args.pairs.now c.args._i c.args.own.object c.args.own.ty
+    right_with_all (table_of c.args.stated.fitting.table.now) c.args.stated.heap.now c.args.stated.pairs.now c.args._i c.args.own.object c.args.own.ty
     (c.requires.own.at c.requires.in_range) c.requires.fits (λ all. OnTrue_at yes' c.are_backed.ensures all) c.requires.one_type)

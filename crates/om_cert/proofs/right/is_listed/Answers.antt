@@ -7,15 +7,15 @@ use Rattle.om_cert.proofs.right.is_listed.Goals as goal
 
 pub returns-then-is_at_own_place : goal.returns-then-is_at_own_place
 returns-then-is_at_own_place c = λ asked.
-    stands_at (table_of c.args.table.now) c.args.pairs.now c.args.heap.now c.args.word c.number-object.result c.args.ty c.args.ty
+    stands_at (table_of c.args.stated.fitting.table.now) c.args.stated.pairs.now c.args.stated.heap.now c.args.word c.number-object.result c.args.ty c.args.ty
     (OnTrue_at c.if-is_at_own_place.true c.is_at_own_place.ensures) c.number-object.ensures.in_range c.number-object.ensures.named refl
 
 pub returns-then-not-is_asked : goal.returns-then-not-is_asked
 returns-then-not-is_asked c = λ asked.
-    absurd (false≢true (sym (shape_hidden c.args.table.now.nodes c.args.ty c.shape.result.now c.shape.ensures (sym c.is_asked.ensures ∙ c.if-not-is_asked.true)) ∙ asked))
+    absurd (false≢true (sym (shape_hidden c.args.stated.fitting.table.now.nodes c.args.ty c.shape.result.now c.shape.ensures (sym c.is_asked.ensures ∙ c.if-not-is_asked.true)) ∙ asked))
 
 pub is_among_few-requires-clause-there : goal.is_among_few-requires-clause-there
-is_among_few-requires-clause-there c = λ k o t at. let there = (c.requires.there k (o, t) at).1 in omega (arith, there, c.requires.lawful.classed)
+is_among_few-requires-clause-there c = λ k o t at. let there = (c.args.stated.there k (o, t) at).1 in omega (arith, there, c.holds.ensures.lawful.classed)
 
 pub returns : goal.returns
 returns c = OnTrue_from c.is_among_few.result _ (λ yes'. λ asked. record {

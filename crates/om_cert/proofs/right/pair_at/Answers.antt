@@ -4,14 +4,14 @@ use Rattle.om_model.proofs.Options.{slice_get-Contains}
 use Rattle.om_cert.proofs.right.pair_at.Goals as goal
 
 pub word-requires : goal.word-requires
-word-requires c = (c.requires.there c.place_or_last-place.result _ c.at-object.ensures).0
+word-requires c = (c.args.stated.there c.place_or_last-place.result _ c.at-object.ensures).0
 
 pub returns : goal.returns
 returns c =
     let pair = c.at-object.result in
     record {
-      at = λ less. subst (λ n. slice_get c.args.pairs.now n ≡ Some (pair.0, pair.1))
+      at = λ less. subst (λ n. slice_get c.args.stated.pairs.now n ≡ Some (pair.0, pair.1))
           (c.place_or_last-place.ensures.own (omega (arith, less, c.len.ensures.count))) c.at-object.ensures;
-      among = slice_get-Contains c.args.pairs.now c.place_or_last-place.result (pair.0, pair.1) c.at-object.ensures;
+      among = slice_get-Contains c.args.stated.pairs.now c.place_or_last-place.result (pair.0, pair.1) c.at-object.ensures;
       named = c.word.ensures;
     }

@@ -14,81 +14,81 @@ fields_at-words-requires c = (
   c.args._object,
   c.requires.object,
   c.requires.word,
-  some_fields (table_of c.args.fitting.table.now) c.args.heap.now c.args._object c.args._ty c.requires.object
+  some_fields (table_of c.args.stated.fitting.table.now) c.args.stated.heap.now c.args._object c.args._ty c.requires.object
       (omega (arith, ap length c.requires.needs, c.len.ensures, c.if-len-eq0.false)),
 )
 
 pub bounds-words-field : goal.bounds-words-field
 bounds-words-field c =
     let at_k = ap (λ needs. slice_get needs c.loop-k.k) c.requires.needs ∙ c.get-field.ensures in
-    let short = need_field (table_of c.args.fitting.table.now) c.args.heap.now c.args._object c.args._ty c.loop-k.k c.get-field.result.0 c.get-field.result.1 c.requires.object at_k in
-    word_inside c.args.heap.now c.args._object c.get-field.result.0 c.fields_at-words.result.now (c.fields_at-words.ensures.words c.args._object c.requires.object c.requires.word) short
+    let short = need_field (table_of c.args.stated.fitting.table.now) c.args.stated.heap.now c.args._object c.args._ty c.loop-k.k c.get-field.result.0 c.get-field.result.1 c.requires.object at_k in
+    word_inside c.args.stated.heap.now c.args._object c.get-field.result.0 c.fields_at-words.result.now (c.fields_at-words.ensures.words c.args._object c.requires.object c.requires.word) short
 
 pub offset_bounds-words-field : goal.offset_bounds-words-field
 offset_bounds-words-field c =
     let at_k = ap (λ needs. slice_get needs c.loop-k.k) c.requires.needs ∙ c.get-field.ensures in
-    let short = need_field (table_of c.args.fitting.table.now) c.args.heap.now c.args._object c.args._ty c.loop-k.k c.get-field.result.0 c.get-field.result.1 c.requires.object at_k in
-    let inside = word_inside c.args.heap.now c.args._object c.get-field.result.0 c.fields_at-words.result.now (c.fields_at-words.ensures.words c.args._object c.requires.object c.requires.word) short in
+    let short = need_field (table_of c.args.stated.fitting.table.now) c.args.stated.heap.now c.args._object c.args._ty c.loop-k.k c.get-field.result.0 c.get-field.result.1 c.requires.object at_k in
+    let inside = word_inside c.args.stated.heap.now c.args._object c.get-field.result.0 c.fields_at-words.result.now (c.fields_at-words.ensures.words c.args._object c.requires.object c.requires.word) short in
     omega (arith, inside, c.fields_at-words.type_inv)
 
 pub is_held-requires-clause-word : goal.is_held-requires-clause-word
 is_held-requires-clause-word c =
     let at_k = ap (λ needs. slice_get needs c.loop-k.k) c.requires.needs ∙ c.get-field.ensures in
-    let short = need_field (table_of c.args.fitting.table.now) c.args.heap.now c.args._object c.args._ty c.loop-k.k c.get-field.result.0 c.get-field.result.1 c.requires.object at_k in (
-      field_at c.args.heap.now c.args._object c.get-field.result.0,
-      field_valid c.args.heap.now c.args._object c.get-field.result.0 c.requires.object short c.count-count.ensures.heap.is_graph,
-      field_word c.args.heap.now c.args._object c.get-field.result.0 c.requires.object short c.fields_at-words.result.now _ (c.fields_at-words.ensures.words c.args._object c.requires.object c.requires.word) refl,
+    let short = need_field (table_of c.args.stated.fitting.table.now) c.args.stated.heap.now c.args._object c.args._ty c.loop-k.k c.get-field.result.0 c.get-field.result.1 c.requires.object at_k in (
+      field_at c.args.stated.heap.now c.args._object c.get-field.result.0,
+      field_valid c.args.stated.heap.now c.args._object c.get-field.result.0 c.requires.object short c.count-count.ensures.heap.is_graph,
+      field_word c.args.stated.heap.now c.args._object c.get-field.result.0 c.requires.object short c.fields_at-words.result.now _ (c.fields_at-words.ensures.words c.args._object c.requires.object c.requires.word) refl,
     )
 
 pub is_held-requires-clause-ty : goal.is_held-requires-clause-ty
 is_held-requires-clause-ty c =
-    need_node (table_of c.args.fitting.table.now) c.args.heap.now c.requires.lawful c.args._object c.args._ty c.loop-k.k c.get-field.result.0 c.get-field.result.1 c.requires.ty
+    need_node (table_of c.args.stated.fitting.table.now) c.args.stated.heap.now c.holds.ensures.lawful c.args._object c.args._ty c.loop-k.k c.get-field.result.0 c.get-field.result.1 c.requires.ty
     (ap (λ needs. slice_get needs c.loop-k.k) c.requires.needs ∙ c.get-field.ensures)
 
 pub returns-then-not-is_held : goal.returns-then-not-is_held
 returns-then-not-is_held c =
     let at_k = ap (λ needs. slice_get needs c.loop-k.k) c.requires.needs ∙ c.get-field.ensures in
-    let short = need_field (table_of c.args.fitting.table.now) c.args.heap.now c.args._object c.args._ty c.loop-k.k c.get-field.result.0 c.get-field.result.1 c.requires.object at_k in
-    let tells = c.is_held.ensures (field_at c.args.heap.now c.args._object c.get-field.result.0)
-    (field_valid c.args.heap.now c.args._object c.get-field.result.0 c.requires.object short c.count-count.ensures.heap.is_graph)
-    (field_word c.args.heap.now c.args._object c.get-field.result.0 c.requires.object short c.fields_at-words.result.now _ (c.fields_at-words.ensures.words c.args._object c.requires.object c.requires.word) refl) in
-    lack_is (table_of c.args.fitting.table.now) c.args.heap.now c.args.pairs.now c.args._object c.args._ty c.loop-k.k c.get-field.result.0 c.get-field.result.1
+    let short = need_field (table_of c.args.stated.fitting.table.now) c.args.stated.heap.now c.args._object c.args._ty c.loop-k.k c.get-field.result.0 c.get-field.result.1 c.requires.object at_k in
+    let tells = c.is_held.ensures (field_at c.args.stated.heap.now c.args._object c.get-field.result.0)
+    (field_valid c.args.stated.heap.now c.args._object c.get-field.result.0 c.requires.object short c.count-count.ensures.heap.is_graph)
+    (field_word c.args.stated.heap.now c.args._object c.get-field.result.0 c.requires.object short c.fields_at-words.result.now _ (c.fields_at-words.ensures.words c.args._object c.requires.object c.requires.word) refl) in
+    lack_is (table_of c.args.stated.fitting.table.now) c.args.stated.heap.now c.args.stated.pairs.now c.args._object c.args._ty c.loop-k.k c.get-field.result.0 c.get-field.result.1
     (needs_in c.args.needs) c.requires.needs c.requires.object c.get-field.ensures c.loop-k.invariant
-    (shape_asked c.args.fitting.table.now.nodes c.get-field.result.1 c.shape.result.now c.shape.ensures (sym c.is_asked.ensures ∙ c.if-not-is_asked.false))
+    (shape_asked c.args.stated.fitting.table.now.nodes c.get-field.result.1 c.shape.result.now c.shape.ensures (sym c.is_asked.ensures ∙ c.if-not-is_asked.false))
     (λ held. false≢true (sym c.if-not-is_held.true ∙ tells.1 held))
 
 pub loop-k-preserved : goal.loop-k-preserved
 loop-k-preserved c =
     let at_k = ap (λ needs. slice_get needs c.loop-k.k) c.requires.needs ∙ c.get-field.ensures in
-    let short = need_field (table_of c.args.fitting.table.now) c.args.heap.now c.args._object c.args._ty c.loop-k.k c.get-field.result.0 c.get-field.result.1 c.requires.object at_k in
-    let tells = c.is_held.ensures (field_at c.args.heap.now c.args._object c.get-field.result.0)
-    (field_valid c.args.heap.now c.args._object c.get-field.result.0 c.requires.object short c.count-count.ensures.heap.is_graph)
-    (field_word c.args.heap.now c.args._object c.get-field.result.0 c.requires.object short c.fields_at-words.result.now _ (c.fields_at-words.ensures.words c.args._object c.requires.object c.requires.word) refl) in
-    held_more (table_of c.args.fitting.table.now) c.args.heap.now c.args.pairs.now c.args._object c.args._ty c.loop-k.k c.get-field.result.0 c.get-field.result.1
+    let short = need_field (table_of c.args.stated.fitting.table.now) c.args.stated.heap.now c.args._object c.args._ty c.loop-k.k c.get-field.result.0 c.get-field.result.1 c.requires.object at_k in
+    let tells = c.is_held.ensures (field_at c.args.stated.heap.now c.args._object c.get-field.result.0)
+    (field_valid c.args.stated.heap.now c.args._object c.get-field.result.0 c.requires.object short c.count-count.ensures.heap.is_graph)
+    (field_word c.args.stated.heap.now c.args._object c.get-field.result.0 c.requires.object short c.fields_at-words.result.now _ (c.fields_at-words.ensures.words c.args._object c.requires.object c.requires.word) refl) in
+    held_more (table_of c.args.stated.fitting.table.now) c.args.stated.heap.now c.args.stated.pairs.now c.args._object c.args._ty c.loop-k.k c.get-field.result.0 c.get-field.result.1
     (needs_in c.args.needs) c.requires.needs c.requires.object c.get-field.ensures c.loop-k.invariant
     (λ asked. tells.0 c.if-not-is_held.false)
 
 pub returns-then-len-eq0 : goal.returns-then-len-eq0
 returns-then-len-eq0 c =
     let none : length (needs_in c.args.needs) ≤ 0 = omega (arith, c.len.ensures, c.if-len-eq0.true) in
-    all_held (table_of c.args.fitting.table.now) c.args.heap.now c.args.pairs.now c.args._object c.args._ty 0 (needs_in c.args.needs) c.requires.needs none
+    all_held (table_of c.args.stated.fitting.table.now) c.args.stated.heap.now c.args.stated.pairs.now c.args._object c.args._ty 0 (needs_in c.args.needs) c.requires.needs none
     (λ j i a less at_j asked. absurd (omega (arith, less)))
 
 pub returns : goal.returns
 returns c =
     let many : length (needs_in c.args.needs) ≤ c.loop-k.k = omega (arith, c.len-k-end.ensures, c.loop-k.auto.k-end, c.loop-k-test.false) in
-    all_held (table_of c.args.fitting.table.now) c.args.heap.now c.args.pairs.now c.args._object c.args._ty c.loop-k.k (needs_in c.args.needs) c.requires.needs many c.loop-k.invariant
+    all_held (table_of c.args.stated.fitting.table.now) c.args.stated.heap.now c.args.stated.pairs.now c.args._object c.args._ty c.loop-k.k (needs_in c.args.needs) c.requires.needs many c.loop-k.invariant
 
 -- ---- a field that is hidden
 
 pub shape-requires : goal.shape-requires
 shape-requires c =
-    need_node (table_of c.args.fitting.table.now) c.args.heap.now c.requires.lawful c.args._object c.args._ty c.loop-k.k c.get-field.result.0 c.get-field.result.1 c.requires.ty
+    need_node (table_of c.args.stated.fitting.table.now) c.args.stated.heap.now c.holds.ensures.lawful c.args._object c.args._ty c.loop-k.k c.get-field.result.0 c.get-field.result.1 c.requires.ty
     (ap (λ needs. slice_get needs c.loop-k.k) c.requires.needs ∙ c.get-field.ensures)
 
 pub loop-k-preserved-then-not-is_asked : goal.loop-k-preserved-then-not-is_asked
 loop-k-preserved-then-not-is_asked c =
-    let hidden = shape_hidden c.args.fitting.table.now.nodes c.get-field.result.1 c.shape.result.now c.shape.ensures (sym c.is_asked.ensures ∙ c.if-not-is_asked.true) in
-    held_more (table_of c.args.fitting.table.now) c.args.heap.now c.args.pairs.now c.args._object c.args._ty c.loop-k.k c.get-field.result.0 c.get-field.result.1
+    let hidden = shape_hidden c.args.stated.fitting.table.now.nodes c.get-field.result.1 c.shape.result.now c.shape.ensures (sym c.is_asked.ensures ∙ c.if-not-is_asked.true) in
+    held_more (table_of c.args.stated.fitting.table.now) c.args.stated.heap.now c.args.stated.pairs.now c.args._object c.args._ty c.loop-k.k c.get-field.result.0 c.get-field.result.1
     (needs_in c.args.needs) c.requires.needs c.requires.object c.get-field.ensures c.loop-k.invariant
     (λ asked. absurd (false≢true (sym hidden ∙ asked)))

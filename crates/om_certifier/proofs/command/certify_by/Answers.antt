@@ -3,6 +3,9 @@ use Rattle.om_certifier.specs.Reading.{certified_after}
 use Rattle.om_certifier.proofs.AccountLemmas.{memory_account}
 use Rattle.om_certifier.proofs.command.certify_by.Goals as goal
 
+pub certify_values-requires : goal.certify_values-requires
+certify_values-requires g c = record { leasts = rw c.table.ensures.same at c.in-Ok.ensures }
+
 pub returns-in-Ok : goal.returns-in-Ok
 returns-in-Ok g c = c.certify_values.ensures
 

@@ -1,6 +1,6 @@
 use Rattle.std.proofs.Common.{◌∙◌, ap, Bor}
 use Rattle.om_edge.specs.State.{change}
-use Rattle.om_declared.specs.declared.types.Requested.{Requested}
+use Rattle.om_declared.specs.declared.requested.Prepared.{Prepared}
 use Rattle.om_passer.specs.declared.passing.Over.{Over}
 use Rattle.om_passer.specs.Passing.{passed_of}
 use Rattle.om_certifier.specs.Reading.{certified, certified_after}
@@ -18,6 +18,6 @@ returns g c =
     (change (g.E.Sink.state c.args.err.now) (g.E.Sink.state c.run_reported.new.err))
     c.run_reported.result (ap (λ (o : Over). passed_of o) c.new-passing.ensures.over)
     (c.new-passing.ensures.act
-    ∙ (ap (λ (q : Bor Requested). certified q.now w.limit) c.new-work.ensures.requested
+    ∙ (ap (λ (q : Bor Prepared). certified q.now w.limit) c.new-work.ensures.requested
     ∙ ap (λ n. certified c.args.requested.now n) c.new-work.ensures.limit))
     c.run_reported.ensures.account

@@ -9,9 +9,9 @@ use Rattle.om_certify.proofs.section.section_with.Goals as goal
 
 pub normal_pairs-requires : goal.normal_pairs-requires
 normal_pairs-requires c = λ o t among.
-    let table = table_of c.args._table.now in
+    let table = table_of c.args.table.now in
     let verdict = subst (IsVerdict table c.args._heap.now c.args._root) c.in-Yes.is c.requires.verdict in
-    let inside = accepted_within table c.args._heap.now c.args._root c.in-Yes.typing c.requires.table
+    let inside = accepted_within table c.args._heap.now c.args._root c.in-Yes.typing c.holds.ensures.lawful
     (yes_accepted table c.args._heap.now c.args._root c.in-Yes.typing verdict.0 verdict.1) o t among in
     let many = c.requires.leasts.many in
     let same = ap (length {A = ℕ}) c.as_slice.ensures in
@@ -19,12 +19,12 @@ normal_pairs-requires c = λ o t among.
 
 pub returns-in_ok-pairs-in-Yes-clause-certified : goal.returns-in_ok-pairs-in-Yes-clause-certified
 returns-in_ok-pairs-in-Yes-clause-certified c =
-    let table = table_of c.args._table.now in
+    let table = table_of c.args.table.now in
     let graph = c.args._heap.now in
     let verdict = subst (IsVerdict table graph c.args._root) c.in-Yes.is c.requires.verdict in
     let paths = subst (PairsHavePaths table graph c.args._root) c.in-Yes.is c.requires.paths in (
       verdict.0,
-      are_reached table graph c.args._root c.args.leasts.now c.in-Yes.typing c.in_ok-pairs-in-Yes.pairs c.requires.table c.requires.leasts
+      are_reached table graph c.args._root c.args.leasts.now c.in-Yes.typing c.in_ok-pairs-in-Yes.pairs c.holds.ensures.lawful c.requires.leasts
           (yes_accepted table graph c.args._root c.in-Yes.typing verdict.0 verdict.1) paths c.in_ok-pairs-in-Yes.ensures.increasing (λ pair.
           subst (λ leasts. Contains c.in_ok-pairs-in-Yes.pairs pair ↔ Contains (map (at_least leasts) c.in-Yes.typing) pair) c.as_slice.ensures
           (c.in_ok-pairs-in-Yes.ensures.same pair)),
@@ -32,5 +32,5 @@ returns-in_ok-pairs-in-Yes-clause-certified c =
 
 pub returns-in_ok-pairs-in-Yes-clause-accepted : goal.returns-in_ok-pairs-in-Yes-clause-accepted
 returns-in_ok-pairs-in-Yes-clause-accepted c =
-    certified_accepted (table_of c.args._table.now) c.requires.table.lawful c.args._heap.now c.args._root (sections.Pairs c.in_ok-pairs-in-Yes.pairs)
+    certified_accepted (table_of c.args.table.now) c.holds.ensures.lawful.lawful c.args._heap.now c.args._root (sections.Pairs c.in_ok-pairs-in-Yes.pairs)
     (returns-in_ok-pairs-in-Yes-clause-certified c)

@@ -12,12 +12,12 @@ class-requires c =
     let all = listed c.args.visits.now in
     let read = first_read (table_of c.args.table.now) c.args.heap.now c.args.visits.now c.args.k c.get.result c.get-visit.result c.requires.linked c.requires.within c.get-visit.ensures c.get.ensures in
     let node = first_within (table_of c.args.table.now) c.args.heap.now (listed c.args.visits.now) c.get-visit.result.object (c.get.result - 1) c.requires.within read.1 in
-    omega (arith, node, c.requires.classed)
+    omega (arith, node, c.holds.ensures.lawful.classed)
 
 pub class-requires-2 : goal.class-requires-2
 class-requires-2 c =
     let own = own_within (table_of c.args.table.now) c.args.heap.now (listed c.args.visits.now) c.args.k c.get-visit.result c.requires.within c.get-visit.ensures in
-    omega (arith, own.1, c.requires.classed)
+    omega (arith, own.1, c.holds.ensures.lawful.classed)
 
 pub returns-then-class : goal.returns-then-class
 returns-then-class c =

@@ -21,5 +21,5 @@ returns c = λ i k less. c.loop-k.invariant i k (omega (arith, less, c.loop-k-te
 
 pub returns-then-is_empty : goal.returns-then-is_empty
 returns-then-is_empty c =
-    none_later (table_of c.args.table.now) c.args.heap.now c.args.visits.now c.requires.linked c.requires.within c.requires.classed c.requires.apart
+    none_later (table_of c.args.table.now) c.args.heap.now c.args.visits.now c.requires.linked c.requires.within c.holds.ensures.lawful.classed c.requires.apart
     (c.is_empty.ensures.0 c.if-is_empty.true)

@@ -22,7 +22,7 @@ returns-in-Told-clause-verdict c =
     let yes = scanned_yes table graph types scanned in
     subst (λ o. HasType (table_shapes table) graph (vals.Ref o) 0 × IsYes table graph (vals.Ref o) c.in_ok-typing-in-Told.typing) (sym c.if-object-ne0.false) (
       yes.0,
-      reached_yes table graph c.requires.table types (numbered_from 0 types) c.in_ok-typing-in-Told.typing c.in_ok-typing-in-Told.ensures
+      reached_yes table graph c.holds.ensures.lawful types (numbered_from 0 types) c.in_ok-typing-in-Told.typing c.in_ok-typing-in-Told.ensures
           (shape_asked c.args.table.now.nodes 0 c.shape.result.now c.shape.ensures (sym c.is_asked.ensures ∙ c.if-not-is_asked.false)) yes.1,
     )
 
@@ -38,7 +38,7 @@ returns-in-Told-clause-paths c =
     let led = subst (HavePaths table graph) c.in-Told.is c.in_ok-types.ensures.paths in
     λ o t among.
     subst (λ p. HasPath table graph (vals.Ref p) o t) (sym c.if-object-ne0.false)
-    (reached_paths table graph c.requires.table types (numbered_from 0 types) c.in_ok-typing-in-Told.typing c.in_ok-typing-in-Told.ensures led
+    (reached_paths table graph c.holds.ensures.lawful types (numbered_from 0 types) c.in_ok-typing-in-Told.typing c.in_ok-typing-in-Told.ensures led
     (λ p u one. inl (pair_at types p u one)) o t among)
 
 pub settle_noted-requires-clause-told : goal.settle_noted-requires-clause-told

@@ -16,7 +16,7 @@ use Rattle.om_check.proofs.decide.search_object.Goals as goal
 
 pub search-requires-clause-explored : goal.search-requires-clause-explored
 search-requires-clause-explored c =
-    first_explored (table_of c.args.fitting.table.now) c.args.heap.now (listed c.in_ok-visits.visits) c.args.object c.in_ok-visits.ensures.root c.requires.table c.requires.object c.requires.fits
+    first_explored (table_of c.args.fitting.table.now) c.args.heap.now (listed c.in_ok-visits.visits) c.args.object c.in_ok-visits.ensures.root c.holds.ensures.lawful c.requires.object c.requires.fits
 
 pub returns-in-Some-clause-verdict : goal.returns-in-Some-clause-verdict
 returns-in-Some-clause-verdict c =
@@ -50,7 +50,7 @@ pub returns-in_ok-fault-in-Some-first_clash-clause-verdict : goal.returns-in_ok-
 returns-in_ok-fault-in-Some-first_clash-clause-verdict c =
     let is : IsFirstClash (table_of c.args.fitting.table.now) c.args.heap.now (listed c.search.new.visits) c.in-Some-first_clash.first c.in-Some-first_clash.second = c.in-Some-first_clash.ensures in
     clash_verdict (table_of c.args.fitting.table.now) c.args.heap.now (listed c.in_ok-visits.visits) (listed c.search.new.visits) c.args.object c.in-Some-first_clash.first c.in-Some-first_clash.second
-    c.in_ok-fault-in-Some-first_clash.fault c.requires.table c.in_ok-visits.ensures.root
+    c.in_ok-fault-in-Some-first_clash.fault c.holds.ensures.lawful c.in_ok-visits.ensures.root
     (subst (Searches (table_of c.args.fitting.table.now) c.args.heap.now (listed c.in_ok-visits.visits) (listed c.search.new.visits)) c.in_default.is c.in_ok-n.ensures.searches)
     is
     c.in_ok-fault-in-Some-first_clash.ensures
@@ -65,7 +65,7 @@ returns-in-None-clause-verdict c =
 
 pub returns-in_err-visits-clause-steps : goal.returns-in_err-visits-clause-steps
 returns-in_err-visits-clause-steps c =
-    let few = taken_few (table_of c.args.fitting.table.now) c.args.heap.now c.args.taken.now c.requires.table c.requires.taken in
+    let few = taken_few (table_of c.args.fitting.table.now) c.args.heap.now c.args.taken.now c.holds.ensures.lawful c.requires.taken in
     omega (arith, few)
 
 pub returns-in-None-clause-paths : goal.returns-in-None-clause-paths

@@ -8,8 +8,8 @@ use Rattle.om_check.proofs.SettledLemmas.{settled_yes, settled_cases, settled_fe
 use Rattle.om_check.proofs.AskedLemmas.{reached_yes, reached_paths}
 use Rattle.om_check.proofs.decide.settle_noted.Goals as goal
 
-pub settle-requires-clause-over : goal.settle-requires-clause-over
-settle-requires-clause-over c = record { scanned = c.requires.told.0; paths = c.requires.paths.1 }
+pub settle-requires : goal.settle-requires
+settle-requires c = record { over = record { scanned = c.requires.told.0; paths = c.requires.paths.1 } }
 
 pub returns-in_ok-typing-in-Some-clause-verdict : goal.returns-in_ok-typing-in-Some-clause-verdict
 returns-in_ok-typing-in-Some-clause-verdict c =
@@ -17,8 +17,8 @@ returns-in_ok-typing-in-Some-clause-verdict c =
     let graph = c.args.heap.now in
     let types = c.args.noted.taken.types in
     let settled = subst (λ found. IfSome found (IsSettled t graph types)) c.in-Some.is c.in_ok-seconds.ensures.settled in
-    let yes = settled_yes t graph types c.in-Some.seconds c.requires.table c.count-count.ensures.heap.is_graph settled in
-    (yes.0, reached_yes t graph c.requires.table types (pairs_with types c.in-Some.seconds) c.in_ok-typing-in-Some.typing c.in_ok-typing-in-Some.ensures c.requires.asked yes.1)
+    let yes = settled_yes t graph types c.in-Some.seconds c.holds.ensures.lawful c.count-count.ensures.heap.is_graph settled in
+    (yes.0, reached_yes t graph c.holds.ensures.lawful types (pairs_with types c.in-Some.seconds) c.in_ok-typing-in-Some.typing c.in_ok-typing-in-Some.ensures c.requires.asked yes.1)
 
 pub returns-in_ok-typing-in-Some-clause-paths : goal.returns-in_ok-typing-in-Some-clause-paths
 returns-in_ok-typing-in-Some-clause-paths c =
@@ -26,8 +26,8 @@ returns-in_ok-typing-in-Some-clause-paths c =
     let graph = c.args.heap.now in
     let types = c.args.noted.taken.types in
     let settled = subst (λ found. IfSome found (IsSettled t graph types)) c.in-Some.is c.in_ok-seconds.ensures.settled in
-    reached_paths t graph c.requires.table types (pairs_with types c.in-Some.seconds) c.in_ok-typing-in-Some.typing c.in_ok-typing-in-Some.ensures c.requires.paths.0
-    (settled_cases t graph types c.in-Some.seconds c.requires.table c.count-count.ensures.heap.is_graph settled)
+    reached_paths t graph c.holds.ensures.lawful types (pairs_with types c.in-Some.seconds) c.in_ok-typing-in-Some.typing c.in_ok-typing-in-Some.ensures c.requires.paths.0
+    (settled_cases t graph types c.in-Some.seconds c.holds.ensures.lawful c.count-count.ensures.heap.is_graph settled)
 
 pub returns-in_ok-typing-in-Some-clause-steps : goal.returns-in_ok-typing-in-Some-clause-steps
 returns-in_ok-typing-in-Some-clause-steps c =
@@ -35,7 +35,7 @@ returns-in_ok-typing-in-Some-clause-steps c =
     let graph = c.args.heap.now in
     let types = c.args.noted.taken.types in
     let settled = subst (λ found. IfSome found (IsSettled t graph types)) c.in-Some.is c.in_ok-seconds.ensures.settled in
-    let few = settled_few t graph types c.in-Some.seconds c.requires.table c.count-count.ensures.heap.is_graph settled in
+    let few = settled_few t graph types c.in-Some.seconds c.holds.ensures.lawful c.count-count.ensures.heap.is_graph settled in
     let more = subst (λ found. IfSome found (λ all. c.settle.new.steps ≤ c.new-more.result + cost_of_pairs graph (noted_in all))) c.in-Some.is c.in_ok-seconds.ensures.steps in
     omega (arith, few, more, c.requires.all, c.new-more.ensures, c.raise_by.ensures.more, c.raise_by-in-Some.ensures.more, c.taken-in-Some.ensures)
 

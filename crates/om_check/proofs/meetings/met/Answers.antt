@@ -7,4 +7,4 @@ use Rattle.om_check.proofs.meetings.met.Goals as goal
 pub returns-in_ok-visits-in_default : goal.returns-in_ok-visits-in_default
 returns-in_ok-visits-in_default c =
     subst (AreAllMet (table_of c.args.table.now) c.args.heap.now c.args.root) (sym c.in_ok-visits-in_default.ensures.none)
-    (none_met (table_of c.args.table.now) c.args.heap.now c.requires.table c.args.root c.in_default.not-Ref)
+    (none_met (table_of c.args.table.now) c.args.heap.now c.holds.ensures.lawful c.args.root c.in_default.not-Ref)

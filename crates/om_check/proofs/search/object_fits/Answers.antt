@@ -10,7 +10,7 @@ use Rattle.om_check.proofs.search.object_fits.Goals as goal
 pub returns-in-Some : goal.returns-in-Some
 returns-in-Some c =
     let seen = subst (λ test. OnTrue test (IsSeenObject (table_of c.args.fitting.table.now) c.args.heap.now c.args.taken.now c.args.object c.args.ty)) c.if-seen.true c.requires.seen in
-    let fits = object_taken (table_of c.args.fitting.table.now) c.args.heap.now c.args.taken.now c.requires.lawful c.args.object _ c.args.ty c.requires.taken (sym c.type_of.ensures ∙ c.in-Some.is) seen in
+    let fits = object_taken (table_of c.args.fitting.table.now) c.args.heap.now c.args.taken.now c.holds.ensures.lawful c.args.object _ c.args.ty c.requires.taken (sym c.type_of.ensures ∙ c.in-Some.is) seen in
     (λ yes. fits, λ also. refl)
 
 pub returns-then-is_unfit_object : goal.returns-then-is_unfit_object

@@ -8,12 +8,12 @@ use Rattle.om_check.proofs.search.search.Goals as goal
 pub returns-in_err-step-clause-steps : goal.returns-in_err-step-clause-steps
 returns-in_err-step-clause-steps c =
     let inside : c.loop-fitting.n < length (listed c.loop-fitting.visits) = c.has.ensures.has.0 c.loop-fitting-test.true in
-    search_few (table_of c.args.fitting.table.now) c.args.heap.now c.args.taken.now (listed c.loop-fitting.visits) c.loop-fitting.n c.args.steps.now c.loop-fitting.steps c.test_visit.new.steps c.requires.lawful c.requires.taken c.loop-fitting.invariant.explored inside c.loop-fitting.invariant.few c.test_visit.ensures.steps
+    search_few (table_of c.args.fitting.table.now) c.args.heap.now c.args.taken.now (listed c.loop-fitting.visits) c.loop-fitting.n c.args.steps.now c.loop-fitting.steps c.test_visit.new.steps c.holds.ensures.lawful c.requires.taken c.loop-fitting.invariant.explored inside c.loop-fitting.invariant.few c.test_visit.ensures.steps
 
 pub returns-in-Some-clause-steps : goal.returns-in-Some-clause-steps
 returns-in-Some-clause-steps c =
     let inside : c.loop-fitting.n < length (listed c.loop-fitting.visits) = c.has.ensures.has.0 c.loop-fitting-test.true in
-    search_few (table_of c.args.fitting.table.now) c.args.heap.now c.args.taken.now (listed c.loop-fitting.visits) c.loop-fitting.n c.args.steps.now c.loop-fitting.steps c.test_visit.new.steps c.requires.lawful c.requires.taken c.loop-fitting.invariant.explored inside c.loop-fitting.invariant.few c.test_visit.ensures.steps
+    search_few (table_of c.args.fitting.table.now) c.args.heap.now c.args.taken.now (listed c.loop-fitting.visits) c.loop-fitting.n c.args.steps.now c.loop-fitting.steps c.test_visit.new.steps c.holds.ensures.lawful c.requires.taken c.loop-fitting.invariant.explored inside c.loop-fitting.invariant.few c.test_visit.ensures.steps
 
 pub loop-fitting-preserved : goal.loop-fitting-preserved
 loop-fitting-preserved c =
@@ -23,4 +23,4 @@ loop-fitting-preserved c =
 
 pub returns-clause-steps : goal.returns-clause-steps
 returns-clause-steps c =
-    searched_few (table_of c.args.fitting.table.now) c.args.heap.now c.args.taken.now (listed c.loop-fitting.visits) c.loop-fitting.n c.args.steps.now c.loop-fitting.steps c.requires.lawful c.requires.taken c.loop-fitting.invariant.explored c.loop-fitting.invariant.few
+    searched_few (table_of c.args.fitting.table.now) c.args.heap.now c.args.taken.now (listed c.loop-fitting.visits) c.loop-fitting.n c.args.steps.now c.loop-fitting.steps c.holds.ensures.lawful c.requires.taken c.loop-fitting.invariant.explored c.loop-fitting.invariant.few

@@ -10,5 +10,5 @@ pub take_visit-requires-clause-seen : goal.take_visit-requires-clause-seen
 take_visit-requires-clause-seen c =
     let within = visit_within (table_of c.args.fitting.table.now) c.args.heap.now (listed c.args.visits.now) c.args.n 0 c.args.n c.args.visit c.requires.explored c.requires.visit in
     subst (AreSeen (table_of c.args.fitting.table.now) c.args.heap.now c.args.taken.now c.args.visit) (sym c.seen_of-seen.ensures)
-    (visit_seen (table_of c.args.fitting.table.now) c.args.heap.now c.args.taken.now c.requires.lawful c.args.visit c.requires.taken
-    (subst (λ m. c.args.visit.ty < m) (sym c.requires.lawful.classed) within.1) c.requires.equal)
+    (visit_seen (table_of c.args.fitting.table.now) c.args.heap.now c.args.taken.now c.holds.ensures.lawful c.args.visit c.requires.taken
+    (subst (λ m. c.args.visit.ty < m) (sym c.holds.ensures.lawful.classed) within.1) c.requires.equal)

@@ -29,20 +29,20 @@ take_need-requires-clause-field c =
 
 pub take_need-requires-clause-node : goal.take_need-requires-clause-node
 take_need-requires-clause-node c =
-    need_node (table_of c.args.fitting.table.now) c.args.heap.now c.requires.lawful c.args.visit.object c.args.visit.ty c.loop-k.k c.get-step.result.0 c.get-step.result.1 (visit_within (table_of c.args.fitting.table.now) c.args.heap.now (listed c.args.visits.now) c.args.n 0 c.args.n c.args.visit c.requires.explored c.requires.visit).1 (ap (λ needs. slice_get needs c.loop-k.k)
+    need_node (table_of c.args.fitting.table.now) c.args.heap.now c.holds.ensures.lawful c.args.visit.object c.args.visit.ty c.loop-k.k c.get-step.result.0 c.get-step.result.1 (visit_within (table_of c.args.fitting.table.now) c.args.heap.now (listed c.args.visits.now) c.args.n 0 c.args.n c.args.visit c.requires.explored c.requires.visit).1 (ap (λ needs. slice_get needs c.loop-k.k)
     c.requires.needs
     ∙ c.get-step.ensures)
 
 pub take_need-requires-clause-class : goal.take_need-requires-clause-class
 take_need-requires-clause-class c =
-    let node = need_node (table_of c.args.fitting.table.now) c.args.heap.now c.requires.lawful c.args.visit.object c.args.visit.ty c.loop-k.k c.get-step.result.0 c.get-step.result.1 (visit_within (table_of c.args.fitting.table.now) c.args.heap.now (listed c.args.visits.now) c.args.n 0 c.args.n c.args.visit c.requires.explored c.requires.visit).1 (ap (λ needs. slice_get needs c.loop-k.k)
+    let node = need_node (table_of c.args.fitting.table.now) c.args.heap.now c.holds.ensures.lawful c.args.visit.object c.args.visit.ty c.loop-k.k c.get-step.result.0 c.get-step.result.1 (visit_within (table_of c.args.fitting.table.now) c.args.heap.now (listed c.args.visits.now) c.args.n 0 c.args.n c.args.visit c.requires.explored c.requires.visit).1 (ap (λ needs. slice_get needs c.loop-k.k)
     c.requires.needs
     ∙ c.get-step.ensures) in
-    subst (λ m. c.get-step.result.1 < m) (sym c.requires.lawful.classed) node
+    subst (λ m. c.get-step.result.1 < m) (sym c.holds.ensures.lawful.classed) node
 
 pub take_need-requires-clause-types : goal.take_need-requires-clause-types
 take_need-requires-clause-types c =
-    types_within (table_of c.args.fitting.table.now) c.args.heap.now (listed c.loop-k.visits) c.args.n c.loop-k.k c.requires.lawful c.loop-k.invariant.testing.explored
+    types_within (table_of c.args.fitting.table.now) c.args.heap.now (listed c.loop-k.visits) c.args.n c.loop-k.k c.holds.ensures.lawful c.loop-k.invariant.testing.explored
 
 pub take_need-requires-clause-fit : goal.take_need-requires-clause-fit
 take_need-requires-clause-fit c = λ k v at.
@@ -59,7 +59,7 @@ returns-then-not-branch-clause-tests c =
     let need : Need = record { parent = c.args.n; object = c.args.visit.object; step = c.get-step.result.0; ty = c.get-step.result.1 } in
     let is : IsNeedOf (table_of c.args.fitting.table.now) c.args.heap.now (listed c.args.visits.now) c.args.n c.loop-k.k need =
     record { visit = v; at = at_n; parent = refl; object = refl; needed = ap (λ needs. slice_get needs c.loop-k.k) are ∙ c.get-step.ensures; asked = asked } in
-    testing_until (table_of c.args.fitting.table.now) c.args.heap.now all (listed c.loop-k.visits) (listed c.take_need.new.visits) c.args.n c.loop-k.k need c.requires.lawful c.loop-k.invariant.testing is
+    testing_until (table_of c.args.fitting.table.now) c.args.heap.now all (listed c.loop-k.visits) (listed c.take_need.new.visits) c.args.n c.loop-k.k need c.holds.ensures.lawful c.loop-k.invariant.testing is
     (subst (TestsNeed (table_of c.args.fitting.table.now) c.args.heap.now (listed c.loop-k.visits) (listed c.take_need.new.visits) need) c.if-not-branch.true c.in_ok-take_need.ensures.tests)
 
 pub loop-k-preserved : goal.loop-k-preserved
@@ -74,7 +74,7 @@ loop-k-preserved c =
     let need : Need = record { parent = c.args.n; object = c.args.visit.object; step = c.get-step.result.0; ty = c.get-step.result.1 } in
     let is : IsNeedOf (table_of c.args.fitting.table.now) c.args.heap.now (listed c.args.visits.now) c.args.n c.loop-k.k need =
     record { visit = v; at = at_n; parent = refl; object = refl; needed = needed; asked = asked } in
-    let node = need_node (table_of c.args.fitting.table.now) c.args.heap.now c.requires.lawful v.object v.ty c.loop-k.k c.get-step.result.0 c.get-step.result.1 within.1 needed in
+    let node = need_node (table_of c.args.fitting.table.now) c.args.heap.now c.holds.ensures.lawful v.object v.ty c.loop-k.k c.get-step.result.0 c.get-step.result.1 within.1 needed in
     let short = need_field (table_of c.args.fitting.table.now) c.args.heap.now v.object v.ty c.loop-k.k c.get-step.result.0 c.get-step.result.1 within.0 needed in
     let inside = word_inside c.args.heap.now v.object c.get-step.result.0 c.fields-words.result.now c.fields-words.ensures.words short in
     record {
@@ -179,7 +179,7 @@ returns-clause-steps c =
 
 pub shape-requires : goal.shape-requires
 shape-requires c =
-    need_node (table_of c.args.fitting.table.now) c.args.heap.now c.requires.lawful c.args.visit.object c.args.visit.ty c.loop-k.k c.get-step.result.0 c.get-step.result.1 (visit_within (table_of c.args.fitting.table.now) c.args.heap.now (listed c.args.visits.now) c.args.n 0 c.args.n c.args.visit c.requires.explored c.requires.visit).1 (ap (λ needs. slice_get needs c.loop-k.k)
+    need_node (table_of c.args.fitting.table.now) c.args.heap.now c.holds.ensures.lawful c.args.visit.object c.args.visit.ty c.loop-k.k c.get-step.result.0 c.get-step.result.1 (visit_within (table_of c.args.fitting.table.now) c.args.heap.now (listed c.args.visits.now) c.args.n 0 c.args.n c.args.visit c.requires.explored c.requires.visit).1 (ap (λ needs. slice_get needs c.loop-k.k)
     c.requires.needs
     ∙ c.get-step.ensures)
 

@@ -7,4 +7,4 @@ use Rattle.om_check.proofs.search.test_visit.Goals as goal
 pub was_taken-requires-clause-ty : goal.was_taken-requires-clause-ty
 was_taken-requires-clause-ty c =
     let within = visit_within (table_of c.args.fitting.table.now) c.args.heap.now (listed c.args.visits.now) c.args.n 0 c.args.n c.get-visit.result c.requires.explored c.get-visit.ensures in
-    subst (λ m. c.get-visit.result.ty < m) (sym c.requires.lawful.classed) within.1
+    subst (λ m. c.get-visit.result.ty < m) (sym c.holds.ensures.lawful.classed) within.1

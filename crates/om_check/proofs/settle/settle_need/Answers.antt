@@ -24,14 +24,14 @@ pub fits_type-requires-clause-node : goal.fits_type-requires-clause-node
 fits_type-requires-clause-node c =
     let t = table_of c.args.fitting.table.now in
     let graph = c.args.heap.now in
-    let node = need_node t graph c.requires.lawful c.args._object c.args._ty c.args._place c.args._field c.args.needed c.requires.node c.requires.need in
+    let node = need_node t graph c.holds.ensures.lawful c.args._object c.args._ty c.args._place c.args._field c.args.needed c.requires.node c.requires.need in
     node
 
 pub returns-then-word-ne0 : goal.returns-then-word-ne0
 returns-then-word-ne0 c =
     let t = table_of c.args.fitting.table.now in
     let graph = c.args.heap.now in
-    let node = need_node t graph c.requires.lawful c.args._object c.args._ty c.args._place c.args._field c.args.needed c.requires.node c.requires.need in
+    let node = need_node t graph c.holds.ensures.lawful c.args._object c.args._ty c.args._place c.args._field c.args.needed c.requires.node c.requires.need in
     let v = field_at graph c.args._object c.args._field in
     let short = need_field t graph c.args._object c.args._ty c.args._place c.args._field c.args.needed c.requires.object c.requires.need in
     let valid = field_valid graph c.args._object c.args._field c.requires.object short c.count-count.ensures.heap.is_graph in
@@ -45,35 +45,35 @@ pub class-requires : goal.class-requires
 class-requires c =
     let t = table_of c.args.fitting.table.now in
     let graph = c.args.heap.now in
-    let node = need_node t graph c.requires.lawful c.args._object c.args._ty c.args._place c.args._field c.args.needed c.requires.node c.requires.need in
+    let node = need_node t graph c.holds.ensures.lawful c.args._object c.args._ty c.args._place c.args._field c.args.needed c.requires.node c.requires.need in
     let many = c.requires.over.scanned.many in
     let inside : c.number-object.result < length c.args.types.now = omega (arith, c.number-object.ensures.in_range, many) in
     let at_first = read_at c.args.types.now c.number-object.result c.get-first.result inside c.get-first.ensures in
     let first = c.requires.over.scanned.within c.number-object.result c.get-first.result at_first in
-    let classed = c.requires.lawful.classed in
+    let classed = c.holds.ensures.lawful.classed in
     omega (arith, first, classed)
 
 pub class-requires-2 : goal.class-requires-2
 class-requires-2 c =
     let t = table_of c.args.fitting.table.now in
     let graph = c.args.heap.now in
-    let node = need_node t graph c.requires.lawful c.args._object c.args._ty c.args._place c.args._field c.args.needed c.requires.node c.requires.need in
-    let classed = c.requires.lawful.classed in
+    let node = need_node t graph c.holds.ensures.lawful c.args._object c.args._ty c.args._place c.args._field c.args.needed c.requires.node c.requires.need in
+    let classed = c.holds.ensures.lawful.classed in
     omega (arith, node, classed)
 
 pub note-requires-clause-ty : goal.note-requires-clause-ty
 note-requires-clause-ty c =
     let t = table_of c.args.fitting.table.now in
     let graph = c.args.heap.now in
-    let node = need_node t graph c.requires.lawful c.args._object c.args._ty c.args._place c.args._field c.args.needed c.requires.node c.requires.need in
-    let classed = c.requires.lawful.classed in
+    let node = need_node t graph c.holds.ensures.lawful c.args._object c.args._ty c.args._place c.args._field c.args.needed c.requires.node c.requires.need in
+    let classed = c.holds.ensures.lawful.classed in
     omega (arith, node, classed)
 
 pub returns-then-class : goal.returns-then-class
 returns-then-class c =
     let t = table_of c.args.fitting.table.now in
     let graph = c.args.heap.now in
-    let node = need_node t graph c.requires.lawful c.args._object c.args._ty c.args._place c.args._field c.args.needed c.requires.node c.requires.need in
+    let node = need_node t graph c.holds.ensures.lawful c.args._object c.args._ty c.args._place c.args._field c.args.needed c.requires.node c.requires.need in
     let many = c.requires.over.scanned.many in
     let inside : c.number-object.result < length c.args.types.now = omega (arith, c.number-object.ensures.in_range, many) in
     let at_first = read_at c.args.types.now c.number-object.result c.get-first.result inside c.get-first.ensures in
@@ -92,7 +92,7 @@ pub returns : goal.returns
 returns c =
     let t = table_of c.args.fitting.table.now in
     let graph = c.args.heap.now in
-    let node = need_node t graph c.requires.lawful c.args._object c.args._ty c.args._place c.args._field c.args.needed c.requires.node c.requires.need in
+    let node = need_node t graph c.holds.ensures.lawful c.args._object c.args._ty c.args._place c.args._field c.args.needed c.requires.node c.requires.need in
     let many = c.requires.over.scanned.many in
     let inside : c.number-object.result < length c.args.types.now = omega (arith, c.number-object.ensures.in_range, many) in
     let at_first = read_at c.args.types.now c.number-object.result c.get-first.result inside c.get-first.ensures in

@@ -55,7 +55,7 @@ loop-k-preserved c =
 pub shape-requires : goal.shape-requires
 shape-requires c =
     let at_k = ap (λ needs. slice_get needs c.loop-k.k) c.requires.needs ∙ c.get-field.ensures in
-    need_node (table_of c.args.fitting.table.now) c.args.heap.now c.requires.lawful c.args.object c.args.ty c.loop-k.k c.get-field.result.0 c.get-field.result.1 c.requires.node at_k
+    need_node (table_of c.args.fitting.table.now) c.args.heap.now c.holds.ensures.lawful c.args.object c.args.ty c.loop-k.k c.get-field.result.0 c.get-field.result.1 c.requires.node at_k
 
 pub settle_need-requires-clause-asked : goal.settle_need-requires-clause-asked
 settle_need-requires-clause-asked c =

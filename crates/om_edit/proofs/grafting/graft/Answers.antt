@@ -15,7 +15,7 @@ returns-clause-answer c = applied c
 pub returns-clause-only : goal.returns-clause-only
 returns-clause-only c =
     graft_given c.args.table.now c.args.path.now (c.args.from.now, c.args.other) c.args.source.now c.args.heap.now c.args.root.now
-    c.requires.lawful c.put_if_typed.new.heap c.put_if_typed.new.root c.put_if_typed.result (applied c)
+    c.holds.ensures.lawful c.put_if_typed.new.heap c.put_if_typed.new.root c.put_if_typed.result (applied c)
 
 pub returns-clause-copy : goal.returns-clause-copy
 returns-clause-copy c =

@@ -6,7 +6,7 @@ use Rattle.om_fault.proofs.near.find_near.Goals as goal
 pub returns-in_default : goal.returns-in_default
 returns-in_default c =
     near_root (table_of c.args.table.now) c.args.heap.now c.args.root c.shape.result.now c.shape.ensures c.in_default.ensures
-    c.requires.value c.requires.lawful
+    c.requires.value c.holds.ensures.lawful
 
 pub unfit_field-requires-clause-needs : goal.unfit_field-requires-clause-needs
 unfit_field-requires-clause-needs c =

@@ -10,6 +10,6 @@ returns-clause-is c = c.type_of.ensures ∙ ap (λ fields. type_of_field fields 
 
 pub returns-clause-number : goal.returns-clause-number
 returns-clause-number c =
-    let node = slice_get_there c.args._table.now.nodes c.args._at c.requires.number in
-    types_below (table_of c.args._table.now) c.args._heap.now c.args._value c.args._at node.0 node.1 c.requires.lawful c.args.i
+    let node = slice_get_there c.args.table.now.nodes c.args._at c.requires.number in
+    types_below (table_of c.args.table.now) c.args._heap.now c.args._value c.args._at node.0 node.1 c.holds.ensures.lawful c.args.i
     c.type_of.result (c.type_of.ensures ∙ ap (λ fields. type_of_field fields c.args.i) c.requires.needs)

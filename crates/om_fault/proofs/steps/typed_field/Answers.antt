@@ -6,4 +6,4 @@ use Rattle.om_fault.proofs.steps.typed_field.Goals as goal
 pub returns-in-Some-clause-number : goal.returns-in-Some-clause-number
 returns-in-Some-clause-number c =
     found_below (table_of c.args.table.now) c.args.heap.now c.args.value c.args.at c.shape.result.now c.shape.ensures
-    c.requires.lawful c.args.i (needs_in c.in-Some.needs) c.type_of.result c.in-Some.ensures c.type_of.ensures
+    c.holds.ensures.lawful c.args.i (needs_in c.in-Some.needs) c.type_of.result c.in-Some.ensures c.type_of.ensures

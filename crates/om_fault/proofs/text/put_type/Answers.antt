@@ -1,4 +1,6 @@
-use Rattle.std.proofs.Common.{◌<◌, ◌∙◌, ◌++◌, length, sym, ap}
+use Rattle.std.proofs.Common.{◌<◌, ◌≡◌, ◌∙◌, ◌++◌, List, Some, length, sym, ap, subst}
+use Rattle.std.specs.Prelude.{slice_get}
+use Rattle.om_types.specs.Ty.{Ty, named}
 use Rattle.std.proofs.lemmas.List.Elements.{All-contains}
 use Rattle.om_fault.proofs.NamedTexts.{name_is_text}
 use Rattle.std.proofs.lemmas.Result.{on_ok_weaker}
@@ -7,8 +9,9 @@ use Rattle.om_fault.proofs.text.put_type.Goals as goal
 
 pub node-requires : goal.node-requires
 node-requires c =
-    All-contains (λ i. i < length c.args.table.now.store) c.args.table.now.stored c.stored.result c.requires.within
-    (slice_get-Contains c.args.table.now.stored c.args.number c.stored.result c.stored.ensures)
+    subst (λ (ts : List Ty). c.stored.result < length ts) (sym c.store.ensures)
+    (All-contains (λ i. i < length c.args.table.now.store) c.args.table.now.stored c.stored.result c.holds.ensures.within
+    (slice_get-Contains c.args.table.now.stored c.args.number c.stored.result c.stored.ensures))
 
 pub returns-in-Named : goal.returns-in-Named
 returns-in-Named c =
@@ -16,5 +19,6 @@ returns-in-Named c =
     on_ok_weaker c.put.result
     (λ put. put ∙ ap (λ name. old ++ name)
     (sym (name_is_text c.args.table.now c.args.number c.stored.result c.in-Named.name.now c.stored.ensures
-    c.in-Named.ensures.is)))
+    (subst (λ (ts : List Ty). slice_get ts c.stored.result ≡ Some (named c.in-Named.name.now)) c.store.ensures
+    c.in-Named.ensures.is))))
     c.put.ensures

@@ -7,7 +7,7 @@ use Rattle.om_generator.proofs.verdict.text_of.Goals as goal
 
 pub returns-in_ok-put-in-Yes : goal.returns-in_ok-put-in-Yes
 returns-in_ok-put-in-Yes c =
-    let both = yes_declared c.args.requested.now c.requires.ready c.tables_decide.ensures.root
+    let both = yes_declared c.args.requested.now c.holds.ensures c.tables_decide.ensures.root
     c.tables_decide.ensures.decide c.args.heap.now c.args.root c.args.verdict.now
     c.requires.verdict _ c.in-Yes.is in
     puts_yes (type_over c.args.requested.now) c.args.heap.now c.args.root both.0 both.1

@@ -1,14 +1,11 @@
 use Rattle.std.proofs.Common.{arith, sym, ap, ◌∙◌, subst}
 use Rattle.std.specs.Prelude.{ℕ, List, length}
-use Rattle.om_literal_grammar.specs.declared.node.Node.{Node}
-use Rattle.om_literal_grammar.specs.Nodes.{IsTreeOf}
 use Rattle.om_literal.specs.Ends.{AreEnds}
 use Rattle.om_literal.proofs.ReadLemmas.{tree_answers}
 use Rattle.om_literal.proofs.read.read_nodes.Goals as goal
 
 pub read_tree-requires-clause-text : goal.read_tree-requires-clause-text
 read_tree-requires-clause-text c = record {
-  named = c.requires.named;
   many = ap (λ (ends : List ℕ). length ends) c.as_slice.ensures.value ∙ c.in_ok-ends.ensures.len;
   few = omega (arith, c.len-few.ensures.few, c.len-few.ensures.count);
   ends = subst (AreEnds c.args.tree.now) (sym c.as_slice.ensures.value) (λ j k v at. c.in_ok-ends.ensures.ends j k v at);

@@ -13,7 +13,7 @@ is_spent-requires c = leads_from (table_of c.args.table.now) c.args.limit c.args
 
 pub returns-then-is_spent : goal.returns-then-is_spent
 returns-then-is_spent c =
-    leads_end (table_of c.args.table.now) c.args.limit c.args.bytes.now c.args.head.now c.args.start c.tokens.at c.tokens.marks.items c.tokens.notes.items (held c.tokens.now c.tokens.state.places.waiting c.tokens.state.types c.tokens.words) _ c.requires.lawful.lawful c.tokens.invariant c.in_default.ensures refl refl c.if-is_spent.ensures
+    leads_end (table_of c.args.table.now) c.args.limit c.args.bytes.now c.args.head.now c.args.start c.tokens.at c.tokens.marks.items c.tokens.notes.items (held c.tokens.now c.tokens.state.places.waiting c.tokens.state.types c.tokens.words) _ c.holds.ensures.lawful.lawful c.tokens.invariant c.in_default.ensures refl refl c.if-is_spent.ensures
 
 pub tokens-preserved-in-Some-hot : goal.tokens-preserved-in-Some-hot
 tokens-preserved-in-Some-hot c =

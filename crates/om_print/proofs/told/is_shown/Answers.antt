@@ -8,8 +8,8 @@ use Rattle.om_print.proofs.PlainLemmas.{told_start, told_more, told_whole}
 use Rattle.om_show.specs.Shown.{shown_text}
 use Rattle.om_print.proofs.told.is_shown.Goals as goal
 
-pub put_some-requires-clause-walk : goal.put_some-requires-clause-walk
-put_some-requires-clause-walk c = c.piece.invariant.0.put.walk
+pub put_some-requires : goal.put_some-requires
+put_some-requires c = record { walk = c.piece.invariant.0.put.walk }
 
 pub piece-init : goal.piece-init
 piece-init c =

@@ -16,7 +16,7 @@ returns-clause-open c =
       inside = c.requires.inside;
       words = c.fields_at.ensures.words c.args.o c.requires.inside c.requires.word;
       valid = c.fields_at.ensures.valid;
-      parts = open_parts table graph c.args.o c.args.at (needs_in c.needs_or_none.result) c.count-count.ensures.heap.is_graph c.requires.inside c.requires.lawful c.requires.typed needs;
+      parts = open_parts table graph c.args.o c.args.at (needs_in c.needs_or_none.result) c.count-count.ensures.heap.is_graph c.requires.inside c.holds.ensures.lawful c.requires.typed needs;
     }
 
 pub fields_at-requires : goal.fields_at-requires

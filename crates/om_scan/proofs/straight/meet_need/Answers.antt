@@ -27,7 +27,7 @@ meet-requires-clause-word c =
 
 pub meet-requires-clause-node : goal.meet-requires-clause-node
 meet-requires-clause-node c =
-    need_node (table_of c.args.fitting.table.now) c.args.heap.now c.requires.lawful c.args.o c.args.ty c.args.place c.args.field c.args.needed c.requires.node c.requires.need
+    need_node (table_of c.args.fitting.table.now) c.args.heap.now c.holds.ensures.lawful c.args.o c.args.ty c.args.place c.args.field c.args.needed c.requires.node c.requires.need
 
 pub meet-requires-clause-paths : goal.meet-requires-clause-paths
 meet-requires-clause-paths c = λ asked p inside is.
@@ -70,8 +70,8 @@ note-requires-clause-word c =
 
 pub note-requires-clause-node : goal.note-requires-clause-node
 note-requires-clause-node c =
-    let node = need_node (table_of c.args.fitting.table.now) c.args.heap.now c.requires.lawful c.args.o c.args.ty c.args.place c.args.field c.args.needed c.requires.node c.requires.need in
-    let classed = c.requires.lawful.classed in
+    let node = need_node (table_of c.args.fitting.table.now) c.args.heap.now c.holds.ensures.lawful c.args.o c.args.ty c.args.place c.args.field c.args.needed c.requires.node c.requires.need in
+    let classed = c.holds.ensures.lawful.classed in
     omega (arith, node, classed)
 
 pub returns-clause-next : goal.returns-clause-next
@@ -82,7 +82,7 @@ returns-clause-next c = λ old before meeting.
     let v = field_at graph c.args.o i in
     let short = need_field t graph c.args.o c.args.ty c.args.place i c.args.needed c.requires.object c.requires.need in
     let valid = field_valid graph c.args.o i c.requires.object short c.count-count.ensures.heap.is_graph in
-    let node = need_node t graph c.requires.lawful c.args.o c.args.ty c.args.place i c.args.needed c.requires.node c.requires.need in
+    let node = need_node t graph c.holds.ensures.lawful c.args.o c.args.ty c.args.place i c.args.needed c.requires.node c.requires.need in
     let noted = c.in_ok-note.ensures.noted in
     let asked = shape_asked c.args.fitting.table.now.nodes c.args.needed c.shape.result.now c.shape.ensures (sym c.is_asked.ensures ∙ c.if-not-is_asked.false) in
     let same : v ≡ vals.Ref noted.0 = word_of-inj graph v (vals.Ref noted.0) c.count-count.ensures.heap.is_graph valid noted.1 (sym c.requires.word ∙ noted.2) in
@@ -105,4 +105,4 @@ returns-then-not-is_asked-clause-next c = λ old before meeting.
 
 pub shape-requires : goal.shape-requires
 shape-requires c =
-    need_node (table_of c.args.fitting.table.now) c.args.heap.now c.requires.lawful c.args.o c.args.ty c.args.place c.args.field c.args.needed c.requires.node c.requires.need
+    need_node (table_of c.args.fitting.table.now) c.args.heap.now c.holds.ensures.lawful c.args.o c.args.ty c.args.place c.args.field c.args.needed c.requires.node c.requires.need

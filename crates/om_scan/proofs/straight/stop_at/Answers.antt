@@ -20,16 +20,16 @@ behind types o t inside at_o = take_more types o 0 inside ∙ ap (λ u. take o t
 
 pub returns-then-unmet-clause-types : goal.returns-then-unmet-clause-types
 returns-then-unmet-clause-types c =
-    let t = table_of c.args._table.now in
+    let t = table_of c.args.table.now in
     let graph = c.args._heap.now in
     let stops = subst (Stops t graph c.args._marks.now [] c.args.o) c.in-Needs.is c.requires.stops in
-    until_taken t graph c.requires.lawful c.args._marks.now _ (take c.args.o c.args.types) c.args.o c.in-Needs._ty c.args.taken c.in-Needs.unmet c.requires.object
+    until_taken t graph c.holds.ensures.lawful c.args._marks.now _ (take c.args.o c.args.types) c.args.o c.in-Needs._ty c.args.taken c.in-Needs.unmet c.requires.object
     (behind c.args.types c.args.o c.in-Needs._ty (omega (arith, c.requires.object, c.requires.many)) (subst (IsInRow c.args.types c.args.o) c.in-Needs.is c.requires.row))
     c.requires.scanning stops.0 stops.1.0 stops.1.1 (field_sees c.args.types c.args.o c.in-Needs.unmet c.if-unmet.true)
 
 pub returns-then-unmet-clause-steps : goal.returns-then-unmet-clause-steps
 returns-then-unmet-clause-steps c =
-    let t = table_of c.args._table.now in
+    let t = table_of c.args.table.now in
     let graph = c.args._heap.now in
     let stops = subst (Stops t graph c.args._marks.now [] c.args.o) c.in-Needs.is c.requires.stops in
     let unmet = stops.1.1 in
@@ -42,16 +42,16 @@ returns-then-unmet-clause-steps c =
 
 pub returns-else-unmet-clause-types : goal.returns-else-unmet-clause-types
 returns-else-unmet-clause-types c =
-    let t = table_of c.args._table.now in
+    let t = table_of c.args.table.now in
     let graph = c.args._heap.now in
     let stops = subst (Stops t graph c.args._marks.now [] c.args.o) c.in-Needs.is c.requires.stops in
-    until_taken t graph c.requires.lawful c.args._marks.now _ (take c.args.o c.args.types) c.args.o c.in-Needs._ty c.args.taken c.in-Needs.unmet c.requires.object
+    until_taken t graph c.holds.ensures.lawful c.args._marks.now _ (take c.args.o c.args.types) c.args.o c.in-Needs._ty c.args.taken c.in-Needs.unmet c.requires.object
     (behind c.args.types c.args.o c.in-Needs._ty (omega (arith, c.requires.object, c.requires.many)) (subst (IsInRow c.args.types c.args.o) c.in-Needs.is c.requires.row))
     c.requires.scanning stops.0 stops.1.0 stops.1.1 (nothing_sees c.args.types c.args.o c.in-Needs.unmet)
 
 pub returns-else-unmet-clause-steps : goal.returns-else-unmet-clause-steps
 returns-else-unmet-clause-steps c =
-    let t = table_of c.args._table.now in
+    let t = table_of c.args.table.now in
     let graph = c.args._heap.now in
     let stops = subst (Stops t graph c.args._marks.now [] c.args.o) c.in-Needs.is c.requires.stops in
     let unmet = stops.1.1 in
@@ -64,14 +64,14 @@ returns-else-unmet-clause-steps c =
 
 pub returns-in-Misfits-clause-types : goal.returns-in-Misfits-clause-types
 returns-in-Misfits-clause-types c =
-    let t = table_of c.args._table.now in
+    let t = table_of c.args.table.now in
     let graph = c.args._heap.now in
     let stops = subst (Stops t graph c.args._marks.now [] c.args.o) c.in-Misfits.is c.requires.stops in
-    before_taken t graph c.requires.lawful c.args._marks.now _ c.args.o c.args.taken (omega (arith, c.requires.object)) c.requires.scanning
+    before_taken t graph c.holds.ensures.lawful c.args._marks.now _ c.args.o c.args.taken (omega (arith, c.requires.object)) c.requires.scanning
     (λ p found. subst (λ n. (u : ℕ) × (mark_of graph c.args._marks.now n ≡ suc u) × ¬ (table_shapes t).fits graph (vals.Ref n) u) (eqb-true c.args.o p found) stops)
     (λ o i. refl)
 
 pub returns-in-Unmarked-clause-types : goal.returns-in-Unmarked-clause-types
 returns-in-Unmarked-clause-types c =
-    before_taken (table_of c.args._table.now) c.args._heap.now c.requires.lawful c.args._marks.now _ c.args.o c.args.taken (omega (arith, c.requires.object)) c.requires.scanning
+    before_taken (table_of c.args.table.now) c.args._heap.now c.holds.ensures.lawful c.args._marks.now _ c.args.o c.args.taken (omega (arith, c.requires.object)) c.requires.scanning
     (λ p found. absurd (false≢true found)) (λ o i. refl)

@@ -22,7 +22,7 @@ returns-in_default-clause-types c =
     let t = table_of c.args.table.now in
     let graph = c.args.heap.now in
     let noted = noted_in c.args.notes.seconds in
-    all_scanned t graph c.args.marks.now noted c.args.types c.args.taken c.requires.lawful c.count-count.ensures.heap.is_graph
+    all_scanned t graph c.args.marks.now noted c.args.types c.args.taken c.holds.ensures.lawful c.count-count.ensures.heap.is_graph
     (whole t graph c.args.marks.now noted c.args.types c.args.taken c.requires.many c.requires.going.scanning) c.requires.some
     (none_noted t graph c.args.marks.now c.args.types _ c.args.notes c.requires.going.noted c.in_default.is)
 
@@ -31,7 +31,7 @@ returns-in_default-clause-paths c =
     let t = table_of c.args.table.now in
     let graph = c.args.heap.now in
     let noted = noted_in c.args.notes.seconds in
-    all_paths t graph c.args.marks.now noted c.args.types c.args.taken c.requires.lawful c.count-count.ensures.heap.is_graph
+    all_paths t graph c.args.marks.now noted c.args.types c.args.taken c.holds.ensures.lawful c.count-count.ensures.heap.is_graph
     (whole t graph c.args.marks.now noted c.args.types c.args.taken c.requires.many c.requires.going.scanning)
 
 pub returns-in_default-clause-steps : goal.returns-in_default-clause-steps
@@ -39,7 +39,7 @@ returns-in_default-clause-steps c =
     let t = table_of c.args.table.now in
     let graph = c.args.heap.now in
     let noted = noted_in c.args.notes.seconds in
-    let few = all_few t graph c.args.marks.now noted c.args.types c.args.taken c.requires.lawful c.count-count.ensures.heap.is_graph
+    let few = all_few t graph c.args.marks.now noted c.args.types c.args.taken c.holds.ensures.lawful c.count-count.ensures.heap.is_graph
     (whole t graph c.args.marks.now noted c.args.types c.args.taken c.requires.many c.requires.going.scanning) in
     omega (arith, few, c.raise_by.ensures.more, c.taken.ensures)
 
@@ -53,7 +53,7 @@ returns-clause-types c =
     let graph = c.args.heap.now in
     let noted = noted_in c.args.notes.seconds in (
       subst (λ ts. IsScannedBut t graph ts c.args.notes.seconds) (sym c.until_first-taken_before.ensures.row)
-          (all_noted t graph c.args.marks.now noted c.args.types c.args.taken c.requires.lawful c.count-count.ensures.heap.is_graph
+          (all_noted t graph c.args.marks.now noted c.args.types c.args.taken c.holds.ensures.lawful c.count-count.ensures.heap.is_graph
           (whole t graph c.args.marks.now noted c.args.types c.args.taken c.requires.many c.requires.going.scanning)
           c.args.notes.seconds c.requires.some refl c.requires.going.noted.noted),
       c.until_first-taken_before.ensures.types,
@@ -64,7 +64,7 @@ returns-clause-paths c =
     let t = table_of c.args.table.now in
     let graph = c.args.heap.now in
     let noted = noted_in c.args.notes.seconds in (
-      λ o ty at_o. types_paths t graph c.args.marks.now noted c.args.types c.args.taken c.requires.lawful c.count-count.ensures.heap.is_graph
+      λ o ty at_o. types_paths t graph c.args.marks.now noted c.args.types c.args.taken c.holds.ensures.lawful c.count-count.ensures.heap.is_graph
           (whole t graph c.args.marks.now noted c.args.types c.args.taken c.requires.many c.requires.going.scanning) o ty
           (ap (λ ts. slice_get ts o) (sym c.until_first-taken_before.ensures.row) ∙ at_o),
       λ o ty among. (c.requires.going.noted.noted.all o ty among).path,

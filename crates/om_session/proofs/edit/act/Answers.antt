@@ -1,27 +1,17 @@
 use Rattle.std.proofs.Common.{refl}
-use Rattle.om_declared.proofs.VerdictLemmas.{ready_lawful, ready_names}
 use Rattle.om_session.proofs.EarlierLemmas.{found_made, edit_applied, graft_applied}
 use Rattle.om_session.proofs.edit.act.Goals as goal
-
-pub apply-requires-clause-lawful : goal.apply-requires-clause-lawful
-apply-requires-clause-lawful c = ready_lawful c.args.requested.now c.requires.ready c.tables_are_lawful.ensures
-
-pub apply-requires-clause-named : goal.apply-requires-clause-named
-apply-requires-clause-named c = ready_names c.args.requested.now c.requires.ready
 
 pub returns-in-Edit-clause-applied : goal.returns-in-Edit-clause-applied
 returns-in-Edit-clause-applied c = λ others are.
     rw c.in-Edit.is
-    (edit_applied c.args.requested.now.table others c.args.value.now.heap c.apply.new.heap c.args.value.now.root c.apply.new.root c.in-Edit.edit c.apply.result c.apply.ensures.answer)
+    (edit_applied c.args.requested.now.table others c.args.value.now.heap c.apply.new.heap c.args.value.now.root c.apply.new.root c.in-Edit.edit c.apply.result (rw c.table-table.ensures.same at c.apply.ensures.answer))
 
 pub earlier_value-from-requires-clause-order : goal.earlier_value-from-requires-clause-order
 earlier_value-from-requires-clause-order c = c.requires.served.in_order
 
 pub earlier_value-from-requires-clause-there : goal.earlier_value-from-requires-clause-there
 earlier_value-from-requires-clause-there c = c.requires.served.there c.in-Graft.number (rw c.in-Graft.is refl)
-
-pub graft-requires-clause-lawful : goal.graft-requires-clause-lawful
-graft-requires-clause-lawful c = ready_lawful c.args.requested.now c.requires.ready c.tables_are_lawful.ensures
 
 pub graft-requires-clause-other : goal.graft-requires-clause-other
 graft-requires-clause-other c =
@@ -32,4 +22,4 @@ returns-in-Graft-clause-applied c = λ others are.
     let from = c.earlier_value-from.result.now in
     rw c.in-Graft.is
     (graft_applied c.args.requested.now.table others c.args.value.now.heap c.graft.new.heap c.args.value.now.root c.graft.new.root c.in-Graft.path c.in-Graft.source c.in-Graft.number
-    from c.graft.result (found_made others c.args.kept.now c.in-Graft.number from are c.earlier_value-from.ensures) c.graft.ensures.answer)
+    from c.graft.result (found_made others c.args.kept.now c.in-Graft.number from are c.earlier_value-from.ensures) (rw c.table-table.ensures.same at c.graft.ensures.answer))

@@ -1,10 +1,20 @@
+use Rattle.std.proofs.Common.{◌≡◌, ℕ, Bool, List, Ok, Err, Result, subst}
+use Rattle.om_outcome.specs.Outcome.{Found}
+use Rattle.om_outcome.specs.declared.stop.Stop.{Stop}
 use Rattle.om_edge.specs.State.{change}
+use Rattle.om_path.specs.declared.edits.Script.{Script}
+use Rattle.om_declared.specs.Types.{GivesScript}
 use Rattle.om_session.proofs.AccountLemmas.{given_in_time, script_account}
 use Rattle.om_session.proofs.top.edit_by.Goals as goal
 
-pub edit_with-requires-clause-in_time : goal.edit_with-requires-clause-in_time
-edit_with-requires-clause-in_time g c =
-    let found = c.in-Ok.ensures in given_in_time c.lines_in_time.ensures c.args.requested.now.lines c.args.requested.now.decimal c.args.script.now found.0 c.in-Ok.script found.2
+-- the same, where it is asked for so
+asked_so : (name : List ℕ) (found : Found) (result : Result Script Stop) (l lines d decimal : Bool) → l ≡ lines → d ≡ decimal → GivesScript l d name found result → GivesScript lines decimal name found result
+asked_so name found result l lines d decimal same_lines same_decimal gives =
+    subst (λ (b : Bool). GivesScript lines b name found result) same_decimal (subst (λ (b : Bool). GivesScript b d name found result) same_lines gives)
+
+pub edit_with-requires : goal.edit_with-requires
+edit_with-requires g c =
+    let found = c.in-Ok.ensures in record { in_time = given_in_time c.lines_in_time.ensures c.lines.result c.decimal.result c.args.script.now found.0 c.in-Ok.script found.2 }
 
 pub returns-in-Ok : goal.returns-in-Ok
 returns-in-Ok g c = λ words before asks.
@@ -15,13 +25,14 @@ returns-in-Ok g c = λ words before asks.
       asks = asks;
       found = found.0;
       fetched = found.1;
-      gives = found.2;
+      gives = asked_so c.args.script.now found.0 (Ok c.in-Ok.script) c.lines.result c.args.requested.now.lines c.decimal.result c.args.requested.now.decimal c.lines.ensures c.decimal.ensures found.2;
     })
 
 pub returns-in-Err : goal.returns-in-Err
 returns-in-Err g c = λ words before asks.
     let found = c.in-Err.ensures in
+    let gives = asked_so c.args.script.now found.0 (Err c.in-Err.stop) c.lines.result c.args.requested.now.lines c.decimal.result c.args.requested.now.decimal c.lines.ensures c.decimal.ensures found.2 in
     script_account words c.args.requested c.args.script.now c.args.compat c.args.reading before (g.O.Opener.state c.args.files.now) (g.O.Opener.state c.find_script.new.files) asks
-    found.0 found.1 c.in-Err.stop found.2
+    found.0 found.1 c.in-Err.stop gives
     (g.S.Source.state c.args.input.now) (g.K.Sink.state c.args.out.now)
     (change (g.E.Sink.state c.args.err.now) (g.E.Sink.state c.report.new.err)) c.report.result c.report.ensures

@@ -5,7 +5,7 @@ use Rattle.om_session.proofs.AccountLemmas.{edits_account}
 use Rattle.om_session.proofs.top.edit_with.Goals as goal
 
 pub take_values-requires : goal.take_values-requires
-take_values-requires g c = (c.requires.ready, c.requires.in_time)
+take_values-requires g c = (c.holds.ensures, c.requires.in_time)
 
 pub returns : goal.returns
 returns g c = λ words before after asks.

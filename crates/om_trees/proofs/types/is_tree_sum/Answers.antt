@@ -6,7 +6,7 @@ use Rattle.om_trees.proofs.types.is_tree_sum.Goals as goal
 pub is_node_type-requires-clause-closed : goal.is_node_type-requires-clause-closed
 is_node_type-requires-clause-closed c =
     let nodes = c.args.table.now.nodes in
-    fields_inside (length nodes) nodes c.args.number c.args.constants c.index-blocks-0.result c.requires.lawful.closed
+    fields_inside (length nodes) nodes c.args.number c.args.constants c.index-blocks-0.result c.holds.ensures.lawful.closed
     (sum_at nodes c.args.number c.args.constants c.args.blocks.now c.index-blocks-0.result c.requires.shape c.if-blocks-ne1.false c.index-blocks-0.is)
 
 pub returns : goal.returns

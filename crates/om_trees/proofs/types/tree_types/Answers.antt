@@ -12,7 +12,7 @@ loop-number-preserved c =
 pub returns : goal.returns
 returns c =
     let table = c.args.table.now in
-    let many = c.len-number-end.ensures in
+    let many = c.count-number-end.ensures.nodes in
     let end : c.loop-number.number ≡ length table.nodes = omega (arith, many) in
     all_found table c.loop-number.found.items (c.loop-number.invariant.0 ∙ end)
     (subst (λ (n : ℕ). (t : ℕ) → t < n → IsTrue (get_or c.loop-number.found.items t false) ↔ IsTreeNumber table t) end c.loop-number.invariant.1)

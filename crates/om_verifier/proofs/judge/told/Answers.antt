@@ -6,7 +6,7 @@ use Rattle.om_verifier.proofs.judge.told.Goals as goal
 
 pub returns-in_ok-put-in-Yes : goal.returns-in_ok-put-in-Yes
 returns-in_ok-put-in-Yes c =
-    judged_yes c.args.requested.now c.requires.ready c.args.heap.now c.args.root c.args.section.now
+    judged_yes c.args.requested.now c.holds.ensures c.args.heap.now c.args.root c.args.section.now
     c.tables_decide.ensures.root c.tables_are_lawful.ensures c.tables_decide.ensures.decide
     c.args.verified.now c.in-Yes.is c.requires.verified c.of.result
     (c.of.ensures ∙ (c.in_ok-put-in-Yes.ensures
@@ -14,7 +14,7 @@ returns-in_ok-put-in-Yes c =
 
 pub returns-in_ok-put_why-in-Rejected : goal.returns-in_ok-put_why-in-Rejected
 returns-in_ok-put_why-in-Rejected c =
-    judged_rejected c.args.requested.now c.requires.ready c.args.heap.now c.args.root
+    judged_rejected c.args.requested.now c.holds.ensures c.args.heap.now c.args.root
     c.args.section.now c.args.verified.now c.in-Rejected.why c.in-Rejected.is c.requires.verified
     c.of-in-Rejected.result
     (c.of-in-Rejected.ensures ∙ (c.in_ok-put_why-in-Rejected.ensures

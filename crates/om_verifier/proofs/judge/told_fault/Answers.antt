@@ -1,24 +1,20 @@
 use Rattle.std.proofs.Common.{◌∙◌, ◌++◌, ◌∷◌, [], ap}
 use Rattle.std.specs.Prelude.{codes}
-use Rattle.om_declared.proofs.VerdictLemmas.{ready_lawful}
 use Rattle.om_verifier.proofs.JudgeLemmas.{stated, judged_no}
 use Rattle.om_verifier.proofs.judge.told_fault.Goals as goal
 
-pub fault_text-requires-clause-lawful : goal.fault_text-requires-clause-lawful
-fault_text-requires-clause-lawful c =
-    ready_lawful c.args.requested.now c.requires.ready c.tables_are_lawful.ensures
-
 pub fault_text-requires-clause-fault : goal.fault_text-requires-clause-fault
 fault_text-requires-clause-fault c =
-    stated c.args.requested.now c.requires.ready c.args.heap.now c.args.root c.args.section.now
-    c.args.fault.now c.requires.verified
+    rw c.table.ensures.same
+    (stated c.args.requested.now c.holds.ensures c.args.heap.now c.args.root c.args.section.now
+    c.args.fault.now c.requires.verified)
 
 pub returns : goal.returns
 returns c =
-    judged_no c.args.requested.now c.requires.ready c.args.heap.now c.args.root c.args.section.now
+    judged_no c.args.requested.now c.holds.ensures c.args.heap.now c.args.root c.args.section.now
     c.tables_decide.ensures.root c.tables_are_lawful.ensures c.tables_have_the_faults.ensures.all
     c.texts_are_of_types.ensures c.type_or_fault.ensures.never_both c.args.fault.now
-    c.requires.verified c.in_ok-why.why c.in_ok-why.ensures c.of.result
+    c.requires.verified c.in_ok-why.why (rw c.table.ensures.same at c.in_ok-why.ensures) c.of.result
     (c.of.ensures ∙ (c.in_ok-put-3.ensures
     ∙ ap (λ items. items ++ 10 ∷ [])
     (c.in_ok-put-2.ensures ∙ (ap (λ items. items ++ c.as_slice.result.now)

@@ -28,12 +28,12 @@ overflow_add-self g c =
     let few = lines_few s.requested.now s.held.items s.lines s.texts r.0 r.1 r.2 in
     let short = r.3 in omega (arith, few, short)
 
-pub put_line-requires-clause-few : goal.put_line-requires-clause-few
-put_line-requires-clause-few g c =
+pub put_line-requires : goal.put_line-requires
+put_line-requires g c =
     let s = c.args.self.now in
     let r = c.requires.has in
     let few = texts_few s.requested.now s.held.items s.lines s.texts r.0 r.1 r.2 in
-    let short = r.3 in omega (arith, few, short)
+    let short = r.3 in record { few = omega (arith, few, short) }
 
 pub returns-in_err-self-clause-takes : goal.returns-in_err-self-clause-takes
 returns-in_err-self-clause-takes g c =

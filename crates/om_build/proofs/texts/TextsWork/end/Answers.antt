@@ -16,12 +16,12 @@ overflow_add-self g c =
     c.requires.2 in
     let short = c.requires.3 in omega (arith, few, short)
 
-pub put_line-requires-clause-few : goal.put_line-requires-clause-few
-put_line-requires-clause-few g c =
+pub put_line-requires : goal.put_line-requires
+put_line-requires g c =
     let s = c.args.self.now in
     let few = texts_few s.requested.now s.held.items s.lines s.texts c.requires.0 c.requires.1
     c.requires.2 in
-    let short = c.requires.3 in omega (arith, few, short)
+    let short = c.requires.3 in record { few = omega (arith, few, short) }
 
 pub returns-in_err-put_line : goal.returns-in_err-put_line
 returns-in_err-put_line g c =

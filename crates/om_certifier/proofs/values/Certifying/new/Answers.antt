@@ -4,4 +4,4 @@ use Rattle.om_certifier.proofs.values.Certifying.new.Goals as goal
 pub returns-clause-has : goal.returns-clause-has
 returns-clause-has c =
     begins c.args.requested.now c.args.leasts.now c.args.limit c.new.result
-    c.requires.ready c.requires.leasts c.new.ensures.leads
+    c.holds.ensures c.requires.leasts c.new.ensures.leads

@@ -19,9 +19,6 @@ put_said-requires-clause-value g c =
     subst (λ r. Leads w.limit v.whole r) (sym c.replace-reader.ensures.value) v.leads in
     (c.finish-value.ensures w.limit v.whole leads).is_value.valid
 
-pub put_said-requires-clause-ready : goal.put_said-requires-clause-ready
-put_said-requires-clause-ready g c = c.requires.2.ready
-
 pub put_said-requires-clause-leasts : goal.put_said-requires-clause-leasts
 put_said-requires-clause-leasts g c = c.requires.2.least
 

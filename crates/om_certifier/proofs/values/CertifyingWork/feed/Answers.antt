@@ -3,7 +3,7 @@ use Rattle.om_edge.specs.State.{change}
 use Rattle.om_promises.proofs.PutLemmas.{puts_nothing}
 use Rattle.om_promises.proofs.ValueLemmas.{texts_of-one}
 use Rattle.om_work.proofs.PieceLemmas.{feeds_halt}
-use Rattle.om_declared.specs.declared.types.Requested.{Requested}
+use Rattle.om_declared.specs.declared.requested.Prepared.{Prepared}
 use Rattle.om_certifier.specs.Certified.{on_certified}
 use Rattle.om_certifier.specs.Reading.{certified, HasRead}
 use Rattle.om_certifier.proofs.ReadLemmas.{has_same, whole_read, few_read, some_taken, front_read, stops_in, stops_now, next_halts}
@@ -59,7 +59,7 @@ returns-after-fed-clause-feeds g c = λ reads.
             | then-fed+in_ok-put_value-in-Ok x ↦
                 let whole = whole_read w.requested.now w.leasts.now w.limit w.reader w.count w.well taken said h c.args.in_hand.now c.feed.new.self c.in-Ok.fed f x.if-fed.true in
                 let put = x.in_ok-put_value-in-Ok.ensures.puts (taken ++ take c.in-Ok.fed.taken c.args.in_hand.now) said whole in
-                (put.0 ∷ [], omega arith, rw (x.self-is) (has_same w.requested.now x.put_value.new.self.requested.now w.leasts.now x.put_value.new.self.leasts.now w.limit x.put_value.new.self.limit x.put_value.new.self.reader x.put_value.new.self.count x.put_value.new.self.well (taken ++ take c.in-Ok.fed.taken c.args.in_hand.now) (said ++ put.0 ∷ []) (sym (ap (λ (q : Bor Requested). q.now) x.in_ok-put_value-in-Ok.ensures.requested)) (sym (ap (λ (q : Bor (List ℕ)). q.now) x.in_ok-put_value-in-Ok.ensures.leasts)) (sym x.in_ok-put_value-in-Ok.ensures.limit) put.1), rw (x.out-is, texts_of-one put.0) put.2)
+                (put.0 ∷ [], omega arith, rw (x.self-is) (has_same w.requested.now x.put_value.new.self.requested.now w.leasts.now x.put_value.new.self.leasts.now w.limit x.put_value.new.self.limit x.put_value.new.self.reader x.put_value.new.self.count x.put_value.new.self.well (taken ++ take c.in-Ok.fed.taken c.args.in_hand.now) (said ++ put.0 ∷ []) (sym (ap (λ (q : Bor Prepared). q.now) x.in_ok-put_value-in-Ok.ensures.requested)) (sym (ap (λ (q : Bor (List ℕ)). q.now) x.in_ok-put_value-in-Ok.ensures.leasts)) (sym x.in_ok-put_value-in-Ok.ensures.limit) put.1), rw (x.out-is, texts_of-one put.0) put.2)
             | else-fed x ↦ (
               [],
               omega arith,

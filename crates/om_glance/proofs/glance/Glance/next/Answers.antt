@@ -8,12 +8,14 @@ use Rattle.om_pass.specs.State.{IsUnderway}
 use Rattle.om_pass.proofs.RunLemmas.{leads_longer}
 use Rattle.om_glance.proofs.glance.Glance.next.Goals as goal
 
-pub look-requires-clause-underway : goal.look-requires-clause-underway
-look-requires-clause-underway c = λ begun.
-    let p = c.args.self.now.passing in
-    let table = table_of c.args.table.now in
-    let longer : IsUnderway table c.args.limit (c.args.self.now.kept.items ++ c.args.piece.now) p = leads_longer table c.args.limit c.args.self.now.kept.items c.args.piece.now p.head p.start p.at p.marks.items p.notes.items p.state (c.requires.glance.underway begun) in
-    subst (λ bytes. IsUnderway table c.args.limit bytes p) (sym (c.as_slice.ensures.value ∙ c.in_ok-extend_from_slice.ensures.items)) longer
+pub look-requires : goal.look-requires
+look-requires c = record {
+  underway = λ begun.
+      let p = c.args.self.now.passing in
+      let table = table_of c.args.table.now in
+      let longer : IsUnderway table c.args.limit (c.args.self.now.kept.items ++ c.args.piece.now) p = leads_longer table c.args.limit c.args.self.now.kept.items c.args.piece.now p.head p.start p.at p.marks.items p.notes.items p.state (c.requires.glance.underway begun) in
+      subst (λ bytes. IsUnderway table c.args.limit bytes p) (sym (c.as_slice.ensures.value ∙ c.in_ok-extend_from_slice.ensures.items)) longer;
+}
 
 pub returns-in-More : goal.returns-in-More
 returns-in-More c =

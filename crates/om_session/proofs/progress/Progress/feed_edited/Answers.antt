@@ -14,15 +14,10 @@ use Rattle.om_session.proofs.progress.Progress.feed_edited.Goals as goal
 pub is_left_due-requires : goal.is_left_due-requires
 is_left_due-requires g c = let t = c.requires.has in (c.args.self.now.job, t.2.before, t.1, t.2.read)
 
-pub glimpse_unchanged-requires-clause-ready : goal.glimpse_unchanged-requires-clause-ready
-glimpse_unchanged-requires-clause-ready g c =
-    let p = c.args.self.now in
-    let t = c.requires.has in (ready_to_leave p.job c.args.edits c.args.limit c.requires.job p.values p.glance t.0 t.1 t.2).0
-
 pub glimpse_unchanged-requires-clause-glance : goal.glimpse_unchanged-requires-clause-glance
 glimpse_unchanged-requires-clause-glance g c =
     let p = c.args.self.now in
-    let t = c.requires.has in (ready_to_leave p.job c.args.edits c.args.limit c.requires.job p.values p.glance t.0 t.1 t.2).1
+    let t = c.requires.has in ready_to_leave p.job c.args.edits c.args.limit c.requires.job p.values p.glance t.0 t.1 t.2
 
 pub glimpse_unchanged-requires-clause-none : goal.glimpse_unchanged-requires-clause-none
 glimpse_unchanged-requires-clause-none g c = c.if-not-is_left_due.ensures.0

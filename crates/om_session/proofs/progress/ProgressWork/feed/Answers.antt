@@ -14,15 +14,10 @@ use Rattle.om_session.proofs.progress.ProgressWork.feed.Goals as goal
 pub is_due-requires : goal.is_due-requires
 is_due-requires g c = let t = c.requires.has in (c.args.self.now.job, t.2.before, t.1, t.2.read)
 
-pub glimpse-requires-clause-ready : goal.glimpse-requires-clause-ready
-glimpse-requires-clause-ready g c =
+pub glimpse-requires : goal.glimpse-requires
+glimpse-requires g c =
     let p = c.args.self.now in
-    let t = c.requires.has in (ready_to_look p.job c.in-Some.requested c.in-Some.limit c.in-Some.ensures p.values p.glance t.0 t.1 t.2).0
-
-pub glimpse-requires-clause-glance : goal.glimpse-requires-clause-glance
-glimpse-requires-clause-glance g c =
-    let p = c.args.self.now in
-    let t = c.requires.has in (ready_to_look p.job c.in-Some.requested c.in-Some.limit c.in-Some.ensures p.values p.glance t.0 t.1 t.2).1
+    let t = c.requires.has in record { glance = ready_to_look p.job c.in-Some.requested c.in-Some.limit c.in-Some.ensures p.values p.glance t.0 t.1 t.2 }
 
 pub take_seen-requires-clause-some : goal.take_seen-requires-clause-some
 take_seen-requires-clause-some g c = (rw c.in-Typed.is at c.in_ok-answer.ensures).some
@@ -90,7 +85,7 @@ returns-in-Typed-clause-feeds g c = λ reads.
     let seen = rw c.in-Typed.is at c.in_ok-answer.ensures in
     let look = ready_to_look p.job r limit c.in-Some.ensures p.values p.glance t.0 t.1 t.2 in
     seen_feeds p.job r limit c.in-Some.ensures p.values p.glance c.take_seen.new.self c.glimpse.new.glance c.args.in_hand.now (change (g.K.Sink.state c.args.out.now) (g.K.Sink.state c.take_seen.new.out)) c.take_seen.result
-    seen.none (seen.glance (table_of r.now.table) limit) (c.take_seen.ensures p.glance.kept.items look.1.bytes look.1.is_front seen.yes)
+    seen.none (seen.glance (table_of r.now.table) limit) (c.take_seen.ensures p.glance.kept.items look.bytes look.is_front seen.yes)
 
 pub returns-in-More-clause-feeds : goal.returns-in-More-clause-feeds
 returns-in-More-clause-feeds g c = λ reads.

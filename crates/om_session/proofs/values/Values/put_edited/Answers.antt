@@ -32,9 +32,6 @@ edit_value-requires-clause-served g c =
     subst (λ n. AreServed c.args.self.now.earlier.items (lines_of_value n lines)) (sym v.counted) (all_served lines (length v.trees) c.args.self.now.earlier.items v.kept.needed v.ready.1) in
     subst (λ (kept : List Earlier). AreServed kept (lines_of_value c.args.self.now.count lines)) (sym (c.as_slice.ensures.value ∙ c.make_room.ensures.items)) served
 
-pub edit_value-requires-clause-ready : goal.edit_value-requires-clause-ready
-edit_value-requires-clause-ready g c = c.requires.2.ready.0
-
 pub next_reader-requires-clause-room : goal.next_reader-requires-clause-room
 next_reader-requires-clause-room g c = c.in_ok-make_room.ensures.room
 

@@ -9,10 +9,10 @@ use Rattle.om_session.proofs.values.Values.put_line.Goals as goal
 pub overflow_add-self : goal.overflow_add-self
 overflow_add-self g c = let room = room_for_one (Say c.args.speech c.args.limit) c.requires.0 c.requires.1 c.args.self.now c.requires.2 c.requires.3 in omega (arith, room)
 
-pub put_said-requires-clause-value : goal.put_said-requires-clause-value
-put_said-requires-clause-value g c =
+pub put_said-requires : goal.put_said-requires
+put_said-requires g c =
     let v = c.requires.2 in
-    (c.lend-value.ensures c.args.limit v.whole v.leads).is_value.valid
+    record { value = (c.lend-value.ensures c.args.limit v.whole v.leads).is_value.valid }
 
 pub returns-in_err-well : goal.returns-in_err-well
 returns-in_err-well g c = λ taken said v.

@@ -11,13 +11,13 @@ overflow_add-self g c =
     let room = room_for_one w.requested.now w.sections.now w.limit w.reader w.count w.well q.0 q.1
     q.2 q.3 in omega (arith, room)
 
-pub put_shown-requires-clause-value : goal.put_shown-requires-clause-value
-put_shown-requires-clause-value g c =
+pub put_shown-requires : goal.put_shown-requires
+put_shown-requires g c =
     let w = c.args.self.now in
     let v = c.requires.2 in
     let leads : Leads w.limit v.whole c.replace-reader.result =
     subst (λ r. Leads w.limit v.whole r) (sym c.replace-reader.ensures.value) v.leads in
-    (c.finish-value.ensures w.limit v.whole leads).is_value.valid
+    record { value = (c.finish-value.ensures w.limit v.whole leads).is_value.valid }
 
 pub returns-in_err-well-clause-puts : goal.returns-in_err-well-clause-puts
 returns-in_err-well-clause-puts g c = λ taken said v.

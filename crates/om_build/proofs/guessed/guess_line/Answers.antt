@@ -1,0 +1,5 @@
+use Rattle.om_build.proofs.guessed.guess_line.Goals as goal
+
+pub is_right-requires-clause-spelled : goal.is_right-requires-clause-spelled
+is_right-requires-clause-spelled c =
+    rw c.table-table.ensures.same at (c.is_worth_it.ensures c.if-not-is_worth_it.false)
