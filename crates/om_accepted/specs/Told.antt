@@ -1,7 +1,8 @@
 -- What stands in a type, and that it is told among what stands where in a text.
 use Rattle.std.specs.Prelude.{◌≡◌, ℕ, List, [], ◌∷◌, ◌++◌, map, Contains}
 use Rattle.om_types.specs.Accepted.{types_of_body}
-use Rattle.om_types.specs.Occurrence.{Occurrence, PlacedItem, use_of, variable_at, bracket_of, DeclPlaces}
+use Rattle.om_types.specs.Occurrence.{Occurrence, PlacedItem, use_of, variable_at, bracket_of}
+use Rattle.om_types.specs.Occurrence.{DeclPlaces}
 use Rattle.om_types.specs.Ty.{Ty, variable, named, tuple, bracket, part, tag, tag_of, including}
 use Rattle.om_types.specs.Ty.{parts}
 

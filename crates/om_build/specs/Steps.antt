@@ -1,5 +1,6 @@
 -- What comes of a line, in code.
-use Rattle.std.specs.Prelude.{ℕ, ◌+◌, ◌≡◌, true, List, [], ◌∷◌, ◌++◌, length, Option, Some, None, Result, Ok, Err}
+use Rattle.std.specs.Prelude.{ℕ, ◌+◌, ◌≡◌, true, List, [], ◌∷◌, ◌++◌, length, Option, Some, None}
+use Rattle.std.specs.Prelude.{Result, Ok, Err}
 use Rattle.om_model.specs.declared.value.Val.{Val}
 use Rattle.om_model.specs.declared.value.Obj.{Obj}
 use Rattle.om_model.specs.Graph.{IsValue}
@@ -10,7 +11,8 @@ use Rattle.om_edge.specs.Sink.{Puts, PutsPart}
 use Rattle.om_edge.specs.State.{ByteState, Change}
 use Rattle.om_outcome.specs.Outcome.{Said, all_well}
 use Rattle.om_outcome.specs.declared.stop.Stop.{Stop}
-use Rattle.om_outcome.specs.declared.stop.Stop.TheVariants.{Text as text_line, Untyped as untyped_value}
+use Rattle.om_outcome.specs.declared.stop.Stop.TheVariants.{Text as text_line}
+use Rattle.om_outcome.specs.declared.stop.Stop.TheVariants.{Untyped as untyped_value}
 use Rattle.om_stops.specs.declared.stop.Halt.{Halt}
 use Rattle.om_stops.specs.declared.stop.Halt.TheVariants as halts
 use Rattle.om_promises.specs.Commands.{Item, SaysFirst}
@@ -22,7 +24,8 @@ use Rattle.om_declared.specs.Checked.{OrMemory}
 use Rattle.om_declared.specs.Language.{TypeOver, declared_types}
 use Rattle.om_declared.specs.Types.{type_over, IsReady}
 use Rattle.om_declared.specs.declared.requested.Prepared.{Prepared}
-use Rattle.om_texts.specs.Texts.{Built, blank, made, refused, untyped, counted, IsUnbroken, IsSaidOf, AreTexts, building}
+use Rattle.om_texts.specs.Texts.{Built, blank, made, refused, untyped, counted, IsUnbroken}
+use Rattle.om_texts.specs.Texts.{IsSaidOf, AreTexts, building}
 use Rattle.om_build.specs.Lines.{declared_texts, plain_texts, IsText}
 
 -- the text of a fault, where places are told so; want of memory has none

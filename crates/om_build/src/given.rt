@@ -2,7 +2,9 @@
 
 ghost use Rattle.std.specs.Prelude.{◌≡◌, ◌^◌, IfOk};
 ghost use Rattle.om_decimal_texts.specs.Plain.{given_place as place_in_line, AreWithin};
-ghost use Rattle.om_build.specs.Given.{given_lexer as lexer_in_line, given_literal as literal_in_line, given_fault as fault_in_line};
+ghost use Rattle.om_build.specs.Given.{given_lexer as lexer_in_line};
+ghost use Rattle.om_build.specs.Given.{given_literal as literal_in_line};
+ghost use Rattle.om_build.specs.Given.{given_fault as fault_in_line};
 
 use om_decimal_texts::{Decimal, given_place};
 use om_lex::lexeme::LexFault;

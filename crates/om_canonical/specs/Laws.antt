@@ -4,7 +4,8 @@ use Rattle.om_model.specs.declared.value.Val.{Val}
 use Rattle.om_model.specs.declared.value.Obj.{Obj}
 use Rattle.om_model.specs.declared.value.Obj.TheVariants as objects
 use Rattle.om_model.specs.Graph.{IsValue, IsGraph}
-use Rattle.om_format.specs.Token.{Token, integer, atom, shared, block, leaf, IsToken, measure_of, Spells}
+use Rattle.om_format.specs.Token.{Token, integer, atom, shared, block, leaf, IsToken, measure_of}
+use Rattle.om_format.specs.Token.{Spells}
 use Rattle.om_format.specs.Words.{all_words64}
 use Rattle.om_format.specs.Spelled.{SpelledUnder}
 use Rattle.om_format.specs.Canonical.{spelling, data_spelling, canon}

@@ -1,11 +1,13 @@
 -- What each status means at commands that read their input, by tables: of the words and the files,
 -- and of the input. Where the tables are exact, each status has its cause, and each cause its
 -- status.
-use Rattle.std.specs.Prelude.{ℕ, ◌^◌, ◌<◌, ◌≡◌, ◌≢◌, ◌↔◌, ◌⊎◌, List, length, take, Some, IfSome, Ok, Err}
+use Rattle.std.specs.Prelude.{ℕ, ◌^◌, ◌<◌, ◌≡◌, ◌≢◌, ◌↔◌, ◌⊎◌, List, length, take, Some, IfSome, Ok}
+use Rattle.std.specs.Prelude.{Err}
 use Rattle.om_model.specs.Bytes.{AreBytes}
 use Rattle.om_outcome.specs.declared.status.Status.{Status}
 use Rattle.om_outcome.specs.declared.status.Status.TheVariants.{Usage, ReadFault, Memory, TooLong}
-use Rattle.om_outcome.specs.Outcome.{whole, opened, Request, Asks, IsUsage, status_of, ending_of, Replies}
+use Rattle.om_outcome.specs.Outcome.{whole, opened, Request, Asks, IsUsage, status_of, ending_of}
+use Rattle.om_outcome.specs.Outcome.{Replies}
 use Rattle.om_outcome.specs.declared.stop.Stop.{Stop}
 use Rattle.om_outcome.specs.declared.stop.Stop.TheVariants.{BadPath as bad_path}
 use Rattle.om_edge.specs.Files.{File, contents_of}

@@ -1,6 +1,7 @@
 //! Which objects pairs hold, and at which types.
 
-ghost use Rattle.std.specs.Prelude.{ℕ, ◌≡◌, ◌<◌, ◌≤◌, ◌+◌, ◌↔◌, length, slice_get, Some, IsTrue, IfOk};
+ghost use Rattle.std.specs.Prelude.{ℕ, ◌≡◌, ◌<◌, ◌≤◌, ◌+◌, ◌↔◌, length, slice_get, Some, IsTrue};
+ghost use Rattle.std.specs.Prelude.{IfOk};
 ghost use Rattle.std.specs.Bool.{OnTrue};
 ghost use Rattle.om_model.specs.Graph.{IsValue};
 ghost use Rattle.om_model.specs.declared.value.Val.{Val};
@@ -9,7 +10,8 @@ ghost use Rattle.om_types.specs.Typing.{IsHeld};
 ghost use Rattle.om_type_table.specs.Made.{table_of};
 ghost use Rattle.om_heap.specs.Heap.{word_of, IsFieldWord};
 ghost use Rattle.om_scan.specs.Fitting.{table_in};
-ghost use Rattle.om_cert.specs.Testing.{IsStart, IsPassing, IsSame, IsCrowd, IsAmongAt, IsSettled, IsElsewhere};
+ghost use Rattle.om_cert.specs.Testing.{IsStart, IsPassing, IsSame, IsCrowd, IsAmongAt, IsSettled};
+ghost use Rattle.om_cert.specs.Testing.{IsElsewhere};
 
 use crate::stated::Stated;
 use om_model::Memory;

@@ -1,6 +1,9 @@
 //! The laws, as contracts.
 
-ghost use Rattle.om_cert.specs.Laws.{PairsGiveTheType, PairsHoldWhatPathsReach, PathsRefuteTheType, SamePairsAreAccepted, NormalPairsAreOne, RejectedAreNotAccepted, AnswersAreOne, ReachedAreAccepted, ReachedAreOne};
+ghost use Rattle.om_cert.specs.Laws.{PairsGiveTheType, PairsHoldWhatPathsReach, PathsRefuteTheType};
+ghost use Rattle.om_cert.specs.Laws.{SamePairsAreAccepted, NormalPairsAreOne};
+ghost use Rattle.om_cert.specs.Laws.{RejectedAreNotAccepted, AnswersAreOne, ReachedAreAccepted};
+ghost use Rattle.om_cert.specs.Laws.{ReachedAreOne};
 
 /// A value has the type where pairs are accepted for it, and they hold all that paths reach; it
 /// has not where paths are.

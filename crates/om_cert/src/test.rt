@@ -6,7 +6,8 @@ ghost use Rattle.om_types.specs.Table.{typed_fields};
 ghost use Rattle.om_heap.specs.Heap.{word_of};
 ghost use Rattle.om_fits.specs.Needs.{needs_in};
 ghost use Rattle.om_scan.specs.Fitting.{table_in};
-ghost use Rattle.om_cert.specs.Testing.{IsCrowd, HoldsAll, IsFirstLack, IsRightAt, AreRight, IsFirstAt};
+ghost use Rattle.om_cert.specs.Testing.{IsCrowd, HoldsAll, IsFirstLack, IsRightAt, AreRight};
+ghost use Rattle.om_cert.specs.Testing.{IsFirstAt};
 
 use crate::held::{is_elsewhere, is_held};
 use crate::stated::Stated;

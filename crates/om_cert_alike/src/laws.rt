@@ -1,6 +1,7 @@
 //! The laws. Each function does nothing: what it ensures is the law.
 
-ghost use Rattle.om_cert_alike.specs.Alike.{ReachedTypesAreOne, AnswersAtAreOne, ReachedPairsAreOne};
+ghost use Rattle.om_cert_alike.specs.Alike.{ReachedTypesAreOne, AnswersAtAreOne};
+ghost use Rattle.om_cert_alike.specs.Alike.{ReachedPairsAreOne};
 
 /// The types that a type reaches are one list.
 pub fn types_are_one_list()

@@ -6,7 +6,8 @@ use Rattle.om_format.specs.Stream.{SpellAll}
 use Rattle.om_format.specs.Tree.{Tree}
 use Rattle.om_outcome.specs.declared.status.Status.TheVariants.{Well, No, Memory}
 use Rattle.om_outcome.specs.CommandLine.{reading_of}
-use Rattle.om_outcome.specs.Outcome.{Request, all_under, asked_type, own, verify, Asks, the_verdict, tells, Said, texts_of, AllSay}
+use Rattle.om_outcome.specs.Outcome.{Request, all_under, asked_type, own, verify, Asks, the_verdict}
+use Rattle.om_outcome.specs.Outcome.{tells, Said, texts_of, AllSay}
 use Rattle.om_edge.specs.Files.{File, contents_of}
 use Rattle.om_edge.specs.Sink.{Puts}
 use Rattle.om_promises.specs.Call.{Call, HasPut}

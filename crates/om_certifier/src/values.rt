@@ -7,7 +7,8 @@ ghost use Rattle.om_certify.specs.Leasts.{AreLeasts};
 ghost use Rattle.om_outcome.specs.Outcome.{Said};
 ghost use Rattle.om_edge.specs.State.{change};
 ghost use Rattle.om_declared.specs.Types.{type_over};
-ghost use Rattle.om_certifier.specs.Reading.{HasRead, IsValueRead, PutsSection, PutsNext, certified};
+ghost use Rattle.om_certifier.specs.Reading.{HasRead, IsValueRead, PutsSection, PutsNext};
+ghost use Rattle.om_certifier.specs.Reading.{certified};
 
 use crate::line::{is_yes, value_section};
 use om_certify::Leasts;

@@ -1,5 +1,6 @@
 -- The visits of a check, and what is noted of the objects that they are of.
-use Rattle.std.specs.Prelude.{ℕ, suc, ◌≡◌, ◌⊎◌, ◌<◌, List, [], ◌∷◌, ◌++◌, length, IsTrue, Option, Some, slice_get}
+use Rattle.std.specs.Prelude.{ℕ, suc, ◌≡◌, ◌⊎◌, ◌<◌, List, [], ◌∷◌, ◌++◌, length, IsTrue, Option}
+use Rattle.std.specs.Prelude.{Some, slice_get}
 use Rattle.std.specs.BTreeSet.{contains}
 use Rattle.om_types.specs.Table.{Table}
 use Rattle.om_scan.specs.Seconds.{pair_cmp}

@@ -1,6 +1,7 @@
 //! The typing that a scan tells: the pairs to which paths lead.
 
-ghost use Rattle.std.specs.Prelude.{ℕ, ◌≡◌, ◌<◌, [], ◌∷◌, ◌++◌, length, IsTrue, IfOk, OnOk, Contains};
+ghost use Rattle.std.specs.Prelude.{ℕ, ◌≡◌, ◌<◌, [], ◌∷◌, ◌++◌, length, IsTrue, IfOk, OnOk};
+ghost use Rattle.std.specs.Prelude.{Contains};
 ghost use Rattle.om_types.specs.Fitting.{numbered_from};
 ghost use Rattle.om_types.specs.Table.{is_asked_in};
 ghost use Rattle.om_type_table.specs.Made.{table_of};

@@ -4,7 +4,8 @@
 ghost use Rattle.std.specs.Prelude.{◌≡◌, ◌<◌, ◌↔◌, length, Some, All, IsTrue, MatchOption};
 ghost use Rattle.om_type_table.specs.Made.{table_of};
 ghost use Rattle.om_check.specs.Visits.{listed, AreLinked};
-ghost use Rattle.om_check.specs.Clash.{mutable_at, IsWithin, AreApart, ClashesBack, IsFirstOf, NoneClash, IsFirstClash};
+ghost use Rattle.om_check.specs.Clash.{mutable_at, IsWithin, AreApart, ClashesBack, IsFirstOf};
+ghost use Rattle.om_check.specs.Clash.{NoneClash, IsFirstClash};
 
 use crate::visits::{Visit, Visits};
 use om_fits::is_mutable;

@@ -1,6 +1,7 @@
 //! The visits of a trail from the first one on whose numbers are not tiny.
 
-ghost use Rattle.std.specs.Prelude.{◌≡◌, ◌+◌, ◌^◌, ◌<◌, ◌≤◌, ◌↔◌, [], ◌∷◌, ◌++◌, length, slice_get, Some, vec_len, OnOk, IsTrue};
+ghost use Rattle.std.specs.Prelude.{◌≡◌, ◌+◌, ◌^◌, ◌<◌, ◌≤◌, ◌↔◌, [], ◌∷◌, ◌++◌, length, slice_get};
+ghost use Rattle.std.specs.Prelude.{Some, vec_len, OnOk, IsTrue};
 ghost use Rattle.om_check.specs.Rest.{visits_in, widened, IsShort};
 
 use crate::visits::Visit;

@@ -1,6 +1,7 @@
 //! Breadth first, each object is taken once at each class, and what it needs there is tested.
 
-ghost use Rattle.std.specs.Prelude.{ℕ, ◌≡◌, ◌≢◌, ◌<◌, ◌≤◌, ◌+◌, ◌%◌, ◌↔◌, length, All, IfOk, OnOk, IsTrue, Some, slice_get};
+ghost use Rattle.std.specs.Prelude.{ℕ, ◌≡◌, ◌≢◌, ◌<◌, ◌≤◌, ◌+◌, ◌%◌, ◌↔◌, length, All, IfOk, OnOk};
+ghost use Rattle.std.specs.Prelude.{IsTrue, Some, slice_get};
 ghost use Rattle.std.specs.Bool.{OnTrue};
 ghost use Rattle.om_model.specs.declared.value.Val.{Val};
 ghost use Rattle.om_model.specs.declared.value.Val.TheVariants as vals;
@@ -15,7 +16,8 @@ ghost use Rattle.om_scan.specs.Scanned as scans;
 ghost use Rattle.om_scan.specs.Scanned.{AreTaken, IsSeen, IsSeenObject, left_of};
 ghost use Rattle.om_check.specs.Visits.{listed, AreLinked};
 ghost use Rattle.om_check.specs.Explored.{IsExplored};
-ghost use Rattle.om_check.specs.Search.{FitAll, TestsNeed, TestsVisit, Searches, AreSeen, cost_at, is_taken, visit_fields};
+ghost use Rattle.om_check.specs.Search.{FitAll, TestsNeed, TestsVisit, Searches, AreSeen, cost_at};
+ghost use Rattle.om_check.specs.Search.{is_taken, visit_fields};
 
 use crate::visits::{Visit, Visits, is_at};
 use om_fits::{Needs, is_asked, known_needs};

@@ -1,6 +1,7 @@
 //! Objects that a scan noted at second classes: what is below each of them there is tested.
 
-ghost use Rattle.std.specs.Prelude.{ℕ, ◌≡◌, ◌<◌, ◌≤◌, ◌+◌, length, Some, slice_get, IfOk, IfSome, ◌^◌, IsTrue};
+ghost use Rattle.std.specs.Prelude.{ℕ, ◌≡◌, ◌<◌, ◌≤◌, ◌+◌, length, Some, slice_get, IfOk, IfSome};
+ghost use Rattle.std.specs.Prelude.{◌^◌, IsTrue};
 ghost use Rattle.std.specs.Bool.{OnTrue};
 ghost use Rattle.om_model.specs.declared.value.Val.TheVariants as vals;
 ghost use Rattle.om_heap.specs.Heap.{field_at, word_of};
@@ -11,7 +12,8 @@ ghost use Rattle.om_scan.specs.Paths.{HasPath};
 ghost use Rattle.om_scan.specs.Seconds.{noted_in};
 ghost use Rattle.om_scan.specs.Taken.{size_of};
 ghost use Rattle.om_scan.specs.Scanned.{object_typed};
-ghost use Rattle.om_check.specs.Settled.{AreOver, IsSettling, Finds, FindsNeeds, Settles, IsSettled, cost_of_pairs};
+ghost use Rattle.om_check.specs.Settled.{AreOver, IsSettling, Finds, FindsNeeds, Settles};
+ghost use Rattle.om_check.specs.Settled.{IsSettled, cost_of_pairs};
 
 use om_fits::{Needs, is_asked, is_mutable, known_needs};
 use om_heap::Heap;

@@ -1,6 +1,7 @@
 //! Visits in a row that take little room while their numbers are small.
 
-ghost use Rattle.std.specs.Prelude.{◌≡◌, ◌+◌, ◌^◌, ◌<◌, ◌↔◌, [], ◌∷◌, ◌++◌, length, slice_get, Some, vec_len, OnOk, IsTrue};
+ghost use Rattle.std.specs.Prelude.{◌≡◌, ◌+◌, ◌^◌, ◌<◌, ◌↔◌, [], ◌∷◌, ◌++◌, length, slice_get};
+ghost use Rattle.std.specs.Prelude.{Some, vec_len, OnOk, IsTrue};
 ghost use Rattle.om_check.specs.Trail.{trail_of, enlarged, IsTiny};
 
 use crate::rest::Rest;

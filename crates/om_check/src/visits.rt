@@ -1,6 +1,7 @@
 //! The objects that a check has met, each at a type, in the order in which it meets them.
 
-ghost use Rattle.std.specs.Prelude.{suc, ◌≡◌, ◌<◌, ◌^◌, ◌↔◌, ◌∷◌, [], length, All, Some, slice_get, slice_index, IfOk, OnOk, IsTrue};
+ghost use Rattle.std.specs.Prelude.{suc, ◌≡◌, ◌<◌, ◌^◌, ◌↔◌, ◌∷◌, [], length, All, Some, slice_get};
+ghost use Rattle.std.specs.Prelude.{slice_index, IfOk, OnOk, IsTrue};
 ghost use Rattle.std.specs.Bool.{OnTrue};
 ghost use Rattle.om_type_table.specs.Made.{table_of};
 ghost use Rattle.om_check.specs.Visits.{listed, AreLinked, IsAppended, Enters};

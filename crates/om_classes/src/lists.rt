@@ -1,6 +1,7 @@
 //! Lists of numbers, one for each class or for each number.
 
-ghost use Rattle.std.specs.Prelude.{◌≡◌, ◌<◌, ◌≤◌, ◌↔◌, IsTrue, length, vec_len, slice_index, IfOk, OnOk};
+ghost use Rattle.std.specs.Prelude.{◌≡◌, ◌<◌, ◌≤◌, ◌↔◌, IsTrue, length, vec_len, slice_index, IfOk};
+ghost use Rattle.std.specs.Prelude.{OnOk};
 ghost use Rattle.om_classes.specs.Lists.{IsPut, IsTaken, HasRooms, IsOfClass, IsShorter};
 
 use crate::set::as_set;

@@ -1,6 +1,7 @@
 //! The numbers of a class that are looked at, by their signs.
 
-ghost use Rattle.std.specs.Prelude.{ℕ, ◌≡◌, ◌<◌, ◌⊎◌, List, length, slice_index, IfOk, OnOk, Contains};
+ghost use Rattle.std.specs.Prelude.{ℕ, ◌≡◌, ◌<◌, ◌⊎◌, List, length, slice_index, IfOk, OnOk};
+ghost use Rattle.std.specs.Prelude.{Contains};
 ghost use Rattle.om_store.specs.Held.{AreDistinct, Grows};
 ghost use Rattle.om_classes.specs.Parting.{IsLook, SignAt, IsSignOf};
 

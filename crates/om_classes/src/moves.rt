@@ -1,6 +1,7 @@
 //! A class that is parted.
 
-ghost use Rattle.std.specs.Prelude.{ℕ, ◌≡◌, ◌≢◌, ◌<◌, ◌+◌, List, length, vec_len, slice_index, IfOk, OnOk, All};
+ghost use Rattle.std.specs.Prelude.{ℕ, ◌≡◌, ◌≢◌, ◌<◌, ◌+◌, List, length, vec_len, slice_index};
+ghost use Rattle.std.specs.Prelude.{IfOk, OnOk, All};
 ghost use Rattle.std.specs.Global.{Vec as Items};
 ghost use Rattle.om_store.specs.Held.{AreDistinct, Grows};
 ghost use Rattle.om_classes.specs.Lists.{Has, Keeps};

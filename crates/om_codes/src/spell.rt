@@ -3,7 +3,8 @@
 ghost use Rattle.std.specs.Prelude.{◌≡◌, ◌<◌, ◌≤◌, ◌^◌, ◌∷◌, take};
 ghost use Rattle.std.specs.Int.{bytes_high_first};
 ghost use Rattle.om_model.specs.Graph.{IsInteger};
-ghost use Rattle.om_format.specs.Canonical.{integer_spelling, block_spelling, string_front, shared_spelling, doubles_front};
+ghost use Rattle.om_format.specs.Canonical.{integer_spelling, block_spelling, string_front};
+ghost use Rattle.om_format.specs.Canonical.{shared_spelling, doubles_front};
 
 /// An integer of 63 bits (`extern_int`).
 #[tactic(auto, unfolding(om_format::specs::Canonical::integer_spelling))]

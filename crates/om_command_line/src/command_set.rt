@@ -3,7 +3,8 @@
 ghost use Rattle.std.specs.Prelude.{◌≡◌, IfOk, false};
 ghost use Rattle.clap.specs.Words.{app_of, rule_of};
 ghost use Rattle.om_outcome.specs.CommandLine.{rule_for, command_set as the_command_set};
-ghost use Rattle.om_command_line.specs.Commands.{AddsMade, Tells, app_with, argument_of, program as the_program, program_with};
+ghost use Rattle.om_command_line.specs.Commands.{AddsMade, Tells, app_with, argument_of};
+ghost use Rattle.om_command_line.specs.Commands.{program as the_program, program_with};
 
 use clap::builder::ValueParser;
 use clap::{Arg, ArgAction, Command};

@@ -4,7 +4,10 @@ ghost use Rattle.std.specs.Prelude.{◌≡◌, ◌≢◌, option_map};
 ghost use Rattle.clap.specs.Words.{kind_of};
 ghost use Rattle.clap.specs.declared.error.kind.ErrorKind.TheVariants as kinds;
 ghost use Rattle.om_command_line.specs.declared.read.Unread.TheVariants as unreads;
-ghost use Rattle.om_command_line.specs.Requests.{arguments_of, check_asks, choice_in, choosing_in, flag_in, given_in, if_whole, number_in, reading_in, request_of, style_in, texts, word_in, ReadsAsked, ReadsBy, ReadsMet, ReadsWords};
+ghost use Rattle.om_command_line.specs.Requests.{arguments_of, check_asks, choice_in, choosing_in};
+ghost use Rattle.om_command_line.specs.Requests.{flag_in, given_in, if_whole, number_in};
+ghost use Rattle.om_command_line.specs.Requests.{reading_in, request_of, style_in, texts, word_in};
+ghost use Rattle.om_command_line.specs.Requests.{ReadsAsked, ReadsBy, ReadsMet, ReadsWords};
 
 use crate::command_set::command_set;
 use clap::error::ErrorKind;

@@ -1,5 +1,6 @@
 -- The data of a `Nativeint` (`ints.c`).
-use Rattle.std.specs.Prelude.{ℕ, ◌+◌, ◌-◌, ◌<◌, ◌≤◌, ◌≡◌, ◌==◌, nat_lt, List, [], ◌∷◌, length, take, drop, slice_index, if◌then◌else◌}
+use Rattle.std.specs.Prelude.{ℕ, ◌+◌, ◌-◌, ◌<◌, ◌≤◌, ◌≡◌, ◌==◌, nat_lt, List, [], ◌∷◌, length, take}
+use Rattle.std.specs.Prelude.{drop, slice_index, if◌then◌else◌}
 use Rattle.om_customs.specs.declared.native.NativeStep.{NativeStep}
 use Rattle.om_customs.specs.declared.native.NativeStep.TheVariants.{More, Value, BadNative}
 use Rattle.om_model.specs.Bytes.{signed}

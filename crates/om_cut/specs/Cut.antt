@@ -1,11 +1,13 @@
 -- The part of a token at the end of the bytes.
-use Rattle.std.specs.Prelude.{ℕ, ◌+◌, ◌<◌, ◌≤◌, ◌≡◌, false, List, [], ◌∷◌, length, take, Option, None}
+use Rattle.std.specs.Prelude.{ℕ, ◌+◌, ◌<◌, ◌≤◌, ◌≡◌, false, List, [], ◌∷◌, length, take, Option}
+use Rattle.std.specs.Prelude.{None}
 use Rattle.om_model.specs.declared.code.CodeKind.{CodeKind}
 use Rattle.om_model.specs.declared.code.Measure.{Measure}
 use Rattle.om_format.specs.Code.{custom_of}
 use Rattle.om_format.specs.Raw.{fixed_bytes, field_bytes, variable_bytes, measure_after, IsPart}
 use Rattle.om_format.specs.Words.{of_object, fields}
-use Rattle.om_format.specs.Step.{Context, step, overlong, first_refusal, field_refusal, variable_steps, steps_after, token_steps}
+use Rattle.om_format.specs.Step.{Context, step, overlong, first_refusal, field_refusal}
+use Rattle.om_format.specs.Step.{variable_steps, steps_after, token_steps}
 
 -- at this place a value is to come, and what the header states has room for a token of n bytes, for
 -- a byte of each other value to come, and for so many words

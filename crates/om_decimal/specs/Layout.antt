@@ -1,6 +1,8 @@
 -- The text of a double: of a finite one as a decimal, which is a literal of OCaml's reference
 -- manual.
-use Rattle.std.specs.Prelude.{ℕ, ◌+◌, ◌-◌, ◌≤◌, ◌≡◌, ◌⊎◌, Bool, true, false, nat_lt, nat_le, if◌then◌else◌, List, [], ◌∷◌, ◌++◌, length, take, drop, replicate, codes}
+use Rattle.std.specs.Prelude.{ℕ, ◌+◌, ◌-◌, ◌≤◌, ◌≡◌, ◌⊎◌, Bool, true, false, nat_lt, nat_le}
+use Rattle.std.specs.Prelude.{if◌then◌else◌, List, [], ◌∷◌, ◌++◌, length, take, drop, replicate}
+use Rattle.std.specs.Prelude.{codes}
 use Rattle.std.specs.Fmt.{decimal, sign_text}
 use Rattle.om_leaves.specs.Leaves.{float_text}
 use Rattle.om_decimal.specs.Doubles.{is_negative, size_of, infinite, IsSome, IsShortest, HasNone}

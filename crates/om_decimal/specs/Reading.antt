@@ -1,5 +1,7 @@
 -- Decimals in a text, and the doubles that they stand for.
-use Rattle.std.specs.Prelude.{ℕ, ◌+◌, ◌≡◌, ◌≢◌, Bool, false, ◌&&◌, ◌||◌, ◌==◌, nat_lt, if◌then◌else◌, List, [], ◌∷◌, ◌++◌, length, drop, slice_index, Option, Some, None, to_bits}
+use Rattle.std.specs.Prelude.{ℕ, ◌+◌, ◌≡◌, ◌≢◌, Bool, false, ◌&&◌, ◌||◌, ◌==◌, nat_lt}
+use Rattle.std.specs.Prelude.{if◌then◌else◌, List, [], ◌∷◌, ◌++◌, length, drop, slice_index, Option}
+use Rattle.std.specs.Prelude.{Some, None, to_bits}
 use Rattle.std.specs.Char.{is_ascii_digit}
 use Rattle.std.specs.Float.Ieee.{binary64}
 use Rattle.fast_float.specs.Text.{Parts, scan, nearest}

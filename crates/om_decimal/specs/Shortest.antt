@@ -1,5 +1,7 @@
 -- The shortest decimal of a double, by a search of all decimals, and the double's text.
-use Rattle.std.specs.Prelude.{ℕ, zero, suc, ◌+◌, ◌-◌, ◌*◌, ◌%◌, ◌^◌, Bool, false, ◌&&◌, ◌==◌, nat_lt, nat_le, if◌then◌else◌, List, ◌++◌, codes, Option, Some, None, to_bits}
+use Rattle.std.specs.Prelude.{ℕ, zero, suc, ◌+◌, ◌-◌, ◌*◌, ◌%◌, ◌^◌, Bool, false, ◌&&◌, ◌==◌}
+use Rattle.std.specs.Prelude.{nat_lt, nat_le, if◌then◌else◌, List, ◌++◌, codes, Option, Some, None}
+use Rattle.std.specs.Prelude.{to_bits}
 use Rattle.std.specs.Float.Ieee.{binary64, round}
 use Rattle.std.specs.Fmt.{sign_text}
 use Rattle.om_leaves.specs.Leaves.{float_text}

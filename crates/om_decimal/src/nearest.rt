@@ -2,7 +2,8 @@
 
 ghost use Rattle.std.specs.Prelude.{◌≡◌, ◌*◌, ◌+◌, ◌-◌, ◌<◌, ◌^◌, true, false};
 ghost use Rattle.std.specs.Ordering.{nat_cmp};
-ghost use Rattle.om_decimal.specs.Doubles.{Reads, units_of, double_units, decimal_units, IsNoBetterAbove, IsNoBetterBelow};
+ghost use Rattle.om_decimal.specs.Doubles.{Reads, units_of, double_units, decimal_units};
+ghost use Rattle.om_decimal.specs.Doubles.{IsNoBetterAbove, IsNoBetterBelow};
 
 use crate::big::Big;
 use crate::reads::{BIAS, reads};

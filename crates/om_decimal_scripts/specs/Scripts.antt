@@ -1,6 +1,7 @@
 -- A script in which decimals may stand for doubles. Each line is read as its plain text, and each
 -- place in what is read is the one in the line that was given.
-use Rattle.std.specs.Prelude.{ℕ, ◌-◌, ◌^◌, ◌≡◌, nat_lt, if◌then◌else◌, List, [], map, slice_index_or, Ok, Err, Result}
+use Rattle.std.specs.Prelude.{ℕ, ◌-◌, ◌^◌, ◌≡◌, nat_lt, if◌then◌else◌, List, [], map}
+use Rattle.std.specs.Prelude.{slice_index_or, Ok, Err, Result}
 use Rattle.std.specs.List.{join_with_byte}
 use Rattle.om_lex.specs.declared.lexeme.Lexeme.{Lexeme}
 use Rattle.om_lex.specs.declared.lexeme.LexFault.{LexFault}

@@ -2,7 +2,9 @@
 
 ghost use Rattle.std.specs.Prelude.{◌≡◌, map, IfOk};
 ghost use Rattle.std.specs.List.{All};
-ghost use Rattle.om_decimal_scripts.specs.Scripts.{line_place, decimals_on, given_lexeme, given_lex, given_edit, given_fault, given_action, given_line};
+ghost use Rattle.om_decimal_scripts.specs.Scripts.{line_place, decimals_on, given_lexeme};
+ghost use Rattle.om_decimal_scripts.specs.Scripts.{given_lex, given_edit, given_fault};
+ghost use Rattle.om_decimal_scripts.specs.Scripts.{given_action, given_line};
 ghost use Rattle.om_decimal_scripts.specs.Plain.{Fit};
 
 use om_decimal_texts::{Decimal, given_place};

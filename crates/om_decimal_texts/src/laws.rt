@@ -1,6 +1,7 @@
 //! The laws, as contracts. The functions do nothing: what each ensures is the law.
 
-ghost use Rattle.om_decimal_texts.specs.Laws.{DecimalsAreByLexemes, DecimalsStayOnOneLine, TextsAreReadBack};
+ghost use Rattle.om_decimal_texts.specs.Laws.{DecimalsAreByLexemes, DecimalsStayOnOneLine};
+ghost use Rattle.om_decimal_texts.specs.Laws.{TextsAreReadBack};
 
 /// Decimals are put by the text's lexemes, and a text that has none stays as it is.
 pub fn decimals_are_by_lexemes()

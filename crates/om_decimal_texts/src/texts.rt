@@ -5,7 +5,8 @@ ghost use Rattle.std.specs.Str.{bytes_eq};
 ghost use Rattle.om_leaves.specs.Leaves.{float_text};
 ghost use Rattle.om_lex.specs.LexText.{SpansWithin};
 ghost use Rattle.om_lex.specs.declared.lexeme.LexemeKind.TheVariants as kinds;
-ghost use Rattle.om_decimal_texts.specs.Texts.{may_precede, may_follow, put_for, replaced, decimal_text};
+ghost use Rattle.om_decimal_texts.specs.Texts.{may_precede, may_follow, put_for, replaced};
+ghost use Rattle.om_decimal_texts.specs.Texts.{decimal_text};
 
 use om_decimal::put_double;
 use om_leaves::put;

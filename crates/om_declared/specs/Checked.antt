@@ -1,7 +1,8 @@
 -- The test that a value has the type.
 use Rattle.std.specs.Prelude.{ℕ, ◌≡◌, ◌⊎◌, List, Result, Ok, Err}
 use Rattle.om_outcome.specs.declared.stop.Stop.{Stop}
-use Rattle.om_outcome.specs.declared.stop.Stop.TheVariants.{Untyped as untyped_value, Memory as out_of_memory}
+use Rattle.om_outcome.specs.declared.stop.Stop.TheVariants.{Untyped as untyped_value}
+use Rattle.om_outcome.specs.declared.stop.Stop.TheVariants.{Memory as out_of_memory}
 use Rattle.om_model.specs.declared.value.Val.{Val}
 use Rattle.om_model.specs.declared.value.Obj.{Obj}
 use Rattle.om_types.specs.Equal.{declared_shapes}

@@ -1,6 +1,8 @@
 -- The language of declared types: FILE has declarations, TYPE is a type over them, and SCRIPT is a
 -- list of edits.
-use Rattle.std.specs.Prelude.{ℕ, ◌≤◌, ◌≡◌, ◌==◌, ◌≢◌, ◌⊎◌, Bool, true, false, if◌then◌else◌, List, [], ◌∷◌, ◌++◌, length, filter, Option, Some, None, option_map, Result, Ok, Err, codes}
+use Rattle.std.specs.Prelude.{ℕ, ◌≤◌, ◌≡◌, ◌==◌, ◌≢◌, ◌⊎◌, Bool, true, false, if◌then◌else◌, List}
+use Rattle.std.specs.Prelude.{[], ◌∷◌, ◌++◌, length, filter, Option, Some, None, option_map, Result}
+use Rattle.std.specs.Prelude.{Ok, Err, codes}
 use Rattle.om_model.specs.declared.value.Val.{Val}
 use Rattle.om_model.specs.declared.value.Obj.{Obj}
 use Rattle.om_types.specs.declared.decl.Decl.{Decl}
@@ -42,7 +44,9 @@ use Rattle.om_trees.specs.declared.verdict.TreeVerdict.{TreeVerdict}
 use Rattle.om_tree_check.specs.VerdictText.{is_sound, verdict_text}
 use Rattle.om_outcome.specs.declared.style.Style.{Style}
 use Rattle.om_outcome.specs.RefusalText.{compat_text}
-use Rattle.om_outcome.specs.Outcome.{AskedType, Language, Said, Saying, the_verdict, the_text, the_part, the_trees, Unedited, untyped, refused_line, too_large, line}
+use Rattle.om_outcome.specs.Outcome.{AskedType, Language, Said, Saying, the_verdict, the_text}
+use Rattle.om_outcome.specs.Outcome.{the_part, the_trees, Unedited, untyped, refused_line}
+use Rattle.om_outcome.specs.Outcome.{too_large, line}
 
 -- a type over declarations; whether the places of what is refused at it are told by line and
 -- column; and whether decimals stand for doubles in the texts that are read at it

@@ -10,7 +10,11 @@ use Rattle.om_decl.specs.Text.{answer_text}
 use Rattle.om_lines.specs.Lines.{place_in}
 use Rattle.om_outcome.specs.Outcome.{Found, AskedType, ReadsTypeOf, ReadsScriptOf}
 use Rattle.om_outcome.specs.declared.stop.Stop.{Stop}
-use Rattle.om_outcome.specs.declared.stop.Stop.TheVariants.{BadPath as bad_path, Declarations as declarations, RequestedType as requested_type, Script as script_line, Memory as out_of_memory}
+use Rattle.om_outcome.specs.declared.stop.Stop.TheVariants.{BadPath as bad_path}
+use Rattle.om_outcome.specs.declared.stop.Stop.TheVariants.{Declarations as declarations}
+use Rattle.om_outcome.specs.declared.stop.Stop.TheVariants.{RequestedType as requested_type}
+use Rattle.om_outcome.specs.declared.stop.Stop.TheVariants.{Script as script_line}
+use Rattle.om_outcome.specs.declared.stop.Stop.TheVariants.{Memory as out_of_memory}
 use Rattle.om_edge.specs.State.{FilesState, Change}
 use Rattle.om_path.specs.declared.fault.PathFault.{PathFault}
 use Rattle.om_path.specs.declared.fault.PathFault.TheVariants as path_faults
@@ -20,7 +24,8 @@ use Rattle.om_path.specs.ScriptAnswer.{edits_in}
 use Rattle.om_stops.specs.Stops.{IsOrMemory}
 use Rattle.om_declared.specs.declared.requested.Prepared.{Prepared}
 use Rattle.om_promises.specs.Given.{Fetched}
-use Rattle.om_declared.specs.Language.{TypeOver, declared_types, ReadsDeclarations, ReadsType, AreEditsOf, script_refusal}
+use Rattle.om_declared.specs.Language.{TypeOver, declared_types, ReadsDeclarations, ReadsType}
+use Rattle.om_declared.specs.Language.{AreEditsOf, script_refusal}
 
 -- the type, over its declarations
 abbrev pub type_over : Prepared → TypeOver

@@ -11,7 +11,9 @@ ghost use Rattle.om_declared.specs.Gathered.{taken_of};
 ghost use Rattle.om_lines.specs.Lines.{place_on};
 ghost use Rattle.om_decl.specs.Text.{lexer_text as text_of_lexer, placed_text};
 ghost use Rattle.om_stops.specs.Stops.{IsOrMemory};
-ghost use Rattle.om_declared.specs.Types.{IsDeclarationsStop, IsTypeStop, IsPathStop, IsScriptStop, IsAnswerOf, GivesDeclarations, GivesRequested, GivesType, GivesScript, FindsTypeIn, FindsScriptIn};
+ghost use Rattle.om_declared.specs.Types.{IsDeclarationsStop, IsTypeStop, IsPathStop, IsScriptStop};
+ghost use Rattle.om_declared.specs.Types.{IsAnswerOf, GivesDeclarations, GivesRequested, GivesType};
+ghost use Rattle.om_declared.specs.Types.{GivesScript, FindsTypeIn, FindsScriptIn};
 
 use crate::fetch::{Fetch, fetch_file};
 use crate::gather::{Gathered, InputEnd};

@@ -1,5 +1,7 @@
 -- What the fakes in memory are: the bytes, and the numbers of the calls that fail.
-use Rattle.std.specs.Prelude.{ℕ, ◌+◌, ◌<◌, ◌≤◌, min, Bool, List, [], map, drop, length, slice_index_or, Contains, Option, Some, None, IfSome, String, string_bytes, Vec}
+use Rattle.std.specs.Prelude.{ℕ, ◌+◌, ◌<◌, ◌≤◌, min, Bool, List, [], map, drop, length}
+use Rattle.std.specs.Prelude.{slice_index_or, Contains, Option, Some, None, IfSome, String}
+use Rattle.std.specs.Prelude.{string_bytes, Vec}
 use Rattle.std.specs.declared.alloc.Global.{Global}
 use Rattle.om_edge.specs.Faults.{last_count, count_after}
 use Rattle.om_edge.specs.Files.{File}

@@ -1,5 +1,6 @@
 -- The files as a finite map from names to bytes, and what a call of `fetch` does.
-use Rattle.std.specs.Prelude.{◌≡◌, ◌≢◌, ℕ, List, AllPairs, bytes_eq, find, Bool, true, false, Option, IsSome, option_map, Result, Ok, Err}
+use Rattle.std.specs.Prelude.{◌≡◌, ◌≢◌, ℕ, List, AllPairs, bytes_eq, find, Bool, true, false}
+use Rattle.std.specs.Prelude.{Option, IsSome, option_map, Result, Ok, Err}
 use Rattle.om_edge.specs.declared.files.OpenError.{OpenError}
 use Rattle.om_edge.specs.declared.files.OpenError.TheVariants.{Failed, Missing, Memory}
 

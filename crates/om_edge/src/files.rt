@@ -1,6 +1,7 @@
 //! Files by their names.
 
-ghost use Rattle.std.specs.Prelude.{◌≡◌, [], None, is_some, IsSome, IsSomeAnd, IfSome, OnOk, OnErr, IsErrOf};
+ghost use Rattle.std.specs.Prelude.{◌≡◌, [], None, is_some, IsSome, IsSomeAnd, IfSome, OnOk, OnErr};
+ghost use Rattle.std.specs.Prelude.{IsErrOf};
 ghost use Rattle.std.specs.Bool.{OnTrue, OnFalse};
 ghost use Rattle.om_edge.specs.Faults.{HasCause};
 ghost use Rattle.om_edge.specs.Source.{TakesFront};

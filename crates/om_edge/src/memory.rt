@@ -1,6 +1,9 @@
 //! Fakes in memory. They tell their bytes, and fail at the calls that they are made to fail at.
 
-ghost use Rattle.std.specs.Prelude.{◌≡◌, ◌⊎◌, ◌↔◌, ◌<◌, ◌≤◌, min, [], length, take, None, Some, is_err, IsErr, IsErrOf, IsTrue, OnOk, OnErr, IfOk, option_copied, position, bytes_eq, string_bytes, slice_index_or};
+ghost use Rattle.std.specs.Prelude.{◌≡◌, ◌⊎◌, ◌↔◌, ◌<◌, ◌≤◌, min, [], length, take, None, Some};
+ghost use Rattle.std.specs.Prelude.{is_err, IsErr, IsErrOf, IsTrue, OnOk, OnErr, IfOk};
+ghost use Rattle.std.specs.Prelude.{option_copied, position, bytes_eq, string_bytes};
+ghost use Rattle.std.specs.Prelude.{slice_index_or};
 ghost use Rattle.std.specs.Bool.{OnTrue, OnFalse};
 ghost use Rattle.om_edge.specs.Faults.{HasCause};
 ghost use Rattle.om_edge.specs.Source.{TakesFront};

@@ -1,5 +1,6 @@
 -- Where a path leads in a value: to the root, or to a field of an object.
-use Rattle.std.specs.Prelude.{ℕ, suc, ◌<◌, ◌≡◌, Option, Some, None, option_map, Result, Ok, Err, List, [], ◌∷◌, length, ⊤}
+use Rattle.std.specs.Prelude.{ℕ, suc, ◌<◌, ◌≡◌, Option, Some, None, option_map, Result, Ok, Err}
+use Rattle.std.specs.Prelude.{List, [], ◌∷◌, length, ⊤}
 use Rattle.om_model.specs.declared.value.Val.{Val}
 use Rattle.om_model.specs.declared.value.Val.TheVariants as vals
 use Rattle.om_model.specs.declared.value.Obj.{Obj}

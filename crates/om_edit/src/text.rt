@@ -5,7 +5,9 @@ ghost use Rattle.om_model.specs.PathText.{path_text};
 ghost use Rattle.om_literal.specs.Reading.{misfit_at};
 ghost use Rattle.om_lines.specs.Places.{told_by};
 ghost use Rattle.om_fault.specs.Text.{text_at};
-ghost use Rattle.om_edit.specs.Reasons.{misread, side_text, fault_places, literal_reason, reason_of, literal_text as why_text, literal_or_none, reason_or_none};
+ghost use Rattle.om_edit.specs.Reasons.{misread, side_text, fault_places, literal_reason};
+ghost use Rattle.om_edit.specs.Reasons.{reason_of, literal_text as why_text, literal_or_none};
+ghost use Rattle.om_edit.specs.Reasons.{reason_or_none};
 
 use crate::refusal::{EditRefusal, Side};
 use itoa::Buffer;

@@ -1,6 +1,7 @@
 //! Heads of declared types, and what equality of types is good for.
 
-ghost use Rattle.om_equal.specs.EqualLaws.{ReplacementsLeaveTheHead, HeadsAreAsWritten, OnlyTheHead};
+ghost use Rattle.om_equal.specs.EqualLaws.{ReplacementsLeaveTheHead, HeadsAreAsWritten};
+ghost use Rattle.om_equal.specs.EqualLaws.{OnlyTheHead};
 ghost use Rattle.om_equal.specs.EqualLaws.{ReachedAreLawful};
 
 /// Over accepted declarations the head of a type is that of what it is replaced by; without an

@@ -1,6 +1,7 @@
 //! A table of types stands for its types.
 
-ghost use Rattle.om_equal.specs.TableLaws.{TablesAreLawful, TablesHaveTheFaults, TablesHaveTheLeastFault};
+ghost use Rattle.om_equal.specs.TableLaws.{TablesAreLawful, TablesHaveTheFaults};
+ghost use Rattle.om_equal.specs.TableLaws.{TablesHaveTheLeastFault};
 
 /// Over accepted declarations a table of the types that a type reaches has lawful shapes.
 pub fn tables_are_lawful()

@@ -1,5 +1,6 @@
 -- What surely fits a shape, by words.
-use Rattle.std.specs.Prelude.{ℕ, ◌≡◌, ◌⊎◌, ◌<◌, ◌≤◌, ◌+◌, ◌*◌, ◌^◌, ◌%◌, List, [], ◌∷◌, length, IsTrue, IsSome, ℤ, Some, slice_get}
+use Rattle.std.specs.Prelude.{ℕ, ◌≡◌, ◌⊎◌, ◌<◌, ◌≤◌, ◌+◌, ◌*◌, ◌^◌, ◌%◌, List, [], ◌∷◌, length}
+use Rattle.std.specs.Prelude.{IsTrue, IsSome, ℤ, Some, slice_get}
 use Rattle.om_model.specs.Graph.{IsInteger, IsObject}
 use Rattle.om_model.specs.declared.value.Obj.{Obj}
 use Rattle.om_types.specs.declared.shape.Constr.{Constr}

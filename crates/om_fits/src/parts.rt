@@ -2,7 +2,8 @@
 
 ghost use Rattle.std.specs.Prelude.{◌≡◌, ◌<◌, length, slice_get, Some, option_map, option_and_then};
 ghost use Rattle.om_types.specs.Fitting as fitting;
-ghost use Rattle.om_types.specs.Fitting.{block_fields, constr_fields, tag_fields, tag_with, argument_field};
+ghost use Rattle.om_types.specs.Fitting.{block_fields, constr_fields, tag_fields, tag_with};
+ghost use Rattle.om_types.specs.Fitting.{argument_field};
 ghost use Rattle.om_heap.specs.Heap.{object_at, fields_of, custom_object};
 ghost use Rattle.om_model.specs.declared.value.Obj.TheVariants as objects;
 ghost use Rattle.om_fits.specs.Needs.{needs_in};

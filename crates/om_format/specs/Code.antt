@@ -1,7 +1,11 @@
 -- The codes that begin tokens (`intext.h`).
-use Rattle.std.specs.Prelude.{ℕ, ◌/◌, ◌%◌, ◌<◌, ◌≤◌, true, false, List, [], ◌∷◌, Option, Some, None, Result, Ok, Err, nat_le, ◌==◌, ◌&&◌, if◌then◌else◌, slice_index_or, slice_index}
+use Rattle.std.specs.Prelude.{ℕ, ◌/◌, ◌%◌, ◌<◌, ◌≤◌, true, false, List, [], ◌∷◌, Option, Some, None}
+use Rattle.std.specs.Prelude.{Result, Ok, Err, nat_le, ◌==◌, ◌&&◌, if◌then◌else◌, slice_index_or}
+use Rattle.std.specs.Prelude.{slice_index}
 use Rattle.om_model.specs.declared.code.CodeKind.{CodeKind}
-use Rattle.om_model.specs.declared.code.CodeKind.TheVariants.{SmallBlock, SmallInt, SmallString, Int, Shared, Block, Str, Double, Doubles, Custom}
+use Rattle.om_model.specs.declared.code.CodeKind.TheVariants.{SmallBlock, SmallInt, SmallString}
+use Rattle.om_model.specs.declared.code.CodeKind.TheVariants.{Int, Shared, Block, Str, Double}
+use Rattle.om_model.specs.declared.code.CodeKind.TheVariants.{Doubles, Custom}
 use Rattle.om_model.specs.declared.code.CodeFault.{CodeFault}
 use Rattle.om_model.specs.declared.code.CodeFault.TheVariants.{BadCode, PointerCode, CustomLen}
 use Rattle.om_model.specs.declared.code.CustomKind.{CustomKind}

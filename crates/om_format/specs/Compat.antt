@@ -1,6 +1,7 @@
 -- What a reader on 32 bits cannot hold (`extern.c`, flag `Compat_32`; the `Nativeint` is this
 -- project's own addition).
-use Rattle.std.specs.Prelude.{ℕ, Bool, false, not, nat_lt, max, length, find, Option, Some, None, if◌then◌else◌}
+use Rattle.std.specs.Prelude.{ℕ, Bool, false, not, nat_lt, max, length, find, Option, Some, None}
+use Rattle.std.specs.Prelude.{if◌then◌else◌}
 use Rattle.om_model.specs.declared.value.Obj.{Obj}
 use Rattle.om_model.specs.declared.value.Obj.TheVariants as objects
 use Rattle.om_model.specs.declared.header.Head.{Head}

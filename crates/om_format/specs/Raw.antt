@@ -1,5 +1,7 @@
 -- A raw token: the fields of one, in their lengths, with any contents (`intern.c`).
-use Rattle.std.specs.Prelude.{ℕ, zero, suc, ◌+◌, ◌*◌, ◌/◌, ◌<◌, ◌≡◌, ◌==◌, List, [], ◌∷◌, take, length, Option, Some, None, Result, Ok, Err, slice_index, if◌then◌else◌}
+use Rattle.std.specs.Prelude.{ℕ, zero, suc, ◌+◌, ◌*◌, ◌/◌, ◌<◌, ◌≡◌, ◌==◌, List, [], ◌∷◌, take}
+use Rattle.std.specs.Prelude.{length, Option, Some, None, Result, Ok, Err, slice_index}
+use Rattle.std.specs.Prelude.{if◌then◌else◌}
 use Rattle.om_model.specs.declared.code.CodeKind.{CodeKind}
 use Rattle.om_model.specs.declared.code.CodeKind.TheVariants as kinds
 use Rattle.om_model.specs.declared.code.CodeFault.{CodeFault}

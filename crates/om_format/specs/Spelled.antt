@@ -1,5 +1,6 @@
 -- The bytes that spell a value (`intern.c`): a header, and spellings of the tokens of one tree.
-use Rattle.std.specs.Prelude.{ℕ, ◌^◌, ◌<◌, ◌≤◌, ◌≡◌, ◌⊎◌, Bool, true, false, List, ◌++◌, length, map, All}
+use Rattle.std.specs.Prelude.{ℕ, ◌^◌, ◌<◌, ◌≤◌, ◌≡◌, ◌⊎◌, Bool, true, false, List, ◌++◌, length}
+use Rattle.std.specs.Prelude.{map, All}
 use Rattle.std.specs.List.{concat, AllZip}
 use Rattle.om_model.specs.declared.header.Head.{Head}
 use Rattle.om_format.specs.Header.{magic, small_magic, big_magic, header_length, head_of}

@@ -1,8 +1,16 @@
 -- The steps that a header, a token and the end of a tree have to pass, in their order (`intern.c`;
 -- the limits and the places are this project's own).
-use Rattle.std.specs.Prelude.{ℕ, ◌+◌, ◌-◌, ◌%◌, ◌^◌, ◌==◌, ◌||◌, ◌&&◌, not, nat_lt, Bool, true, false, List, [], ◌∷◌, ◌++◌, take, Option, Some, None, is_none, Result, Ok, Err, slice_index, if◌then◌else◌, ℤ, pos, negsuc}
+use Rattle.std.specs.Prelude.{ℕ, ◌+◌, ◌-◌, ◌%◌, ◌^◌, ◌==◌, ◌||◌, ◌&&◌, not, nat_lt, Bool, true}
+use Rattle.std.specs.Prelude.{false, List, [], ◌∷◌, ◌++◌, take, Option, Some, None, is_none, Result}
+use Rattle.std.specs.Prelude.{Ok, Err, slice_index, if◌then◌else◌, ℤ, pos, negsuc}
 use Rattle.om_model.specs.declared.refusal.ReadRefusal.{ReadRefusal}
-use Rattle.om_model.specs.declared.refusal.ReadRefusal.TheVariants.{BadMagic, Compressed, TooLarge, BadCode, PointerCode, OtherCustom, BadTag, BadShared, NoTable, BadNative, IntRange, ZeroArray, Overlong, SizeMismatch, CountMismatch, LengthMismatch}
+use Rattle.om_model.specs.declared.refusal.ReadRefusal.TheVariants.{BadMagic, Compressed, TooLarge}
+use Rattle.om_model.specs.declared.refusal.ReadRefusal.TheVariants.{BadCode, PointerCode}
+use Rattle.om_model.specs.declared.refusal.ReadRefusal.TheVariants.{OtherCustom, BadTag, BadShared}
+use Rattle.om_model.specs.declared.refusal.ReadRefusal.TheVariants.{NoTable, BadNative, IntRange}
+use Rattle.om_model.specs.declared.refusal.ReadRefusal.TheVariants.{ZeroArray, Overlong}
+use Rattle.om_model.specs.declared.refusal.ReadRefusal.TheVariants.{SizeMismatch, CountMismatch}
+use Rattle.om_model.specs.declared.refusal.ReadRefusal.TheVariants.{LengthMismatch}
 use Rattle.om_model.specs.declared.refusal.Stated.TheVariants.{Words, Length}
 use Rattle.om_model.specs.declared.refusal.WordSum.TheVariants.{W32, W64}
 use Rattle.om_model.specs.declared.header.Head.{Head}
@@ -14,8 +22,10 @@ use Rattle.om_model.specs.declared.code.CustomKind.{CustomKind}
 use Rattle.om_model.specs.declared.code.CustomKind.TheVariants as customs
 use Rattle.om_model.specs.Bytes.{number, signed}
 use Rattle.om_format.specs.Code.{kind_of, custom_of, native_bytes}
-use Rattle.om_format.specs.Header.{magic, small_magic, big_magic, compressed_magic, header_length, head_of}
-use Rattle.om_format.specs.Raw.{fixed_bytes, field_bytes, sizing_bytes, variable_bytes, measure_after}
+use Rattle.om_format.specs.Header.{magic, small_magic, big_magic, compressed_magic, header_length}
+use Rattle.om_format.specs.Header.{head_of}
+use Rattle.om_format.specs.Raw.{fixed_bytes, field_bytes, sizing_bytes, variable_bytes}
+use Rattle.om_format.specs.Raw.{measure_after}
 use Rattle.om_format.specs.Words.{Sums, one_more}
 
 -- a step: how many bytes of the header or the token hold the fields that it reads, and the refusal

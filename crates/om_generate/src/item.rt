@@ -1,7 +1,8 @@
 //! The items of a value that is made, as they are drawn.
 
 ghost use Rattle.std.specs.Prelude.{◌≡◌, ◌^◌, ◌<◌};
-ghost use Rattle.om_generate.specs.Generated.{item_declarations, next_state, drawn, item_of, item_at, state_after};
+ghost use Rattle.om_generate.specs.Generated.{item_declarations, next_state, drawn, item_of};
+ghost use Rattle.om_generate.specs.Generated.{item_at, state_after};
 ghost use Rattle.om_generate.specs.Sound.{IsItem};
 
 /// An item: what is drawn for it, and the numbers of the earlier items that it refers to.

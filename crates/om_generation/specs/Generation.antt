@@ -3,9 +3,11 @@
 use Rattle.std.specs.Prelude.{ℕ, ◌≡◌, false, List, [], Option, Some, None, Result, Ok}
 use Rattle.om_format.specs.Iso.{IsTreeOf}
 use Rattle.om_format.specs.Tree.{Tree}
-use Rattle.om_outcome.specs.Outcome.{Request, asked_type, own, generate, Said, Reply, says, stops, Language, the_verdict, Then, OrRefusal, line}
+use Rattle.om_outcome.specs.Outcome.{Request, asked_type, own, generate, Said, Reply, says, stops}
+use Rattle.om_outcome.specs.Outcome.{Language, the_verdict, Then, OrRefusal, line}
 use Rattle.om_outcome.specs.declared.stop.Stop.{Stop}
-use Rattle.om_outcome.specs.declared.stop.Stop.TheVariants.{Declarations as declarations, RequestedType as requested_type}
+use Rattle.om_outcome.specs.declared.stop.Stop.TheVariants.{Declarations as declarations}
+use Rattle.om_outcome.specs.declared.stop.Stop.TheVariants.{RequestedType as requested_type}
 use Rattle.om_generate.specs.Generated.{item_declarations, generated}
 use Rattle.om_generate.specs.Line.{generated_text}
 use Rattle.om_promises.specs.Commands.{Item, Fetches, Commands}

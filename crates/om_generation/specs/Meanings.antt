@@ -9,7 +9,9 @@
 -- comes, whatever the input and the files are.
 use Rattle.std.specs.Prelude.{ℕ, ◌≡◌, ◌≢◌, ◌↔◌, ◌⊎◌, Bool, true, false, List, Some, Ok}
 use Rattle.om_outcome.specs.declared.status.Status.{Status}
-use Rattle.om_outcome.specs.declared.status.Status.TheVariants.{Well, No, Usage, Types, Value, Script, ReadFault, OpenFault, TooLong, Compat, Certificate}
+use Rattle.om_outcome.specs.declared.status.Status.TheVariants.{Well, No, Usage, Types, Value}
+use Rattle.om_outcome.specs.declared.status.Status.TheVariants.{Script, ReadFault, OpenFault}
+use Rattle.om_outcome.specs.declared.status.Status.TheVariants.{TooLong, Compat, Certificate}
 use Rattle.om_outcome.specs.Outcome.{nothing, Request, asked_type, Asks, IsUsage, Said, Language}
 use Rattle.om_edge.specs.Sink.{Puts}
 use Rattle.om_generate.specs.Generated.{item_declarations}

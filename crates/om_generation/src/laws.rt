@@ -1,7 +1,11 @@
 //! The laws. Each function does nothing: what it ensures is the law.
 
-ghost use Rattle.om_promises.specs.CommandLaws.{HaveOneOutcome, HaveOneStop, StopsStay, StopsAreLast, ArePromised, Follow};
-ghost use Rattle.om_promises.specs.Causes.{AreAsTold, AreMeant, IfAlone, IfWords, IfFiles, OnlyOpenFault, IfMissing, OnlyTooLong, IfFileTooLong, IfInputTooLong, IfInputFails, IfMemory, IfWriteFault, IsDecided, IsExact, IsComplete};
+ghost use Rattle.om_promises.specs.CommandLaws.{HaveOneOutcome, HaveOneStop, StopsStay};
+ghost use Rattle.om_promises.specs.CommandLaws.{StopsAreLast, ArePromised, Follow};
+ghost use Rattle.om_promises.specs.Causes.{AreAsTold, AreMeant, IfAlone, IfWords, IfFiles};
+ghost use Rattle.om_promises.specs.Causes.{OnlyOpenFault, IfMissing, OnlyTooLong, IfFileTooLong};
+ghost use Rattle.om_promises.specs.Causes.{IfInputTooLong, IfInputFails, IfMemory, IfWriteFault};
+ghost use Rattle.om_promises.specs.Causes.{IsDecided, IsExact, IsComplete};
 ghost use Rattle.om_promises.specs.Lawful.{AreLawful, AreInTurns};
 ghost use Rattle.om_promises.specs.LawfulLanguage.{IsLawful};
 ghost use Rattle.om_promises.specs.Outside.{OnlyReadFault, OnlyWriteFault};

@@ -1,9 +1,11 @@
 //! The fields of copies.
 
-ghost use Rattle.std.specs.Prelude.{◌≡◌, ◌≤◌, ◌++◌, ◌^◌, length, take, All, Some, slice_get, slice_set};
+ghost use Rattle.std.specs.Prelude.{◌≡◌, ◌≤◌, ◌++◌, ◌^◌, length, take, All, Some, slice_get};
+ghost use Rattle.std.specs.Prelude.{slice_set};
 ghost use Rattle.om_heap.specs.Heap.{object_at};
 ghost use Rattle.om_write.specs.Marks.{marks_of};
-ghost use Rattle.om_graft.specs.Renamed.{blank, blanks, renamed_value, renamed_object, renamed, IsMet, IsMetObject};
+ghost use Rattle.om_graft.specs.Renamed.{blank, blanks, renamed_value, renamed_object, renamed};
+ghost use Rattle.om_graft.specs.Renamed.{IsMet, IsMetObject};
 
 use om_heap::{Heap, Kind};
 use om_model::value::Val;

@@ -3,7 +3,13 @@ use Rattle.std.specs.Prelude.{ℕ, suc, max, List, [], ◌∷◌, ◌++◌, leng
 use Rattle.std.specs.List.{flat_map}
 use Rattle.om_lex.specs.declared.lexeme.Keyword.TheVariants as keywords
 use Rattle.om_lex.specs.declared.lexeme.Symbol.TheVariants as symbols
-use Rattle.om_grammar.specs.Grammar.{App, ArgumentsTree, BodyTree, ConstrTree, DeclTree, FieldTree, FileTree, GroupTree, Item, Items, Kinds, RecordTree, Simple, Texpr, Texprs, applied, arguments, bar_if, bracket, first, further, grouped, included, inline, listed, lower, mark, mark_if, more, named, no_arguments, one, params_kinds, record_body, simple, single, starred, tag, tag_of, type_body, variable, variant_body, word, word_if}
+use Rattle.om_grammar.specs.Grammar.{App, ArgumentsTree, BodyTree, ConstrTree, DeclTree, FieldTree}
+use Rattle.om_grammar.specs.Grammar.{FileTree, GroupTree, Item, Items, Kinds, RecordTree, Simple}
+use Rattle.om_grammar.specs.Grammar.{Texpr, Texprs, applied, arguments, bar_if, bracket, first}
+use Rattle.om_grammar.specs.Grammar.{further, grouped, included, inline, listed, lower, mark}
+use Rattle.om_grammar.specs.Grammar.{mark_if, more, named, no_arguments, one, params_kinds}
+use Rattle.om_grammar.specs.Grammar.{record_body, simple, single, starred, tag, tag_of, type_body}
+use Rattle.om_grammar.specs.Grammar.{variable, variant_body, word, word_if}
 
 -- ---- how deep they are
 

@@ -2,7 +2,8 @@
 
 ghost use Rattle.om_grammar.specs.Grammar.{texpr, file_kinds};
 ghost use Rattle.om_grammar.specs.Depths.{texpr_ends, file_ends};
-ghost use Rattle.om_grammar.specs.Laws.{HasOneTree, IsTextOrSyntax, HasNoSyntax, HasEndsForEach, SyntaxComesFirst, HasOneReading};
+ghost use Rattle.om_grammar.specs.Laws.{HasOneTree, IsTextOrSyntax, HasNoSyntax, HasEndsForEach};
+ghost use Rattle.om_grammar.specs.Laws.{SyntaxComesFirst, HasOneReading};
 
 /// Lexemes are those of one type, and of one file, at most.
 pub fn one_tree()

@@ -9,7 +9,8 @@ use Rattle.om_types.specs.declared.names.Names.{Names}
 use Rattle.om_types.specs.declared.shape.ShapeOf.{ShapeOf}
 use Rattle.om_types.specs.declared.shape.ShapeOf.TheVariants as shapes
 use Rattle.om_types.specs.Ty.{Ty}
-use Rattle.om_literal_texts.specs.Readable.{IsConstantName, IsConstructorName, IsReadable, AreReadable}
+use Rattle.om_literal_texts.specs.Readable.{IsConstantName, IsConstructorName, IsReadable}
+use Rattle.om_literal_texts.specs.Readable.{AreReadable}
 use Rattle.om_show.specs.Tables.{shape_in, names_in}
 use Rattle.om_type_table.specs.declared.tabled.Tabled.{Tabled}
 use Rattle.om_type_table.specs.Made.{types_of, IsTypeTable}

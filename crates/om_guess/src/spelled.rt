@@ -1,12 +1,15 @@
 //! Whether the names of types are such that the texts of their values are read back.
 
-ghost use Rattle.std.specs.Prelude.{ℕ, List as Seq, ◌≡◌, ◌<◌, Some, IsTrue, codes, length, slice_get};
+ghost use Rattle.std.specs.Prelude.{ℕ, List as Seq, ◌≡◌, ◌<◌, Some, IsTrue, codes, length};
+ghost use Rattle.std.specs.Prelude.{slice_get};
 ghost use Rattle.std.specs.List.{list_all, position};
 ghost use Rattle.std.specs.Str.{bytes_eq};
 ghost use Rattle.om_lex.specs.Lexeme.{starts_lower, is_name_byte, Lower, Upper, IsForm};
-ghost use Rattle.om_literal_texts.specs.Readable.{IsHead, AreFieldNames, IsConstantName, IsConstructorName};
+ghost use Rattle.om_literal_texts.specs.Readable.{IsHead, AreFieldNames, IsConstantName};
+ghost use Rattle.om_literal_texts.specs.Readable.{IsConstructorName};
 ghost use Rattle.om_types.specs.declared.names.ConstrNames.{ConstrNames};
-ghost use Rattle.om_guess.specs.Spelled.{IsNoKeyword, AreConstantNames, AreConstructorNames, IsSpelled, AreSpelled, has_name};
+ghost use Rattle.om_guess.specs.Spelled.{IsNoKeyword, AreConstantNames, AreConstructorNames};
+ghost use Rattle.om_guess.specs.Spelled.{IsSpelled, AreSpelled, has_name};
 
 use om_model::list::List;
 use om_type_table::TypeTable;

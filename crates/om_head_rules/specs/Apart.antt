@@ -1,5 +1,6 @@
 -- Tags that clash in no bracket: each name comes with one argument, and each hash with one name.
-use Rattle.std.specs.Prelude.{ℕ, ◌<◌, ◌≡◌, ◌≢◌, Bool, ◌&&◌, true, false, List, [], ◌∷◌, Some, IfSome, length, slice_get, Contains}
+use Rattle.std.specs.Prelude.{ℕ, ◌<◌, ◌≡◌, ◌≢◌, Bool, ◌&&◌, true, false, List, [], ◌∷◌, Some}
+use Rattle.std.specs.Prelude.{IfSome, length, slice_get, Contains}
 use Rattle.om_polyvar.specs.TagHash.{tag_hash}
 use Rattle.om_types.specs.declared.decl.Decl.{Decl}
 use Rattle.om_types.specs.declared.head.TagOf.{TagOf}

@@ -1,5 +1,6 @@
 -- The rules that ask for heads, over numbered items of brackets and over declarations.
-use Rattle.std.specs.Prelude.{ℕ, ◌<◌, ◌≡◌, List, Option, Some, None, IsSome, option_and_then, Contains, IfSome, All, length, map, slice_get}
+use Rattle.std.specs.Prelude.{ℕ, ◌<◌, ◌≡◌, List, Option, Some, None, IsSome, option_and_then}
+use Rattle.std.specs.Prelude.{Contains, IfSome, All, length, map, slice_get}
 use Rattle.om_types.specs.declared.decl.Decl.{Decl}
 use Rattle.om_types.specs.Ty.{Ty, including, name_of}
 use Rattle.om_types.specs.Declarations.{declaration_of, abbreviated}

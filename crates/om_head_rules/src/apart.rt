@@ -1,10 +1,12 @@
 //! Texts whose tags clash in no bracket, whatever their brackets include: each name is written with
 //! one argument, without variables, and each hash with one name.
 
-ghost use Rattle.std.specs.Prelude.{◌≡◌, ◌<◌, ◌+◌, ◌++◌, ◌∷◌, [], length, IfOk, IfSome, OnOk, IsTrue};
+ghost use Rattle.std.specs.Prelude.{◌≡◌, ◌<◌, ◌+◌, ◌++◌, ◌∷◌, [], length, IfOk, IfSome, OnOk};
+ghost use Rattle.std.specs.Prelude.{IsTrue};
 ghost use Rattle.om_types.specs.Nodes.{type_at};
 ghost use Rattle.om_store.specs.Held.{Grows};
-ghost use Rattle.om_head_rules.specs.Apart.{is_closed, TellsClosed, alone, AreListed, HasBody, NoneClash, StandApart};
+ghost use Rattle.om_head_rules.specs.Apart.{is_closed, TellsClosed, alone, AreListed, HasBody};
+ghost use Rattle.om_head_rules.specs.Apart.{NoneClash, StandApart};
 ghost use Rattle.std.specs.Prelude.{All};
 
 use crate::item::NumberedItem;

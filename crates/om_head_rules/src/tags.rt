@@ -6,7 +6,8 @@ ghost use Rattle.om_types.specs.Scope.{tags_of_item};
 ghost use Rattle.om_types.specs.Table.{tag_with_part};
 ghost use Rattle.om_store.specs.Held.{Grows};
 ghost use Rattle.om_brackets.specs.Trees.{typed_item, written_item};
-ghost use Rattle.om_head_rules.specs.Rules.{AreWithin, AreAllWithin, AreTagged, items_at, brackets_at};
+ghost use Rattle.om_head_rules.specs.Rules.{AreWithin, AreAllWithin, AreTagged, items_at};
+ghost use Rattle.om_head_rules.specs.Rules.{brackets_at};
 
 use crate::item::NumberedItem;
 use om_brackets::Item;

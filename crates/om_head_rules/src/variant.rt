@@ -4,7 +4,8 @@ ghost use Rattle.std.specs.Prelude.{◌<◌, ◌↔◌, length, IfOk, IsTrue};
 ghost use Rattle.om_types.specs.Nodes.{type_at};
 ghost use Rattle.om_scope.specs.Least.{IsLeast};
 ghost use Rattle.om_store.specs.Held.{Grows};
-ghost use Rattle.om_head_rules.specs.Rules.{AreWithin, AreAllWithin, IncludesOther, ItemsInclude, SomeBreaks};
+ghost use Rattle.om_head_rules.specs.Rules.{AreWithin, AreAllWithin, IncludesOther, ItemsInclude};
+ghost use Rattle.om_head_rules.specs.Rules.{SomeBreaks};
 
 use crate::item::NumberedItem;
 use om_layout::is_polymorphic_variant;

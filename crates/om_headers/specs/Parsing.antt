@@ -1,10 +1,12 @@
 -- What the first bytes of a value say of its header (`intern.c`).
-use Rattle.std.specs.Prelude.{ℕ, ◌+◌, ◌-◌, ◌<◌, ◌≤◌, ◌≡◌, ◌≢◌, ◌⊎◌, ◌==◌, ◌||◌, nat_lt, List, length, Result, Ok, Err, if◌then◌else◌}
+use Rattle.std.specs.Prelude.{ℕ, ◌+◌, ◌-◌, ◌<◌, ◌≤◌, ◌≡◌, ◌≢◌, ◌⊎◌, ◌==◌, ◌||◌, nat_lt, List}
+use Rattle.std.specs.Prelude.{length, Result, Ok, Err, if◌then◌else◌}
 use Rattle.om_headers.specs.declared.parsing.HeaderStep.{HeaderStep}
 use Rattle.om_headers.specs.declared.parsing.HeaderStep.TheVariants as steps
 use Rattle.om_headers.specs.declared.parsing.HeadFault.{HeadFault}
 use Rattle.om_headers.specs.declared.parsing.HeadFault.TheVariants as faults
-use Rattle.om_format.specs.Header.{magic, small_magic, big_magic, compressed_magic, header_length, head_of}
+use Rattle.om_format.specs.Header.{magic, small_magic, big_magic, compressed_magic, header_length}
+use Rattle.om_format.specs.Header.{head_of}
 
 -- what the header states, or how many bytes are missing to its end
 abbrev pub rest_step : List ℕ → HeaderStep

@@ -1,5 +1,6 @@
 -- Declared types of which nothing is asked any more, wherever they stand (this project's own).
-use Rattle.std.specs.Prelude.{ℕ, ◌≡◌, Bool, true, false, if◌then◌else◌, List, [], map, Some, None, codes}
+use Rattle.std.specs.Prelude.{ℕ, ◌≡◌, Bool, true, false, if◌then◌else◌, List, [], map, Some, None}
+use Rattle.std.specs.Prelude.{codes}
 use Rattle.om_types.specs.declared.decl.Predeclared.TheVariants as bases
 use Rattle.om_types.specs.declared.decl.Body.{Body}
 use Rattle.om_types.specs.declared.decl.Body.TheVariants as bodies

@@ -1,5 +1,6 @@
 -- What it takes to make two values alike: more pairs, and no others than those.
-use Rattle.std.specs.Prelude.{ℕ, ◌<◌, ◌≡◌, ◌↔◌, Bool, true, false, List, ◌++◌, Result, Ok, Err, Contains, ⊤}
+use Rattle.std.specs.Prelude.{ℕ, ◌<◌, ◌≡◌, ◌↔◌, Bool, true, false, List, ◌++◌, Result, Ok, Err}
+use Rattle.std.specs.Prelude.{Contains, ⊤}
 use Rattle.om_model.specs.declared.out_of_memory.Memory.{Memory}
 
 -- no number is twice on one side

@@ -1,5 +1,6 @@
 -- Pairs that are collected, and tables from a number to its pair.
-use Rattle.std.specs.Prelude.{ℕ, suc, ◌+◌, ◌≡◌, ◌==◌, List, length, Some, slice_get, slice_index, count_by}
+use Rattle.std.specs.Prelude.{ℕ, suc, ◌+◌, ◌≡◌, ◌==◌, List, length, Some, slice_get, slice_index}
+use Rattle.std.specs.Prelude.{count_by}
 
 -- pairs of numbers of the objects of two graphs, and how many objects these have
 pub record Paired : Type 0 where

@@ -1,6 +1,7 @@
 //! Pairs of objects that have to be the same.
 
-ghost use Rattle.std.specs.Prelude.{◌≡◌, ◌<◌, ◌≤◌, ◌++◌, ◌∷◌, [], length, map, slice_get, IfOk, OnOk, Contains};
+ghost use Rattle.std.specs.Prelude.{◌≡◌, ◌<◌, ◌≤◌, ◌++◌, ◌∷◌, [], length, map, slice_get, IfOk};
+ghost use Rattle.std.specs.Prelude.{OnOk, Contains};
 ghost use Rattle.om_iso.specs.Paired.{IsNew, left_of, right_of};
 ghost use Rattle.om_model.specs.Graph.{IsValue};
 ghost use Rattle.om_format.specs.Iso.{AreAlike};

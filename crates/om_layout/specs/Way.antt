@@ -1,5 +1,6 @@
 -- Ways of replacements at the head, and what is known of abbreviations.
-use Rattle.std.specs.Prelude.{ℕ, zero, suc, ◌<◌, ◌≤◌, ◌≡◌, List, Option, Some, None, IsSome, length, nat_eq, position, slice_get}
+use Rattle.std.specs.Prelude.{ℕ, zero, suc, ◌<◌, ◌≤◌, ◌≡◌, List, Option, Some, None, IsSome, length}
+use Rattle.std.specs.Prelude.{nat_eq, position, slice_get}
 use Rattle.std.specs.Prelude.{option_and_then, All}
 use Rattle.std.specs.Str.{bytes_eq}
 use Rattle.indexmap.specs.IndexMap.{IndexMap, IsUnique, get, keys}

@@ -1,6 +1,7 @@
 //! The head of a bracket: its tags, with those of what it includes.
 
-ghost use Rattle.std.specs.Prelude.{ℕ, ◌≡◌, ◌<◌, ◌≤◌, ◌+◌, suc, ◌∷◌, [], None, List, length, reverse, IfOk, IfSome, OnOk, option_map};
+ghost use Rattle.std.specs.Prelude.{ℕ, ◌≡◌, ◌<◌, ◌≤◌, ◌+◌, suc, ◌∷◌, [], None, List, length};
+ghost use Rattle.std.specs.Prelude.{reverse, IfOk, IfSome, OnOk, option_map};
 ghost use Rattle.om_types.specs.declared.decl.Decl.{Decl as Declaration};
 ghost use Rattle.om_types.specs.declared.head.TagOf.{TagOf as Tag};
 ghost use Rattle.om_types.specs.Ty.{Ty};
@@ -11,7 +12,8 @@ ghost use Rattle.om_types.specs.Accepted.{AreSound};
 ghost use Rattle.om_store.specs.Held.{Grows};
 ghost use Rattle.om_layout.specs.Plain.{IsBracketed};
 ghost use Rattle.om_layout.specs.declared.bracket.Step.TheVariants as steps;
-ghost use Rattle.om_layout.specs.Tags.{has_bracket, before_item, items, with_items, with_tag, tags_of_entries, IsHeadOf};
+ghost use Rattle.om_layout.specs.Tags.{has_bracket, before_item, items, with_items, with_tag};
+ghost use Rattle.om_layout.specs.Tags.{tags_of_entries, IsHeadOf};
 ghost use Rattle.om_layout.specs.Way.{AreKnown};
 ghost use Rattle.om_layout.specs.Work.{work, written_work};
 ghost use Rattle.om_layout.specs.Steps.{AreLeft, AreGathered, AreAll, IsStepWithin, steps_work};

@@ -1,7 +1,8 @@
 //! The shapes of declared records and variants, by numbers.
 
 ghost use Rattle.std.specs.Prelude.{◌≡◌, ◌<◌, length, map, All, IfOk};
-ghost use Rattle.om_types.specs.Shape.{body_shape, is_flat, any_mutable, is_constant, constants_in, block_of, blocks_in, types_of_fields};
+ghost use Rattle.om_types.specs.Shape.{body_shape, is_flat, any_mutable, is_constant, constants_in};
+ghost use Rattle.om_types.specs.Shape.{block_of, blocks_in, types_of_fields};
 ghost use Rattle.om_store.specs.Held.{Grows};
 ghost use Rattle.om_store.specs.Instance.{HasNumbers};
 ghost use Rattle.om_layout.specs.Layout.{instance_at, HasBlock, HasBlocks, IsShapeAt};

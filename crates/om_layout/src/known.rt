@@ -1,13 +1,16 @@
 //! Abbreviations that come to one of their arguments, each found once.
 
-ghost use Rattle.std.specs.Prelude.{ℕ, ◌≡◌, ◌<◌, List, Option, Some, None, length, nat_eq, position, option_map, slice_get, IfOk, IfSome, OnOk, IsTrue, ◌↔◌};
+ghost use Rattle.std.specs.Prelude.{ℕ, ◌≡◌, ◌<◌, List, Option, Some, None, length, nat_eq};
+ghost use Rattle.std.specs.Prelude.{position, option_map, slice_get, IfOk, IfSome, OnOk, IsTrue};
+ghost use Rattle.std.specs.Prelude.{◌↔◌};
 ghost use Rattle.std.specs.Str.{bytes_eq};
 ghost use Rattle.indexmap.specs.IndexMap.{get, index_map_len};
 ghost use Rattle.om_types.specs.declared.decl.Decl.{Decl as Declaration};
 ghost use Rattle.om_types.specs.Ty.{parts};
 ghost use Rattle.om_types.specs.Nodes.{type_at};
 ghost use Rattle.om_store.specs.Held.{Grows};
-ghost use Rattle.om_layout.specs.Way.{AreKnown, IsAbbreviation, IsOf, EachLeads, EachPasses, IsArgument, IsMore};
+ghost use Rattle.om_layout.specs.Way.{AreKnown, IsAbbreviation, IsOf, EachLeads, EachPasses};
+ghost use Rattle.om_layout.specs.Way.{IsArgument, IsMore};
 
 use crate::spine::{name, parts};
 use indexmap::IndexMap;

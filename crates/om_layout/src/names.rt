@@ -3,7 +3,8 @@
 ghost use Rattle.std.specs.Prelude.{◌≡◌, ◌++◌, ◌∷◌, [], List, map, IfOk, OnOk};
 ghost use Rattle.std.specs.List.{filter_map};
 ghost use Rattle.om_types.specs.Ty.{Ty};
-ghost use Rattle.om_types.specs.Names.{no_names, body_names, head_names, predeclared_type_names, field_names, constant_name, constr_names, plain_constr};
+ghost use Rattle.om_types.specs.Names.{no_names, body_names, head_names, predeclared_type_names};
+ghost use Rattle.om_types.specs.Names.{field_names, constant_name, constr_names, plain_constr};
 ghost use Rattle.om_layout.specs.Layout.{head_of_types, named, AreNamesAt};
 
 use crate::datatype::is_constant;

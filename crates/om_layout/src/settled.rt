@@ -10,7 +10,8 @@ ghost use Rattle.om_store.specs.Held.{Grows};
 ghost use Rattle.om_layout.specs.Tags.{tags_at, tags_of_entries};
 ghost use Rattle.om_layout.specs.Way.{AreKnown};
 ghost use Rattle.om_layout.specs.Work.{work};
-ghost use Rattle.om_layout.specs.Steps.{AreSettled, IsSettledAt, EachBringsNone, EachItemBringsNone, AreEachThere, numbers_work, item_work};
+ghost use Rattle.om_layout.specs.Steps.{AreSettled, IsSettledAt, EachBringsNone};
+ghost use Rattle.om_layout.specs.Steps.{EachItemBringsNone, AreEachThere, numbers_work, item_work};
 
 use crate::bracket::{Tags, before_item, has_bracket};
 use crate::known::{Known, abbreviation, known_end};

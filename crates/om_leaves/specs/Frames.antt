@@ -1,6 +1,7 @@
 -- What stands around the parts of a value and between them, by the names and the shape of its type;
 -- and the texts of values without parts.
-use Rattle.std.specs.Prelude.{ℕ, ℤ, pos, negsuc, zero, suc, Bool, List, [], ◌∷◌, ◌++◌, map, slice_get, find, codes}
+use Rattle.std.specs.Prelude.{ℕ, ℤ, pos, negsuc, zero, suc, Bool, List, [], ◌∷◌, ◌++◌, map}
+use Rattle.std.specs.Prelude.{slice_get, find, codes}
 use Rattle.std.specs.Prelude.{Option, Some, None, option_map, unwrap_or}
 use Rattle.std.specs.Fmt.{signed_decimal}
 use Rattle.om_model.specs.declared.value.Val.{Val}
@@ -13,7 +14,8 @@ use Rattle.om_types.specs.declared.names.Names.{Names}
 use Rattle.om_types.specs.declared.shape.ShapeOf.{ShapeOf}
 use Rattle.om_types.specs.declared.shape.ShapeOf.TheVariants as shapes
 use Rattle.om_types.specs.Fitting.{is_number}
-use Rattle.om_leaves.specs.Leaves.{string_text, float_text, below_text, int32_text, int64_text, native_text}
+use Rattle.om_leaves.specs.Leaves.{string_text, float_text, below_text, int32_text, int64_text}
+use Rattle.om_leaves.specs.Leaves.{native_text}
 
 -- ---- parts in a row
 

@@ -4,7 +4,8 @@ ghost use Rattle.std.specs.Prelude.{◌≡◌, ◌<◌, ◌++◌, map, IsTrue, O
 ghost use Rattle.om_types.specs.Fitting.{fits_int, is_below};
 ghost use Rattle.om_heap.specs.Heap.{custom_object, IsReferenceWord, ForNamed};
 ghost use Rattle.om_leaves.specs.Leaves.{below_text};
-ghost use Rattle.om_leaves.specs.Frames.{int_text, double_text, object_text, natural, tag_text, row_from, row_text};
+ghost use Rattle.om_leaves.specs.Frames.{int_text, double_text, object_text, natural, tag_text};
+ghost use Rattle.om_leaves.specs.Frames.{row_from, row_text};
 ghost use Rattle.om_leaves.specs.FrameView.{frame_in};
 
 use crate::bytes::{put, put_name};

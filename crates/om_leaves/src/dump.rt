@@ -3,7 +3,8 @@
 ghost use Rattle.std.specs.Prelude.{◌≡◌, ◌<◌, ◌++◌, length, OnOk, decimal};
 ghost use Rattle.std.specs.List.{flat_map};
 ghost use Rattle.om_heap.specs.Heap.{object_at, fields_of, doubles_of, IsOfKind};
-ghost use Rattle.om_leaves.specs.Dumped.{value_text, spaced_value, spaced_float, custom_text, text_of_kind, root_line, object_line};
+ghost use Rattle.om_leaves.specs.Dumped.{value_text, spaced_value, spaced_float, custom_text};
+ghost use Rattle.om_leaves.specs.Dumped.{text_of_kind, root_line, object_line};
 
 use crate::bytes::put;
 use crate::leaves::{put_float, put_int};

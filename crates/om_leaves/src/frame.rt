@@ -1,10 +1,12 @@
 //! What stands around the parts of a value and between them, over lent names.
 
-ghost use Rattle.std.specs.Prelude.{ℕ, List, ◌≡◌, ◌<◌, ◌++◌, length, OnOk, find, option_map, unwrap_or, slice_get, [], ◌∷◌, ◌==◌, if◌then◌else◌, codes};
+ghost use Rattle.std.specs.Prelude.{ℕ, List, ◌≡◌, ◌<◌, ◌++◌, length, OnOk, find, option_map};
+ghost use Rattle.std.specs.Prelude.{unwrap_or, slice_get, [], ◌∷◌, ◌==◌, if◌then◌else◌, codes};
 ghost use Rattle.om_model.specs.declared.value.Obj.TheVariants as objects;
 ghost use Rattle.om_types.specs.declared.names.TagName.{TagName};
 ghost use Rattle.om_heap.specs.Heap.{object_at, fields_of};
-ghost use Rattle.om_leaves.specs.Frames.{frame_of, doubles_frame, named_frame, constr_frame, is_hash, before_part, tag_of_values};
+ghost use Rattle.om_leaves.specs.Frames.{frame_of, doubles_frame, named_frame, constr_frame};
+ghost use Rattle.om_leaves.specs.Frames.{is_hash, before_part, tag_of_values};
 ghost use Rattle.om_leaves.specs.FrameView.{frame_in};
 
 use crate::bytes::{put, put_few, put_name_reserved, put_reserved};

@@ -2,7 +2,8 @@
 
 ghost use Rattle.std.specs.Prelude.{◌≡◌, ◌≤◌, ◌<◌, ◌++◌, ◌+◌, OnOk, decimal, vec_len, vec_capacity};
 ghost use Rattle.std.specs.Fmt.{signed_decimal};
-ghost use Rattle.om_leaves.specs.Leaves.{below_text, int32_text, int64_text, native_text, float_text};
+ghost use Rattle.om_leaves.specs.Leaves.{below_text, int32_text, int64_text, native_text};
+ghost use Rattle.om_leaves.specs.Leaves.{float_text};
 
 use crate::bytes::{put, put_few};
 use crate::escape::put_char;

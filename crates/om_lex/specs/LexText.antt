@@ -1,12 +1,14 @@
 -- The lexemes of a text, or its first fault. Separators and comments are those of the lexical
 -- conventions of OCaml's reference manual, but that nothing inside a comment is looked at; the
 -- faults are this project's own.
-use Rattle.std.specs.Prelude.{◌≡◌, ◌≢◌, ◌⊎◌, ℕ, zero, suc, ◌+◌, ◌<◌, ◌≤◌, Bool, false, ◌&&◌, ◌||◌, ◌==◌, List, [], ◌∷◌, ◌++◌, length, IsTrue, Result, Ok, Err}
+use Rattle.std.specs.Prelude.{◌≡◌, ◌≢◌, ◌⊎◌, ℕ, zero, suc, ◌+◌, ◌<◌, ◌≤◌, Bool, false, ◌&&◌, ◌||◌}
+use Rattle.std.specs.Prelude.{◌==◌, List, [], ◌∷◌, ◌++◌, length, IsTrue, Result, Ok, Err}
 use Rattle.std.specs.List.{flat_map, AllByRecursion}
 use Rattle.om_lex.specs.declared.lexeme.Lexeme.{Lexeme}
 use Rattle.om_lex.specs.declared.lexeme.LexFault.{LexFault}
 use Rattle.om_lex.specs.declared.lexeme.LexFault.TheVariants as faults
-use Rattle.om_lex.specs.Lexeme.{is_separator, CharForm, char_bytes, IsCharForm, Form, form_bytes, form_kind, IsForm, IsInRange, IsTooBig, Precedes}
+use Rattle.om_lex.specs.Lexeme.{is_separator, CharForm, char_bytes, IsCharForm, Form, form_bytes}
+use Rattle.om_lex.specs.Lexeme.{form_kind, IsForm, IsInRange, IsTooBig, Precedes}
 
 -- ---- comments: 40 is `(`, 42 `*`, 41 `)`
 

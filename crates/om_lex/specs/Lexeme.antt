@@ -1,9 +1,12 @@
 -- How a lexeme is written. Words, characters, strings, integers and symbols follow the lexical
 -- conventions of OCaml's reference manual; escapes are those of the same page; `$` and sixteen
 -- digits is this project's own.
-use Rattle.std.specs.Prelude.{◌≡◌, ◌≢◌, ◌⊎◌, ℕ, ℤ, pos, ◌+◌, ◌-◌, ◌*◌, ◌^◌, ◌≤◌, ◌<◌, ◌-ℤ◌, Bool, true, false, ◌||◌, ◌==◌, if◌then◌else◌, nat_lt, List, [], ◌∷◌, ◌++◌, length, map, Option, Some, None, IsSome, unwrap_or, IsTrue, codes}
+use Rattle.std.specs.Prelude.{◌≡◌, ◌≢◌, ◌⊎◌, ℕ, ℤ, pos, ◌+◌, ◌-◌, ◌*◌, ◌^◌, ◌≤◌, ◌<◌, ◌-ℤ◌, Bool}
+use Rattle.std.specs.Prelude.{true, false, ◌||◌, ◌==◌, if◌then◌else◌, nat_lt, List, [], ◌∷◌, ◌++◌}
+use Rattle.std.specs.Prelude.{length, map, Option, Some, None, IsSome, unwrap_or, IsTrue, codes}
 use Rattle.std.specs.List.{list_all, flat_map, AllByRecursion}
-use Rattle.std.specs.Char.{is_ascii_lowercase, is_ascii_uppercase, is_ascii_alphanumeric, is_ascii_digit, is_ascii_hexdigit}
+use Rattle.std.specs.Char.{is_ascii_lowercase, is_ascii_uppercase, is_ascii_alphanumeric}
+use Rattle.std.specs.Char.{is_ascii_digit, is_ascii_hexdigit}
 use Rattle.om_lex.specs.declared.lexeme.Keyword.{Keyword}
 use Rattle.om_lex.specs.declared.lexeme.Keyword.TheVariants as keywords
 use Rattle.om_lex.specs.declared.lexeme.Suffix.{Suffix}

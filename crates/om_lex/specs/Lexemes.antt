@@ -1,5 +1,6 @@
 -- Where the lexemes of a text stand, and the front of a text up to a place.
-use Rattle.std.specs.Prelude.{◌≡◌, ℕ, ◌+◌, ◌<◌, ◌≤◌, List, [], ◌∷◌, ◌++◌, length, drop, Option, Some, None, Result, Ok, Err, ⊤}
+use Rattle.std.specs.Prelude.{◌≡◌, ℕ, ◌+◌, ◌<◌, ◌≤◌, List, [], ◌∷◌, ◌++◌, length, drop, Option}
+use Rattle.std.specs.Prelude.{Some, None, Result, Ok, Err, ⊤}
 use Rattle.std.specs.List.{flat_map}
 use Rattle.om_lex.specs.declared.lexeme.Keyword.TheVariants as keywords
 use Rattle.om_lex.specs.declared.lexeme.Lexeme.{Lexeme}
@@ -8,7 +9,8 @@ use Rattle.om_lex.specs.declared.lexeme.LexemeKind.TheVariants as kinds
 use Rattle.om_lex.specs.declared.lexeme.LexFault.{LexFault}
 use Rattle.om_lex.specs.declared.found.Step.{Step}
 use Rattle.om_lex.specs.declared.found.Step.TheVariants.{Word}
-use Rattle.om_lex.specs.LexText.{Part, part_bytes, AreParts, lexemes_of, Lexes, Faults, UnlessMemory}
+use Rattle.om_lex.specs.LexText.{Part, part_bytes, AreParts, lexemes_of, Lexes, Faults}
+use Rattle.om_lex.specs.LexText.{UnlessMemory}
 use Rattle.om_lex.specs.Scan.{step_at}
 
 -- the lexeme of a step at a place; where there is none, it is a keyword of no length

@@ -1,6 +1,8 @@
 -- The form at the front of a text, and the part, found from left to right: what the functions of
 -- the crate compute.
-use Rattle.std.specs.Prelude.{◌≡◌, ℕ, zero, suc, pred, ◌+◌, Bool, true, false, ◌&&◌, ◌||◌, ◌==◌, nat_lt, nat_le, if◌then◌else◌, List, [], ◌∷◌, ◌++◌, length, take, drop, Option, Some, None, is_some, Result, Ok, Err}
+use Rattle.std.specs.Prelude.{◌≡◌, ℕ, zero, suc, pred, ◌+◌, Bool, true, false, ◌&&◌, ◌||◌, ◌==◌}
+use Rattle.std.specs.Prelude.{nat_lt, nat_le, if◌then◌else◌, List, [], ◌∷◌, ◌++◌, length, take}
+use Rattle.std.specs.Prelude.{drop, Option, Some, None, is_some, Result, Ok, Err}
 use Rattle.std.specs.List.{list_all, flat_map, prefix_len, take_while}
 use Rattle.std.specs.Char.{is_ascii_digit, is_ascii_hexdigit}
 use Rattle.std.specs.Str.{bytes_eq}
@@ -12,7 +14,11 @@ use Rattle.om_lex.specs.declared.lexeme.Symbol.{Symbol}
 use Rattle.om_lex.specs.declared.lexeme.Symbol.TheVariants as symbols
 use Rattle.om_lex.specs.declared.lexeme.LexFault.{LexFault}
 use Rattle.om_lex.specs.declared.lexeme.LexFault.TheVariants as faults
-use Rattle.om_lex.specs.Lexeme.{is_separator, is_plain, starts_lower, starts_name, is_name_byte, number_in, greatest, CharForm, Plain, Named, Decimal, Hexadecimal, char_bytes, char_value, named_char, keyword_text, Form, Reserved, Lower, Upper, Tag, Variable, Character, Number, Quoted, Double, Mark, form_bytes, form_kind}
+use Rattle.om_lex.specs.Lexeme.{is_separator, is_plain, starts_lower, starts_name, is_name_byte}
+use Rattle.om_lex.specs.Lexeme.{number_in, greatest, CharForm, Plain, Named, Decimal, Hexadecimal}
+use Rattle.om_lex.specs.Lexeme.{char_bytes, char_value, named_char, keyword_text, Form, Reserved}
+use Rattle.om_lex.specs.Lexeme.{Lower, Upper, Tag, Variable, Character, Number, Quoted, Double}
+use Rattle.om_lex.specs.Lexeme.{Mark, form_bytes, form_kind}
 use Rattle.om_lex.specs.declared.comments.Bracket.{Bracket}
 use Rattle.om_lex.specs.declared.comments.Bracket.TheVariants.{Opening, Closing, Neither}
 use Rattle.om_lex.specs.declared.found.Found.{Found}

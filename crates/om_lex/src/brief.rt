@@ -1,11 +1,13 @@
 //! Lexemes without what their names and strings are.
 
-ghost use Rattle.std.specs.Prelude.{◌≡◌, ◌<◌, ◌≤◌, List, length, slice_index, Result, IfOk, IfSome, IsTrue, Ok};
+ghost use Rattle.std.specs.Prelude.{◌≡◌, ◌<◌, ◌≤◌, List, length, slice_index, Result, IfOk, IfSome};
+ghost use Rattle.std.specs.Prelude.{IsTrue, Ok};
 ghost use Rattle.std.specs.List.{take_while};
 ghost use Rattle.om_lex.specs.declared.found.Found.{Found};
 ghost use Rattle.om_lex.specs.declared.lexeme.LexFault.{LexFault};
 ghost use Rattle.om_lex.specs.declared.lexeme.Lexeme.{Lexeme};
-ghost use Rattle.om_lex.specs.Brief.{lone_symbol, begins_literal, brief_name, FindsBrief, StepsBrief, in_full, IsBriefNext};
+ghost use Rattle.om_lex.specs.Brief.{lone_symbol, begins_literal, brief_name, FindsBrief};
+ghost use Rattle.om_lex.specs.Brief.{StepsBrief, in_full, IsBriefNext};
 ghost use Rattle.om_lex.specs.Lexeme.{starts_name, is_name_byte};
 ghost use Rattle.om_lex.specs.Lexemes.{Reached, GoesOn};
 ghost use Rattle.om_lex.specs.LexText.{Answers};

@@ -3,7 +3,8 @@
 ghost use Rattle.std.specs.Prelude.{◌≡◌, ◌<◌, IsTrue};
 ghost use Rattle.std.specs.Char.{is_ascii_hexdigit};
 ghost use Rattle.std.specs.List.{prefix_len};
-ghost use Rattle.om_lex.specs.Lexeme.{is_separator, starts_lower, starts_name, is_name_byte, value_of_digit, is_plain};
+ghost use Rattle.om_lex.specs.Lexeme.{is_separator, starts_lower, starts_name, is_name_byte};
+ghost use Rattle.om_lex.specs.Lexeme.{value_of_digit, is_plain};
 
 /// Space, tab, line feed, form feed or carriage return.
 #[inline(always)]

@@ -4,7 +4,8 @@ ghost use Rattle.std.specs.Prelude.{◌≡◌, ◌≤◌, ◌+◌, drop, length,
 ghost use Rattle.std.specs.List.{prefix_len};
 ghost use Rattle.om_lex.specs.Lexeme.{named_char, is_plain};
 ghost use Rattle.om_lex.specs.LexText.{Answers};
-ghost use Rattle.om_lex.specs.Scan.{hexadecimal_at, decimal_at, escape_at, char_at, char_found, quote_form, string_at, found_at, TakesPlain};
+ghost use Rattle.om_lex.specs.Scan.{hexadecimal_at, decimal_at, escape_at, char_at, char_found};
+ghost use Rattle.om_lex.specs.Scan.{quote_form, string_at, found_at, TakesPlain};
 
 use crate::bytes::{digit_value, plain_len};
 use crate::found::Found;

@@ -3,7 +3,8 @@
 ghost use Rattle.std.specs.Prelude.{◌≡◌, ◌+◌, ◌<◌, ◌^◌, ℕ, IfOk, IfErr, List, length};
 ghost use Rattle.om_lex.specs.declared.lexeme.Lexeme.{Lexeme};
 ghost use Rattle.om_lex.specs.declared.lexeme.LexFault.{LexFault};
-ghost use Rattle.om_lex.specs.LexText.{Lexes, Faults, Answers, UnlessMemory, SpansWithin, HasOneOutcome};
+ghost use Rattle.om_lex.specs.LexText.{Lexes, Faults, Answers, UnlessMemory, SpansWithin};
+ghost use Rattle.om_lex.specs.LexText.{HasOneOutcome};
 ghost use Rattle.om_lex.specs.Scan.{lexeme_at, step_at, place_of, moved};
 
 use crate::bytes::{is_separator, starts_name};

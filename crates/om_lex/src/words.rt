@@ -4,7 +4,8 @@ ghost use Rattle.std.specs.Prelude.{◌≡◌, ◌<◌, length, slice_index, IsT
 ghost use Rattle.std.specs.List.{take_while};
 ghost use Rattle.om_lex.specs.Lexeme.{starts_name, is_name_byte};
 ghost use Rattle.om_lex.specs.LexText.{Answers};
-ghost use Rattle.om_lex.specs.Scan.{keyword_of, cased_form, word_form, tag_form, variable_form, found, found_at};
+ghost use Rattle.om_lex.specs.Scan.{keyword_of, cased_form, word_form, tag_form, variable_form};
+ghost use Rattle.om_lex.specs.Scan.{found, found_at};
 
 use crate::bytes::{name_len, starts_lower, starts_name};
 use crate::found::Found;

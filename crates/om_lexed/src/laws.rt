@@ -1,6 +1,7 @@
 //! The law, as a contract.
 
-ghost use Rattle.om_lexed.specs.Laws.{CharactersAreLexemes, DoublesAreLexemes, IntegersAreLexemes, StringsAreLexemes};
+ghost use Rattle.om_lexed.specs.Laws.{CharactersAreLexemes, DoublesAreLexemes, IntegersAreLexemes};
+ghost use Rattle.om_lexed.specs.Laws.{StringsAreLexemes};
 
 /// The text of a string, of a character and of a double is one lexeme, whatever follows it; that of
 /// an integer is one before all that begins with no byte of a name.

@@ -1,5 +1,6 @@
 -- Where a byte of a text is, as people find it: its line and its column, both from 1.
-use Rattle.std.specs.Prelude.{ℕ, ◌+◌, Bool, true, false, not, ◌==◌, List, ◌++◌, take, codes, decimal}
+use Rattle.std.specs.Prelude.{ℕ, ◌+◌, Bool, true, false, not, ◌==◌, List, ◌++◌, take, codes}
+use Rattle.std.specs.Prelude.{decimal}
 use Rattle.std.specs.List.{count_by, suffix_len}
 
 -- a line feed

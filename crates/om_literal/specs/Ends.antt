@@ -1,5 +1,6 @@
 -- The number of the node behind each literal of a row of nodes.
-use Rattle.std.specs.Prelude.{ℕ, zero, suc, ◌+◌, ◌≡◌, ◌≤◌, nat_lt, if◌then◌else◌, List, length, slice_index}
+use Rattle.std.specs.Prelude.{ℕ, zero, suc, ◌+◌, ◌≡◌, ◌≤◌, nat_lt, if◌then◌else◌, List, length}
+use Rattle.std.specs.Prelude.{slice_index}
 use Rattle.om_literal_grammar.specs.declared.node.Node.{Node}
 use Rattle.om_literal_grammar.specs.Literal.{Literal}
 use Rattle.om_literal_grammar.specs.Nodes.{literal_nodes}

@@ -1,5 +1,6 @@
 -- The names of fields, each two lexemes before its part.
-use Rattle.std.specs.Prelude.{ℕ, zero, suc, ◌-◌, nat_lt, if◌then◌else◌, Option, Some, None, List, [], ◌∷◌, length, slice_get}
+use Rattle.std.specs.Prelude.{ℕ, zero, suc, ◌-◌, nat_lt, if◌then◌else◌, Option, Some, None, List}
+use Rattle.std.specs.Prelude.{[], ◌∷◌, length, slice_get}
 use Rattle.om_lex.specs.Lexemes.{lower_name}
 use Rattle.om_grammar.specs.Grammar.{Name, Kinds}
 use Rattle.om_literal_grammar.specs.declared.node.Node.{Node}

@@ -9,7 +9,8 @@ use Rattle.om_heap.specs.Heap.{custom_object}
 use Rattle.om_lex.specs.declared.lexeme.LexemeKind.{LexemeKind}
 use Rattle.om_lex.specs.declared.lexeme.LexemeKind.TheVariants as kinds
 use Rattle.om_lex.specs.declared.lexeme.Symbol.TheVariants as symbols
-use Rattle.om_literal_grammar.specs.Literal.{Head, upper_head, tag_head, cons_head, empty_head, ref_head, ref_name}
+use Rattle.om_literal_grammar.specs.Literal.{Head, upper_head, tag_head, cons_head, empty_head}
+use Rattle.om_literal_grammar.specs.Literal.{ref_head, ref_name}
 use Rattle.om_literal.specs.declared.leaf.Leaf.{Leaf}
 use Rattle.om_literal.specs.declared.leaf.Leaf.TheVariants as leaves
 use Rattle.om_literal.specs.Starts.{Start, misfit, out_of_range, small, whole, if_fits}

@@ -1,5 +1,6 @@
 -- What is answered about lexemes at a type of a table, with places in bytes.
-use Rattle.std.specs.Prelude.{ℕ, ◌≡◌, option_map, unwrap_or, Result, Ok, Err, List, ◌++◌, length, slice_get, ⊤}
+use Rattle.std.specs.Prelude.{ℕ, ◌≡◌, option_map, unwrap_or, Result, Ok, Err, List, ◌++◌, length}
+use Rattle.std.specs.Prelude.{slice_get, ⊤}
 use Rattle.om_model.specs.declared.value.Val.{Val}
 use Rattle.om_model.specs.declared.value.Obj.{Obj}
 use Rattle.om_lex.specs.declared.lexeme.Lexeme.{Lexeme}

@@ -3,7 +3,9 @@ use Rattle.std.specs.Prelude.{ℕ, List, flat_map}
 use Rattle.om_literal_grammar.specs.declared.node.Form.{Form}
 use Rattle.om_literal_grammar.specs.declared.node.Form.TheVariants as forms
 use Rattle.om_literal_grammar.specs.declared.node.Node.{Node}
-use Rattle.om_literal_grammar.specs.Literal.{Literal, Plain, integer, character, string, double, truth, unit, constant, applied, fields, tuple, empty_array, array}
+use Rattle.om_literal_grammar.specs.Literal.{Literal, Plain, integer, character, string, double}
+use Rattle.om_literal_grammar.specs.Literal.{truth, unit, constant, applied, fields, tuple}
+use Rattle.om_literal_grammar.specs.Literal.{empty_array, array}
 use Rattle.om_literal_grammar.specs.Nodes.{literal_nodes}
 use Rattle.om_literal.specs.Pending.{Open}
 

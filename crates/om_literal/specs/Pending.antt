@@ -9,7 +9,10 @@ use Rattle.om_types.specs.declared.names.Names.{Names}
 use Rattle.om_types.specs.declared.shape.ShapeOf.{ShapeOf}
 use Rattle.om_heap.specs.Heap.{set_field}
 use Rattle.om_grammar.specs.Grammar.{mark}
-use Rattle.om_literal_grammar.specs.Literal.{Literal, Plain, applied, fields, tuple, array, Parts, no_parts, more_parts, Rows, no_rows, more_rows, head_kinds, owner_kinds, row_start, literal_kinds, parts_kinds, rows_kinds}
+use Rattle.om_literal_grammar.specs.Literal.{Literal, Plain, applied, fields, tuple, array, Parts}
+use Rattle.om_literal_grammar.specs.Literal.{no_parts, more_parts, Rows, no_rows, more_rows}
+use Rattle.om_literal_grammar.specs.Literal.{head_kinds, owner_kinds, row_start, literal_kinds}
+use Rattle.om_literal_grammar.specs.Literal.{parts_kinds, rows_kinds}
 use Rattle.om_literal.specs.Reading.{Reading, Refusal, reading, added, literal_read}
 
 -- ---- the parts of a plain literal, each with the number of its first lexeme

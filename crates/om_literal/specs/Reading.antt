@@ -1,7 +1,8 @@
 -- What a literal is at a type, over any shapes and names: its value and the objects that it makes,
 -- in the order of their first lexemes, or its first fault in that order. Places are numbers of
 -- lexemes.
-use Rattle.std.specs.Prelude.{ℕ, suc, ◌+◌, ◌==◌, ◌≡◌, Bool, true, if◌then◌else◌, Option, Some, None, Result, Ok, Err, List, [], ◌∷◌, ◌++◌, length, slice_get}
+use Rattle.std.specs.Prelude.{ℕ, suc, ◌+◌, ◌==◌, ◌≡◌, Bool, true, if◌then◌else◌, Option, Some, None}
+use Rattle.std.specs.Prelude.{Result, Ok, Err, List, [], ◌∷◌, ◌++◌, length, slice_get}
 use Rattle.om_model.specs.declared.value.Val.{Val}
 use Rattle.om_model.specs.declared.value.Val.TheVariants as vals
 use Rattle.om_model.specs.declared.value.Obj.{Obj}
@@ -11,7 +12,11 @@ use Rattle.om_lex.specs.declared.lexeme.Symbol.TheVariants as symbols
 use Rattle.om_types.specs.declared.names.Names.{Names}
 use Rattle.om_types.specs.declared.shape.ShapeOf.{ShapeOf}
 use Rattle.om_grammar.specs.Grammar.{mark}
-use Rattle.om_literal_grammar.specs.Literal.{Literal, labelled, again, Plain, applied, fields, tuple, array, Parts, no_parts, more_parts, Rows, no_rows, more_rows, label_kinds, head_kinds, owner_kinds, row_start, literal_kinds, parts_kinds, rows_kinds}
+use Rattle.om_literal_grammar.specs.Literal.{Literal, labelled, again, Plain, applied, fields}
+use Rattle.om_literal_grammar.specs.Literal.{tuple, array, Parts, no_parts, more_parts, Rows}
+use Rattle.om_literal_grammar.specs.Literal.{no_rows, more_rows, label_kinds, head_kinds}
+use Rattle.om_literal_grammar.specs.Literal.{owner_kinds, row_start, literal_kinds, parts_kinds}
+use Rattle.om_literal_grammar.specs.Literal.{rows_kinds}
 use Rattle.om_literal.specs.Starts.{Start, misfit, out_of_range, small, whole, block, start_at}
 
 -- Values one after the other, the objects that they make, and the object of each label so far, by

@@ -8,7 +8,10 @@ use Rattle.om_lex.specs.declared.lexeme.Symbol.TheVariants as symbols
 use Rattle.om_grammar.specs.Grammar.{Kinds}
 use Rattle.om_literal_grammar.specs.declared.node.Form.TheVariants as forms
 use Rattle.om_literal_grammar.specs.declared.node.Node.{Node}
-use Rattle.om_literal_grammar.specs.Literal.{Head, Literal, labelled, again, Plain, integer, character, string, double, truth, unit, constant, applied, fields, tuple, empty_array, array, label_kinds, truth_name, literal_kinds}
+use Rattle.om_literal_grammar.specs.Literal.{Head, Literal, labelled, again, Plain, integer}
+use Rattle.om_literal_grammar.specs.Literal.{character, string, double, truth, unit, constant}
+use Rattle.om_literal_grammar.specs.Literal.{applied, fields, tuple, empty_array, array}
+use Rattle.om_literal_grammar.specs.Literal.{label_kinds, truth_name, literal_kinds}
 use Rattle.om_grammar.specs.Lexemes.{kinds_of}
 use Rattle.om_literal_grammar.specs.Nodes.{node, literal_nodes}
 use Rattle.om_literal.specs.Leaves.{lead_of}

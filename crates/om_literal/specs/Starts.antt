@@ -1,6 +1,7 @@
 -- What a literal is at the shape and the names of a type, before its parts are read: by its form,
 -- its name, and how many parts or which fields it has.
-use Rattle.std.specs.Prelude.{ℕ, ℤ, pos, negsuc, suc, ◌==◌, ◌^◌, ◌&&◌, nat_lt, Bool, true, false, if◌then◌else◌, List, [], ◌∷◌, ◌++◌, length, slice_get, find, codes}
+use Rattle.std.specs.Prelude.{ℕ, ℤ, pos, negsuc, suc, ◌==◌, ◌^◌, ◌&&◌, nat_lt, Bool, true, false}
+use Rattle.std.specs.Prelude.{if◌then◌else◌, List, [], ◌∷◌, ◌++◌, length, slice_get, find, codes}
 use Rattle.std.specs.Prelude.{Option, Some, None, option_and_then, unwrap_or}
 use Rattle.std.specs.List.{position}
 use Rattle.std.specs.Str.{bytes_eq}
@@ -19,7 +20,11 @@ use Rattle.om_types.specs.declared.shape.ShapeOf.{ShapeOf}
 use Rattle.om_types.specs.declared.shape.ShapeOf.TheVariants as shapes
 use Rattle.om_types.specs.Fitting.{tag_with}
 use Rattle.om_grammar.specs.Grammar.{Name}
-use Rattle.om_literal_grammar.specs.Literal.{Head, upper_head, tag_head, cons_head, empty_head, ref_head, Literal, labelled, Plain, integer, character, string, double, truth, unit, constant, applied, fields, tuple, empty_array, array, Parts, no_parts, more_parts, Rows, no_rows, more_rows, ref_name}
+use Rattle.om_literal_grammar.specs.Literal.{Head, upper_head, tag_head, cons_head, empty_head}
+use Rattle.om_literal_grammar.specs.Literal.{ref_head, Literal, labelled, Plain, integer, character}
+use Rattle.om_literal_grammar.specs.Literal.{string, double, truth, unit, constant, applied, fields}
+use Rattle.om_literal_grammar.specs.Literal.{tuple, empty_array, array, Parts, no_parts, more_parts}
+use Rattle.om_literal_grammar.specs.Literal.{Rows, no_rows, more_rows, ref_name}
 use Rattle.om_literal_grammar.specs.Nodes.{count, rows_count}
 
 -- what it is

@@ -1,5 +1,7 @@
 -- What holds while the parts of a literal are read.
-use Rattle.std.specs.Prelude.{ℕ, pos, ◌+◌, ◌^◌, ◌≡◌, ◌<◌, ◌≤◌, suc, nat_lt, if◌then◌else◌, true, Option, Some, None, Result, Ok, Err, List, [], ◌∷◌, ◌++◌, length, take, drop, replicate, All, ⊤}
+use Rattle.std.specs.Prelude.{ℕ, pos, ◌+◌, ◌^◌, ◌≡◌, ◌<◌, ◌≤◌, suc, nat_lt, if◌then◌else◌, true}
+use Rattle.std.specs.Prelude.{Option, Some, None, Result, Ok, Err, List, [], ◌∷◌, ◌++◌, length}
+use Rattle.std.specs.Prelude.{take, drop, replicate, All, ⊤}
 use Rattle.om_model.specs.declared.value.Val.{Val}
 use Rattle.om_model.specs.declared.value.Val.TheVariants as vals
 use Rattle.om_model.specs.declared.value.Obj.{Obj}

@@ -1,9 +1,11 @@
 -- Worked literals: their lexemes, each with the place of its first byte, and what they are at a
 -- type, in an empty heap.
-use Rattle.std.specs.Prelude.{ℕ, ℤ, pos, negsuc, ◌≡◌, Bool, true, false, Option, Some, option_map, Result, Ok, Err, List, [], ◌∷◌, map, codes}
+use Rattle.std.specs.Prelude.{ℕ, ℤ, pos, negsuc, ◌≡◌, Bool, true, false, Option, Some, option_map}
+use Rattle.std.specs.Prelude.{Result, Ok, Err, List, [], ◌∷◌, map, codes}
 use Rattle.om_literal_grammar.specs.WorkedTrees.{symbol as mark, reading as tree_of}
 use Rattle.om_model.specs.declared.value.Val.TheVariants.{Int, Atom, Ref}
-use Rattle.om_model.specs.declared.value.Obj.TheVariants.{Block, Bytes, Double, Doubles, I32, I64, Native}
+use Rattle.om_model.specs.declared.value.Obj.TheVariants.{Block, Bytes, Double, Doubles, I32, I64}
+use Rattle.om_model.specs.declared.value.Obj.TheVariants.{Native}
 use Rattle.om_lex.specs.declared.lexeme.Lexeme.{Lexeme}
 use Rattle.om_lex.specs.declared.lexeme.LexemeKind.{LexemeKind}
 use Rattle.om_lex.specs.declared.lexeme.LexemeKind.TheVariants as kinds
@@ -18,7 +20,8 @@ use Rattle.om_types.specs.Ty.{Ty, variable, named, tuple, bracket, part, tag, ta
 use Rattle.om_types.specs.Shape.{shape}
 use Rattle.om_types.specs.Names.{names_of}
 use Rattle.om_grammar.specs.Lexemes.{kinds_of}
-use Rattle.om_literal.specs.Reading.{Reading, Refusal, misfit_at, int_range_at, label_at, reading, literal_read}
+use Rattle.om_literal.specs.Reading.{Reading, Refusal, misfit_at, int_range_at, label_at, reading}
+use Rattle.om_literal.specs.Reading.{literal_read}
 use Rattle.om_literal.specs.LiteralAnswers.{in_bytes}
 
 -- ---- types

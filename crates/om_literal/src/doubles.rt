@@ -1,6 +1,7 @@
 //! The doubles of a literal's parts.
 
-ghost use Rattle.std.specs.Prelude.{ℕ, ◌≡◌, ◌+◌, ◌<◌, ◌≤◌, [], Some, Option, length, take, drop, slice_get, option_map, IfOk};
+ghost use Rattle.std.specs.Prelude.{ℕ, ◌≡◌, ◌+◌, ◌<◌, ◌≤◌, [], Some, Option, length, take, drop};
+ghost use Rattle.std.specs.Prelude.{slice_get, option_map, IfOk};
 ghost use Rattle.om_grammar.specs.Grammar.{Name};
 ghost use Rattle.om_literal_grammar.specs.Literal.{Literal, labelled, Parts, Rows, array, fields};
 ghost use Rattle.om_grammar.specs.Lexemes.{kinds_of};

@@ -3,7 +3,9 @@
 ghost use Rattle.std.specs.Prelude.{ℕ, ◌≡◌, length, Bool};
 ghost use Rattle.om_lex.specs.declared.lexeme.LexemeKind.TheVariants as kinds;
 ghost use Rattle.om_types.specs.declared.names.Names.{Names};
-ghost use Rattle.om_literal_grammar.specs.Literal.{Plain, Head, constant, integer, character, string, double, truth, truth_name, unit, empty_array};
+ghost use Rattle.om_literal_grammar.specs.Literal.{Plain, Head, constant, integer, character};
+ghost use Rattle.om_literal_grammar.specs.Literal.{string, double, truth, truth_name, unit};
+ghost use Rattle.om_literal_grammar.specs.Literal.{empty_array};
 ghost use Rattle.om_model.specs.declared.value.Val.TheVariants as vals;
 ghost use Rattle.om_model.specs.declared.value.Obj.TheVariants as objects;
 ghost use Rattle.om_literal.specs.Starts.{start_at, if_in_range, is_in_bits, small, whole};

@@ -1,12 +1,15 @@
 //! What a name without parts is at a shape: a constant constructor, or a tag without an argument.
 
-ghost use Rattle.std.specs.Prelude.{ℕ, ◌≡◌, ◌<◌, ◌^◌, Some, List, Option, option_map, position, find, IsTrue};
+ghost use Rattle.std.specs.Prelude.{ℕ, ◌≡◌, ◌<◌, ◌^◌, Some, List, Option, option_map, position};
+ghost use Rattle.std.specs.Prelude.{find, IsTrue};
 ghost use Rattle.om_model.specs.Graph.{IsInteger};
 ghost use Rattle.std.specs.Str.{bytes_eq};
 ghost use Rattle.om_types.specs.Fitting.{tag_with, is_number};
 ghost use Rattle.om_types.specs.declared.names.TagName.{TagName};
 ghost use Rattle.om_literal_grammar.specs.Literal.{Head, constant};
-ghost use Rattle.om_literal.specs.Starts.{start_at, is_in_bits, constructor_name, name_of_tag, constant_of_name, constant_start, tag_named, if_tag, bare_tag};
+ghost use Rattle.om_literal.specs.Starts.{start_at, is_in_bits, constructor_name, name_of_tag};
+ghost use Rattle.om_literal.specs.Starts.{constant_of_name, constant_start, tag_named, if_tag};
+ghost use Rattle.om_literal.specs.Starts.{bare_tag};
 ghost use Rattle.om_literal.specs.Leaves.{leaf_in, lead_of, IsSound};
 
 use crate::leaf::Leaf;

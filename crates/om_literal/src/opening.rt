@@ -1,13 +1,16 @@
 //! What a literal with parts is at a shape, before its parts are read: a block, or none of the
 //! shape.
 
-ghost use Rattle.std.specs.Prelude.{ℕ, ◌≡◌, ◌≢◌, suc, List, [], ◌∷◌, ◌++◌, map, Option, Some, None, option_map, position};
+ghost use Rattle.std.specs.Prelude.{ℕ, ◌≡◌, ◌≢◌, suc, List, [], ◌∷◌, ◌++◌, map, Option, Some, None};
+ghost use Rattle.std.specs.Prelude.{option_map, position};
 ghost use Rattle.om_types.specs.declared.names.Names.{Names};
 ghost use Rattle.om_types.specs.declared.shape.Constr.{Constr};
 ghost use Rattle.om_types.specs.declared.shape.ShapeOf.TheVariants as shapes;
-ghost use Rattle.om_literal_grammar.specs.Literal.{Head, Literal, Parts, Rows, applied, fields, tuple, array};
+ghost use Rattle.om_literal_grammar.specs.Literal.{Head, Literal, Parts, Rows, applied, fields};
+ghost use Rattle.om_literal_grammar.specs.Literal.{tuple, array};
 ghost use Rattle.om_literal_grammar.specs.Nodes.{count, rows_count};
-ghost use Rattle.om_literal.specs.Starts.{start_at, is_constr, names_of_rows, tag_of_name, carrying_start, if_tag, carrying_tag};
+ghost use Rattle.om_literal.specs.Starts.{start_at, is_constr, names_of_rows, tag_of_name};
+ghost use Rattle.om_literal.specs.Starts.{carrying_start, if_tag, carrying_tag};
 ghost use Rattle.om_literal.specs.Starts as starts;
 ghost use Rattle.om_literal.specs.Leaves.{lead_of};
 ghost use Rattle.om_grammar.specs.Grammar.{Name};

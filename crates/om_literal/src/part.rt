@@ -1,6 +1,8 @@
 //! A part of a literal begins: its value, and the block whose parts are to come.
 
-ghost use Rattle.std.specs.Prelude.{ℕ, ◌≡◌, ◌<◌, ◌≤◌, ◌^◌, ◌++◌, true, Option, List, length, option_and_then, slice_get, pos, replicate, IfOk, OnOk, OnErr, IsTrue, IfSome, All};
+ghost use Rattle.std.specs.Prelude.{ℕ, ◌≡◌, ◌<◌, ◌≤◌, ◌^◌, ◌++◌, true, Option, List, length};
+ghost use Rattle.std.specs.Prelude.{option_and_then, slice_get, pos, replicate, IfOk, OnOk, OnErr};
+ghost use Rattle.std.specs.Prelude.{IsTrue, IfSome, All};
 ghost use Rattle.om_model.specs.Graph.{IsInteger};
 ghost use Rattle.om_model.specs.declared.value.Obj.{Obj};
 ghost use Rattle.om_model.specs.declared.value.Obj.TheVariants as objects;

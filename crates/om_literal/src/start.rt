@@ -1,16 +1,19 @@
 //! What a literal is at a type, before its parts are read.
 
-ghost use Rattle.std.specs.Prelude.{ℕ, ◌≡◌, ◌<◌, ◌++◌, ◌∷◌, [], Some, None, Option, length, map, suc, option_map, slice_get, IfOk, ◌&&◌, ◌==◌, ◌+◌};
+ghost use Rattle.std.specs.Prelude.{ℕ, ◌≡◌, ◌<◌, ◌++◌, ◌∷◌, [], Some, None, Option, length, map};
+ghost use Rattle.std.specs.Prelude.{suc, option_map, slice_get, IfOk, ◌&&◌, ◌==◌, ◌+◌};
 ghost use Rattle.om_types.specs.declared.names.Names.{Names};
 ghost use Rattle.om_grammar.specs.Grammar.{Name};
-ghost use Rattle.om_literal_grammar.specs.Literal.{Head, Literal, labelled, Plain, Parts, Rows, array, fields};
+ghost use Rattle.om_literal_grammar.specs.Literal.{Head, Literal, labelled, Plain, Parts, Rows};
+ghost use Rattle.om_literal_grammar.specs.Literal.{array, fields};
 ghost use Rattle.om_literal_grammar.specs.Nodes.{rows_count};
 ghost use Rattle.om_literal.specs.Leaves as leaves;
 ghost use Rattle.om_literal.specs.Leaves.{leaf_in};
 ghost use Rattle.om_literal.specs.LiteralAnswers.{shape_in, names_in};
 ghost use Rattle.om_literal.specs.Pending.{parts_of};
 ghost use Rattle.om_literal.specs.Standing.{Stands, own_node, lead_of_owner, lead_of_plain};
-ghost use Rattle.om_literal.specs.Starts.{start_at, if_fits, doubles_start, and_bits, bits_of, bits_of_parts, bits_of_rows, names_of_rows};
+ghost use Rattle.om_literal.specs.Starts.{start_at, if_fits, doubles_start, and_bits, bits_of};
+ghost use Rattle.om_literal.specs.Starts.{bits_of_parts, bits_of_rows, names_of_rows};
 ghost use Rattle.om_literal.specs.Starts as starts;
 ghost use Rattle.om_literal.specs.Started.{start_in, IsSound};
 ghost use Rattle.om_literal.specs.Underway.{IsText};

@@ -9,7 +9,8 @@ use Rattle.om_type_table.specs.declared.tabled.Tabled.{Tabled}
 use Rattle.om_type_table.specs.Made.{types_of, IsTypeTable}
 use Rattle.om_literal_grammar.specs.Literal.{Literal}
 use Rattle.om_literal.specs.LiteralAnswers.{shape_in, names_in}
-use Rattle.om_literal.specs.Reading.{Reading, Refusal, misfit_at, int_range_at, label_at, literal_read}
+use Rattle.om_literal.specs.Reading.{Reading, Refusal, misfit_at, int_range_at, label_at}
+use Rattle.om_literal.specs.Reading.{literal_read}
 
 module _ {T U : Type 0} (Of : T → U → Type 0) where
   abbrev pub RefusalsAgree : Refusal T → Refusal U → Type 0

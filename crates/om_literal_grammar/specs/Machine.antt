@@ -1,13 +1,21 @@
 -- The table that reads a literal's lexemes one by one: what is open, the innermost first, and what
 -- was read in it last.
-use Rattle.std.specs.Prelude.{ℕ, true, false, if◌then◌else◌, Option, Some, None, option_map, List, [], ◌∷◌, ◌++◌, map}
+use Rattle.std.specs.Prelude.{ℕ, true, false, if◌then◌else◌, Option, Some, None, option_map, List}
+use Rattle.std.specs.Prelude.{[], ◌∷◌, ◌++◌, map}
 use Rattle.std.specs.Str.{bytes_eq}
 use Rattle.om_lex.specs.declared.lexeme.LexemeKind.{LexemeKind}
 use Rattle.om_lex.specs.declared.lexeme.LexemeKind.TheVariants as kinds
 use Rattle.om_lex.specs.declared.lexeme.Symbol.TheVariants as symbols
 use Rattle.om_grammar.specs.Grammar.{Name, Kinds, mark}
 use Rattle.om_grammar.specs.Lexemes.{number_of}
-use Rattle.om_literal_grammar.specs.Literal.{Head, upper_head, tag_head, cons_head, empty_head, ref_head, Literal, labelled, again, Plain, integer, character, string, double, truth, unit, constant, applied, fields, tuple, empty_array, array, Parts, no_parts, more_parts, Rows, no_rows, more_rows, reference, label_kinds, true_name, false_name, ref_name, head_kinds, owner_kinds, row_start, literal_kinds, parts_kinds, rows_kinds}
+use Rattle.om_literal_grammar.specs.Literal.{Head, upper_head, tag_head, cons_head, empty_head}
+use Rattle.om_literal_grammar.specs.Literal.{ref_head, Literal, labelled, again, Plain, integer}
+use Rattle.om_literal_grammar.specs.Literal.{character, string, double, truth, unit, constant}
+use Rattle.om_literal_grammar.specs.Literal.{applied, fields, tuple, empty_array, array, Parts}
+use Rattle.om_literal_grammar.specs.Literal.{no_parts, more_parts, Rows, no_rows, more_rows}
+use Rattle.om_literal_grammar.specs.Literal.{reference, label_kinds, true_name, false_name}
+use Rattle.om_literal_grammar.specs.Literal.{ref_name, head_kinds, owner_kinds, row_start}
+use Rattle.om_literal_grammar.specs.Literal.{literal_kinds, parts_kinds, rows_kinds}
 
 -- what stands round a literal, with its label and the parts before
 pub data Frame : Type 0 where

@@ -1,5 +1,6 @@
 -- A literal as a row of nodes, each before its parts, in the order of their first lexemes.
-use Rattle.std.specs.Prelude.{ℕ, suc, ◌+◌, ◌≡◌, ◌<◌, Option, Some, Result, Ok, Err, List, [], ◌∷◌, ◌++◌, length, ⊤}
+use Rattle.std.specs.Prelude.{ℕ, suc, ◌+◌, ◌≡◌, ◌<◌, Option, Some, Result, Ok, Err, List, [], ◌∷◌}
+use Rattle.std.specs.Prelude.{◌++◌, length, ⊤}
 use Rattle.std.specs.List.{AllByRecursion}
 use Rattle.om_lex.specs.declared.lexeme.Lexeme.{Lexeme}
 use Rattle.om_lex.specs.declared.lexeme.Symbol.{Symbol}
@@ -12,7 +13,12 @@ use Rattle.om_literal_grammar.specs.declared.node.Form.TheVariants as forms
 use Rattle.om_literal_grammar.specs.declared.node.Node.{Node}
 use Rattle.om_literal_grammar.specs.declared.node.TreeFault.{TreeFault}
 use Rattle.om_literal_grammar.specs.declared.node.TreeFault.TheVariants as faults
-use Rattle.om_literal_grammar.specs.Literal.{Literal, labelled, again, Plain, integer, character, string, double, truth, unit, constant, applied, fields, tuple, empty_array, array, Parts, no_parts, more_parts, Rows, no_rows, more_rows, label_kinds, head_kinds, owner_kinds, row_start, literal_kinds, parts_kinds, rows_kinds}
+use Rattle.om_literal_grammar.specs.Literal.{Literal, labelled, again, Plain, integer, character}
+use Rattle.om_literal_grammar.specs.Literal.{string, double, truth, unit, constant, applied, fields}
+use Rattle.om_literal_grammar.specs.Literal.{tuple, empty_array, array, Parts, no_parts, more_parts}
+use Rattle.om_literal_grammar.specs.Literal.{Rows, no_rows, more_rows, label_kinds, head_kinds}
+use Rattle.om_literal_grammar.specs.Literal.{owner_kinds, row_start, literal_kinds, parts_kinds}
+use Rattle.om_literal_grammar.specs.Literal.{rows_kinds}
 
 abbrev pub node : Form → Option ℕ → ℕ → ℕ → Node
 node form label first parts = record { form = form; label = label; first = first; parts = parts }

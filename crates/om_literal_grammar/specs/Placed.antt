@@ -1,5 +1,6 @@
 -- What is answered about a text, whose lexemes are found at their places.
-use Rattle.std.specs.Prelude.{ℕ, ◌≡◌, ◌≢◌, ◌≤◌, ◌^◌, option_map, unwrap_or, Option, Some, None, Result, Ok, Err, List, [], ◌++◌, length, map, slice_get, ⊤}
+use Rattle.std.specs.Prelude.{ℕ, ◌≡◌, ◌≢◌, ◌≤◌, ◌^◌, option_map, unwrap_or, Option, Some, None}
+use Rattle.std.specs.Prelude.{Result, Ok, Err, List, [], ◌++◌, length, map, slice_get, ⊤}
 use Rattle.om_lex.specs.declared.lexeme.Lexeme.{Lexeme}
 use Rattle.om_lex.specs.Lexemes.{lexeme_from}
 use Rattle.om_lex.specs.LexText.{Lexes, Faults}

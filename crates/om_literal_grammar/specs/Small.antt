@@ -1,5 +1,6 @@
 -- Nodes and brackets in little room.
-use Rattle.std.specs.Prelude.{ℕ, ◌≡◌, ◌<◌, Option, Some, None, List, length, map, unwrap_or, slice_get, ⊤}
+use Rattle.std.specs.Prelude.{ℕ, ◌≡◌, ◌<◌, Option, Some, None, List, length, map, unwrap_or}
+use Rattle.std.specs.Prelude.{slice_get, ⊤}
 use Rattle.std.specs.List.{AllByRecursion}
 use Rattle.om_literal_grammar.specs.declared.node.Form.{Form}
 use Rattle.om_literal_grammar.specs.declared.node.Form.TheVariants as forms

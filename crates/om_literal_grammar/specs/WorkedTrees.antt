@@ -1,5 +1,6 @@
 -- Literals as trees, with the lexemes that they spell and where they end, worked out by hand.
-use Rattle.std.specs.Prelude.{ℕ, pos, ◌≡◌, false, Option, Some, None, List, [], ◌∷◌, codes, option_and_then}
+use Rattle.std.specs.Prelude.{ℕ, pos, ◌≡◌, false, Option, Some, None, List, [], ◌∷◌, codes}
+use Rattle.std.specs.Prelude.{option_and_then}
 use Rattle.om_lex.specs.declared.lexeme.LexemeKind.{LexemeKind}
 use Rattle.om_lex.specs.declared.lexeme.LexemeKind.TheVariants as kinds
 use Rattle.om_lex.specs.declared.lexeme.Suffix.TheVariants as suffixes
@@ -8,7 +9,10 @@ use Rattle.om_lex.specs.declared.lexeme.Symbol.TheVariants as symbols
 use Rattle.om_grammar.specs.Grammar.{Kinds}
 use Rattle.om_grammar.specs.Machine.{run}
 use Rattle.om_grammar.specs.Lexemes.{number}
-use Rattle.om_literal_grammar.specs.Literal.{upper_head, tag_head, cons_head, ref_head, Literal, labelled, again, Plain, integer, double, unit, applied, fields, tuple, empty_array, no_parts, more_parts, no_rows, more_rows, literal_kinds}
+use Rattle.om_literal_grammar.specs.Literal.{upper_head, tag_head, cons_head, ref_head, Literal}
+use Rattle.om_literal_grammar.specs.Literal.{labelled, again, Plain, integer, double, unit, applied}
+use Rattle.om_literal_grammar.specs.Literal.{fields, tuple, empty_array, no_parts, more_parts}
+use Rattle.om_literal_grammar.specs.Literal.{no_rows, more_rows, literal_kinds}
 use Rattle.om_literal_grammar.specs.declared.node.Form.TheVariants as forms
 use Rattle.om_literal_grammar.specs.declared.node.Node.{Node}
 use Rattle.om_literal_grammar.specs.Nodes.{node, literal_nodes}

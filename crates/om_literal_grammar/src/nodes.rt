@@ -1,6 +1,7 @@
 //! Nodes in a row, eight bytes each.
 
-ghost use Rattle.std.specs.Prelude.{◌≡◌, ◌∷◌, ◌++◌, ◌<◌, ◌^◌, [], Some, List, length, slice_get, slice_set, IfOk, IfSome};
+ghost use Rattle.std.specs.Prelude.{◌≡◌, ◌∷◌, ◌++◌, ◌<◌, ◌^◌, [], Some, List, length, slice_get};
+ghost use Rattle.std.specs.Prelude.{slice_set, IfOk, IfSome};
 ghost use Rattle.om_literal_grammar.specs.Small.{IsSmall, Keeps, Holds};
 
 use crate::node::{Form, Node};

@@ -4,7 +4,8 @@ ghost use Rattle.std.specs.Prelude.{◌≡◌, ℕ, IfOk, IfErr};
 ghost use Rattle.om_grammar.specs.Refusals.{IsSyntax};
 ghost use Rattle.om_literal_grammar.specs.Literal.{Literal, literal_kinds};
 ghost use Rattle.om_grammar.specs.Lexemes.{kinds_of};
-ghost use Rattle.om_literal_grammar.specs.Nodes.{literal_nodes, IsTreeOf, IsTreeFault, GivesTree, GivesSyntax};
+ghost use Rattle.om_literal_grammar.specs.Nodes.{literal_nodes, IsTreeOf, IsTreeFault, GivesTree};
+ghost use Rattle.om_literal_grammar.specs.Nodes.{GivesSyntax};
 
 use crate::node::TreeFault;
 use crate::nodes::Nodes;

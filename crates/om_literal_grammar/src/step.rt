@@ -1,11 +1,22 @@
 //! What a lexeme does to a literal that is being read. The answer is what was read then, or none
 //! where no literal goes on.
 
-ghost use Rattle.std.specs.Prelude.{◌≡◌, ◌++◌, ◌∷◌, [], List, length, Option, Some, None, if◌then◌else◌, IfOk};
+ghost use Rattle.std.specs.Prelude.{◌≡◌, ◌++◌, ◌∷◌, [], List, length, Option, Some, None};
+ghost use Rattle.std.specs.Prelude.{if◌then◌else◌, IfOk};
 ghost use Rattle.om_literal_grammar.specs.declared.node.Node.{Node};
 ghost use Rattle.om_literal_grammar.specs.declared.node.Form.TheVariants as forms;
 ghost use Rattle.om_grammar.specs.Lexemes.{number_of};
-ghost use Rattle.om_literal_grammar.specs.Code.{bare_node, next_number, with_part, with_form, word_form, form_of, head_stage, entered, begin_plain_code, is_unit, is_empty_array, close_unit_code, close_empty_code, begin_code, next_code, shut_code, shut_tuple_code, close_arguments_code, close_parens_code, close_array_code, close_fields_code, close_code, take_number_code, after_number_code, after_bracket_code, after_head_code, take_name_code, take_equals_code, step_code, end_code, Steps, code};
+ghost use Rattle.om_literal_grammar.specs.Code.{bare_node, next_number, with_part, with_form};
+ghost use Rattle.om_literal_grammar.specs.Code.{word_form, form_of, head_stage, entered};
+ghost use Rattle.om_literal_grammar.specs.Code.{begin_plain_code, is_unit, is_empty_array};
+ghost use Rattle.om_literal_grammar.specs.Code.{close_unit_code, close_empty_code, begin_code};
+ghost use Rattle.om_literal_grammar.specs.Code.{next_code, shut_code, shut_tuple_code};
+ghost use Rattle.om_literal_grammar.specs.Code.{close_arguments_code, close_parens_code};
+ghost use Rattle.om_literal_grammar.specs.Code.{close_array_code, close_fields_code, close_code};
+ghost use Rattle.om_literal_grammar.specs.Code.{take_number_code, after_number_code};
+ghost use Rattle.om_literal_grammar.specs.Code.{after_bracket_code, after_head_code};
+ghost use Rattle.om_literal_grammar.specs.Code.{take_name_code, take_equals_code, step_code};
+ghost use Rattle.om_literal_grammar.specs.Code.{end_code, Steps, code};
 
 use crate::node::{Form, Node};
 use crate::nodes::Nodes;

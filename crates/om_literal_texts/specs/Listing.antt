@@ -1,7 +1,8 @@
 -- Literals one after another, as the grammar groups them: the last one stands alone.
 use Rattle.std.specs.Prelude.{ℕ, List, [], ◌∷◌}
 use Rattle.om_grammar.specs.Grammar.{Name}
-use Rattle.om_literal_grammar.specs.Literal.{Literal, Parts, more_parts, Rows, more_rows, literal_kinds}
+use Rattle.om_literal_grammar.specs.Literal.{Literal, Parts, more_parts, Rows, more_rows}
+use Rattle.om_literal_grammar.specs.Literal.{literal_kinds}
 use Rattle.om_lexed.specs.Lexed.{Ends, IsLexed, Begins}
 
 -- these after those, of which v is the last one

@@ -1,6 +1,7 @@
 -- What the names of a type must be like so that a text by them is read back: each is a lexeme, and
 -- stands for one thing. What is hidden is not read back.
-use Rattle.std.specs.Prelude.{ℕ, ℤ, ◌≡◌, ◌≤◌, ◌⊎◌, List, [], length, slice_get, find, Some, Contains}
+use Rattle.std.specs.Prelude.{ℕ, ℤ, ◌≡◌, ◌≤◌, ◌⊎◌, List, [], length, slice_get, find, Some}
+use Rattle.std.specs.Prelude.{Contains}
 use Rattle.std.specs.List.{position, AllByRecursion}
 use Rattle.std.specs.Str.{bytes_eq}
 use Rattle.om_lex.specs.Lexeme.{Lower, Tag, IsForm}

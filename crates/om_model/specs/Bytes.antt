@@ -1,5 +1,7 @@
 -- Numbers that bytes spell (`intext.h`: `extern.c` writes them, `intern.c` reads them).
-use Rattle.std.specs.Prelude.{ℕ, suc, ◌+◌, ◌-◌, ◌*◌, ◌^◌, ◌<◌, ◌≤◌, ◌≡◌, Bool, true, false, List, [], ◌∷◌, length, take, drop, All, nat_lt, if◌then◌else◌, ℤ, pos, negsuc}
+use Rattle.std.specs.Prelude.{ℕ, suc, ◌+◌, ◌-◌, ◌*◌, ◌^◌, ◌<◌, ◌≤◌, ◌≡◌, Bool, true, false, List}
+use Rattle.std.specs.Prelude.{[], ◌∷◌, length, take, drop, All, nat_lt, if◌then◌else◌, ℤ, pos}
+use Rattle.std.specs.Prelude.{negsuc}
 
 -- every number is a byte
 abbrev pub AreBytes : List ℕ → Type 0

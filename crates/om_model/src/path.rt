@@ -1,6 +1,7 @@
 //! A path into a value: the numbers of the fields that lead from the root.
 
-ghost use Rattle.std.specs.Prelude.{◌≡◌, ◌<◌, ◌++◌, ◌∷◌, [], length, slice_index, OnOk, OnErr, IfOk, codes, decimal};
+ghost use Rattle.std.specs.Prelude.{◌≡◌, ◌<◌, ◌++◌, ◌∷◌, [], length, slice_index, OnOk, OnErr};
+ghost use Rattle.std.specs.Prelude.{IfOk, codes, decimal};
 ghost use Rattle.om_model.specs.PathText.{path_text};
 
 use crate::Memory;

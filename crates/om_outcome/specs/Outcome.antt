@@ -1,12 +1,34 @@
 -- What a run says: the stages in their order, then a text of each value, and a last reply. A
 -- command adds its plain words, the files that it opens, what it says of a value, what stops it
 -- there, and its last reply; the stages, the stops, their lines and their statuses stand here once.
-use Rattle.std.specs.Prelude.{ℕ, ◌<◌, ◌≡◌, ◌≢◌, ◌↔◌, ◌⊎◌, Bool, true, false, IsTrue, ◌&&◌, not, nat_lt, if◌then◌else◌, List, [], ◌∷◌, ◌++◌, length, find, Option, Some, None, Result, Ok, Err, MatchResult, codes, decimal}
+use Rattle.std.specs.Prelude.{ℕ, ◌<◌, ◌≡◌, ◌≢◌, ◌↔◌, ◌⊎◌, Bool, true, false, IsTrue, ◌&&◌, not}
+use Rattle.std.specs.Prelude.{nat_lt, if◌then◌else◌, List, [], ◌∷◌, ◌++◌, length, find, Option}
+use Rattle.std.specs.Prelude.{Some, None, Result, Ok, Err, MatchResult, codes, decimal}
 use Rattle.om_outcome.specs.declared.status.Status.{Status}
 use Rattle.om_outcome.specs.declared.status.Status.TheVariants as statuses
 use Rattle.om_outcome.specs.declared.stop.Stop.{Stop}
-use Rattle.om_outcome.specs.declared.stop.Stop.TheVariants.{Usage as usage, BadPath as bad_path, NotTwoValues as not_two_values, CannotOpen as cannot_open, Declarations as declarations, RequestedType as requested_type, Value as value, Script as script_line, Text as text_line, Untyped as untyped_value, LargeValue as large_value, Certificate as certificate_line, Uncertified as uncertified_value, SectionsLeft as sections_left, Short as short_input, Finished as finished, ReadFault as read_fault, TooLong as too_long, Memory as out_of_memory}
-pub use Rattle.om_outcome.specs.CommandLine.{Saying, plain, all_under, the_verdict, the_text, the_part, the_trees, Request, tell, get, edit, dump, compare, own, OwnRequest, build, generate, verify, Asks, IsUsage, AskedType, asked_with, asked_type, typed_by, path_of, script_of, reading_of, limit_of}
+use Rattle.om_outcome.specs.declared.stop.Stop.TheVariants.{Usage as usage, BadPath as bad_path}
+use Rattle.om_outcome.specs.declared.stop.Stop.TheVariants.{NotTwoValues as not_two_values}
+use Rattle.om_outcome.specs.declared.stop.Stop.TheVariants.{CannotOpen as cannot_open}
+use Rattle.om_outcome.specs.declared.stop.Stop.TheVariants.{Declarations as declarations}
+use Rattle.om_outcome.specs.declared.stop.Stop.TheVariants.{RequestedType as requested_type}
+use Rattle.om_outcome.specs.declared.stop.Stop.TheVariants.{Value as value, Script as script_line}
+use Rattle.om_outcome.specs.declared.stop.Stop.TheVariants.{Text as text_line}
+use Rattle.om_outcome.specs.declared.stop.Stop.TheVariants.{Untyped as untyped_value}
+use Rattle.om_outcome.specs.declared.stop.Stop.TheVariants.{LargeValue as large_value}
+use Rattle.om_outcome.specs.declared.stop.Stop.TheVariants.{Certificate as certificate_line}
+use Rattle.om_outcome.specs.declared.stop.Stop.TheVariants.{Uncertified as uncertified_value}
+use Rattle.om_outcome.specs.declared.stop.Stop.TheVariants.{SectionsLeft as sections_left}
+use Rattle.om_outcome.specs.declared.stop.Stop.TheVariants.{Short as short_input}
+use Rattle.om_outcome.specs.declared.stop.Stop.TheVariants.{Finished as finished}
+use Rattle.om_outcome.specs.declared.stop.Stop.TheVariants.{ReadFault as read_fault}
+use Rattle.om_outcome.specs.declared.stop.Stop.TheVariants.{TooLong as too_long}
+use Rattle.om_outcome.specs.declared.stop.Stop.TheVariants.{Memory as out_of_memory}
+pub use Rattle.om_outcome.specs.CommandLine.{Saying, plain, all_under, the_verdict, the_text}
+pub use Rattle.om_outcome.specs.CommandLine.{the_part, the_trees, Request, tell, get, edit, dump}
+pub use Rattle.om_outcome.specs.CommandLine.{compare, own, OwnRequest, build, generate, verify}
+pub use Rattle.om_outcome.specs.CommandLine.{Asks, IsUsage, AskedType, asked_with, asked_type}
+pub use Rattle.om_outcome.specs.CommandLine.{typed_by, path_of, script_of, reading_of, limit_of}
 use Rattle.om_outcome.specs.RefusalText.{refusal_text, truncated_text}
 use Rattle.om_format.specs.Iso.{Iso}
 use Rattle.om_format.specs.Tree.{Tree, root, objects_of}

@@ -1,12 +1,19 @@
 -- The texts of refusals: the name, the numbers in parentheses and the place.
-use Rattle.std.specs.Prelude.{ℕ, ◌/◌, ◌%◌, List, [], ◌∷◌, ◌++◌, length, flat_map, slice_index, codes, decimal}
+use Rattle.std.specs.Prelude.{ℕ, ◌/◌, ◌%◌, List, [], ◌∷◌, ◌++◌, length, flat_map, slice_index}
+use Rattle.std.specs.Prelude.{codes, decimal}
 use Rattle.std.specs.Fmt.{signed_decimal}
 use Rattle.std.specs.Int.{w32, to_be_bytes}
 use Rattle.om_model.specs.declared.value.Obj.TheVariants as objects
 use Rattle.om_format.specs.Compat.{TooLargeFor32, token, header}
 use Rattle.om_format.specs.Token.{integer, block, leaf}
 use Rattle.om_model.specs.declared.refusal.ReadRefusal.{ReadRefusal}
-use Rattle.om_model.specs.declared.refusal.ReadRefusal.TheVariants.{BadMagic, Compressed, TooLarge, BadCode, PointerCode, OtherCustom, BadTag, BadShared, NoTable, BadNative, IntRange, ZeroArray, Overlong, SizeMismatch, CountMismatch, LengthMismatch, Memory}
+use Rattle.om_model.specs.declared.refusal.ReadRefusal.TheVariants.{BadMagic, Compressed, TooLarge}
+use Rattle.om_model.specs.declared.refusal.ReadRefusal.TheVariants.{BadCode, PointerCode}
+use Rattle.om_model.specs.declared.refusal.ReadRefusal.TheVariants.{OtherCustom, BadTag, BadShared}
+use Rattle.om_model.specs.declared.refusal.ReadRefusal.TheVariants.{NoTable, BadNative, IntRange}
+use Rattle.om_model.specs.declared.refusal.ReadRefusal.TheVariants.{ZeroArray, Overlong}
+use Rattle.om_model.specs.declared.refusal.ReadRefusal.TheVariants.{SizeMismatch, CountMismatch}
+use Rattle.om_model.specs.declared.refusal.ReadRefusal.TheVariants.{LengthMismatch, Memory}
 use Rattle.om_model.specs.declared.refusal.Stated.{Stated}
 use Rattle.om_model.specs.declared.refusal.Stated.TheVariants.{Words, Length}
 use Rattle.om_model.specs.declared.refusal.WordSum.{WordSum}

@@ -1,7 +1,10 @@
 -- The numbers of the statuses.
 use Rattle.std.specs.Prelude.{ℕ}
 use Rattle.om_outcome.specs.declared.status.Status.{Status}
-use Rattle.om_outcome.specs.declared.status.Status.TheVariants.{Well, No, Usage, Types, Value, Script, ReadFault, WriteFault, OpenFault, Memory, TooLong, Compat, Certificate}
+use Rattle.om_outcome.specs.declared.status.Status.TheVariants.{Well, No, Usage, Types, Value}
+use Rattle.om_outcome.specs.declared.status.Status.TheVariants.{Script, ReadFault, WriteFault}
+use Rattle.om_outcome.specs.declared.status.Status.TheVariants.{OpenFault, Memory, TooLong, Compat}
+use Rattle.om_outcome.specs.declared.status.Status.TheVariants.{Certificate}
 
 abbrev pub code_of : Status → ℕ
 code_of Well = 0

@@ -1,5 +1,6 @@
 -- The table of declarations on what they stand for: what the code does at a lexeme.
-use Rattle.std.specs.Prelude.{ℕ, ◌≡◌, Bool, true, false, Option, Some, None, Result, Ok, Err, List, [], ◌∷◌, ◌++◌, length, ⊤}
+use Rattle.std.specs.Prelude.{ℕ, ◌≡◌, Bool, true, false, Option, Some, None, Result, Ok, Err, List}
+use Rattle.std.specs.Prelude.{[], ◌∷◌, ◌++◌, length, ⊤}
 use Rattle.om_lex.specs.declared.lexeme.LexemeKind.{LexemeKind}
 use Rattle.om_lex.specs.declared.lexeme.LexemeKind.TheVariants as kinds
 use Rattle.om_lex.specs.declared.lexeme.Keyword.TheVariants as keywords
@@ -28,7 +29,8 @@ use Rattle.om_parse.specs.declared.so_far.Around.{Around}
 use Rattle.om_parse.specs.declared.so_far.Around.TheVariants as arounds
 use Rattle.om_parse.specs.declared.so_far.FilePhase.{FilePhase}
 use Rattle.om_parse.specs.declared.so_far.FilePhase.TheVariants as files
-use Rattle.om_parse.specs.TypeCode.{StepCode, goes, ended, stops, begin_code, step_code, depth_code, whole_code}
+use Rattle.om_parse.specs.TypeCode.{StepCode, goes, ended, stops, begin_code, step_code, depth_code}
+use Rattle.om_parse.specs.TypeCode.{whole_code}
 
 pub data FileStep : Type 0 where
   file_goes : (nodes : List Node) (frames : List Frame) (phase : FilePhase) → FileStep

@@ -36,7 +36,8 @@ use Rattle.om_grammar.specs.File.{
 }
 use Rattle.om_types.specs.Nodes.{AreOrdered}
 use Rattle.om_types.specs.declared.ty.Node.{Node}
-use Rattle.om_parse.specs.Written.{type_of_app, parameters_of, field_of_tree, fields_of_tree, constructor_of_tree, declaration_of_tree, declarations_of}
+use Rattle.om_parse.specs.Written.{type_of_app, parameters_of, field_of_tree, fields_of_tree}
+use Rattle.om_parse.specs.Written.{constructor_of_tree, declaration_of_tree, declarations_of}
 use Rattle.om_parse.specs.declared.open.Frame.{Frame}
 use Rattle.om_parse.specs.declared.open.Phase.{Phase}
 use Rattle.om_parse.specs.declared.open.Step.{Step}

@@ -1,5 +1,6 @@
 -- The table of types on numbers of nodes: what the code does at a lexeme.
-use Rattle.std.specs.Prelude.{ℕ, suc, ◌≡◌, min, max, Bool, true, false, Option, Some, None, Result, Ok, Err, List, [], ◌∷◌, ◌++◌, length, ⊤}
+use Rattle.std.specs.Prelude.{ℕ, suc, ◌≡◌, min, max, Bool, true, false, Option, Some, None, Result}
+use Rattle.std.specs.Prelude.{Ok, Err, List, [], ◌∷◌, ◌++◌, length, ⊤}
 use Rattle.om_lex.specs.declared.lexeme.LexemeKind.{LexemeKind}
 use Rattle.om_lex.specs.declared.lexeme.LexemeKind.TheVariants as kinds
 use Rattle.om_lex.specs.declared.lexeme.Keyword.TheVariants as keywords

@@ -1,9 +1,12 @@
 -- Which state of the table nodes, frames and a phase are.
-use Rattle.std.specs.Prelude.{ℕ, suc, ◌≡◌, ◌<◌, min, max, Bool, true, false, List, [], ◌∷◌, ◌++◌, length, ⊤}
+use Rattle.std.specs.Prelude.{ℕ, suc, ◌≡◌, ◌<◌, min, max, Bool, true, false, List, [], ◌∷◌, ◌++◌}
+use Rattle.std.specs.Prelude.{length, ⊤}
 use Rattle.om_grammar.specs.Grammar.{Texpr, App, Texprs, Items, Item}
 use Rattle.om_grammar.specs.Grammar as trees
 use Rattle.om_grammar.specs.Depths.{texpr_depth, part_depth, app_depth, texprs_depth, items_depth}
-use Rattle.om_grammar.specs.Holes.{TypeHole, PartHole, ItemHole, State, whole, group, argument, of_tag, first_part, next_part, inclusion, alone, first_item, next_item, due, read, name_due, tag_read}
+use Rattle.om_grammar.specs.Holes.{TypeHole, PartHole, ItemHole, State, whole, group, argument}
+use Rattle.om_grammar.specs.Holes.{of_tag, first_part, next_part, inclusion, alone, first_item}
+use Rattle.om_grammar.specs.Holes.{next_item, due, read, name_due, tag_read}
 use Rattle.om_types.specs.Ty.{Ty, bracket}
 use Rattle.om_types.specs.Nodes.{type_at, types_of}
 use Rattle.om_types.specs.declared.ty.Node.{Node}

@@ -3,7 +3,9 @@
 ghost use Rattle.std.specs.Prelude.{◌≡◌, IfOk};
 ghost use Rattle.om_parse.specs.declared.so_far.FilePhase.TheVariants as files;
 ghost use Rattle.om_parse.specs.TypeCode.{whole_code};
-ghost use Rattle.om_parse.specs.FileCode.{more_decls, decl_code, closed_constr_code, closed_record_code, closed_type_code, in_type_whole, file_whole_code};
+ghost use Rattle.om_parse.specs.FileCode.{more_decls, decl_code, closed_constr_code};
+ghost use Rattle.om_parse.specs.FileCode.{closed_record_code, closed_type_code, in_type_whole};
+ghost use Rattle.om_parse.specs.FileCode.{file_whole_code};
 ghost use Rattle.om_parse.specs.FileShown.{IsReadable};
 
 use crate::file_step::with_decl;

@@ -2,7 +2,13 @@
 
 ghost use Rattle.std.specs.Prelude.{◌≡◌, ◌++◌, ◌∷◌, [], Some, length, IfOk};
 ghost use Rattle.om_parse.specs.declared.so_far.FilePhase.TheVariants as files;
-ghost use Rattle.om_parse.specs.FileCode.{decl_code, after_decl_code, after_constr_code, after_record_code, after_field_code, listed_code, after_type_code, begin_file_code, begin_decl_code, take_param_code, after_param_code, take_decl_name_code, take_equals_code, take_upper_code, after_upper_code, close_record_code, begin_field_code, take_field_name_code, take_colon_code};
+ghost use Rattle.om_parse.specs.FileCode.{decl_code, after_decl_code, after_constr_code};
+ghost use Rattle.om_parse.specs.FileCode.{after_record_code, after_field_code, listed_code};
+ghost use Rattle.om_parse.specs.FileCode.{after_type_code, begin_file_code, begin_decl_code};
+ghost use Rattle.om_parse.specs.FileCode.{take_param_code, after_param_code, take_decl_name_code};
+ghost use Rattle.om_parse.specs.FileCode.{take_equals_code, take_upper_code, after_upper_code};
+ghost use Rattle.om_parse.specs.FileCode.{close_record_code, begin_field_code};
+ghost use Rattle.om_parse.specs.FileCode.{take_field_name_code, take_colon_code};
 
 use crate::names::copied;
 use crate::open::Phase;

@@ -4,7 +4,9 @@ ghost use Rattle.std.specs.Prelude.{List as Seq, ◌≡◌, Option, Some, None, 
 ghost use Rattle.om_parse.specs.declared.open.Frame.{Frame as AFrame};
 ghost use Rattle.om_parse.specs.TypeCode.{begin_code, step_code};
 ghost use Rattle.om_parse.specs.declared.so_far.FilePhase.TheVariants as files;
-ghost use Rattle.om_parse.specs.FileCode.{is_argument, in_type_code, begin_body_code, begin_arguments_code, file_step_code, file_depth_code, after_step, FileSteps};
+ghost use Rattle.om_parse.specs.FileCode.{is_argument, in_type_code, begin_body_code};
+ghost use Rattle.om_parse.specs.FileCode.{begin_arguments_code, file_step_code, file_depth_code};
+ghost use Rattle.om_parse.specs.FileCode.{after_step, FileSteps};
 ghost use Rattle.om_parse.specs.FileShown.{IsReadable, IfEnded};
 
 use crate::file_step::{

@@ -1,7 +1,13 @@
 //! One lexeme of a type.
 
 ghost use Rattle.std.specs.Prelude.{List as Seq, ◌≡◌, ◌++◌, ◌∷◌, [], max, length, IfOk, OnOk};
-ghost use Rattle.om_parse.specs.TypeCode.{deeper, part, reads, begin_item_code, begin_code, item_node, item_depth_code, after_items_code, after_item_code, after_group_code, after_argument_code, close_type_code, after_single_code, after_tuple_code, outermost_code, close_part_code, after_part_code, parts_nodes, parts_node, take_name_code, after_tag_code, step_code, Steps};
+ghost use Rattle.om_parse.specs.TypeCode.{deeper, part, reads, begin_item_code, begin_code};
+ghost use Rattle.om_parse.specs.TypeCode.{item_node, item_depth_code, after_items_code};
+ghost use Rattle.om_parse.specs.TypeCode.{after_item_code, after_group_code, after_argument_code};
+ghost use Rattle.om_parse.specs.TypeCode.{close_type_code, after_single_code, after_tuple_code};
+ghost use Rattle.om_parse.specs.TypeCode.{outermost_code, close_part_code, after_part_code};
+ghost use Rattle.om_parse.specs.TypeCode.{parts_nodes, parts_node, take_name_code, after_tag_code};
+ghost use Rattle.om_parse.specs.TypeCode.{step_code, Steps};
 ghost use Rattle.om_parse.specs.declared.open.Frame.{Frame as AFrame};
 ghost use Rattle.om_types.specs.declared.ty.Node.{Node as ANode};
 ghost use Rattle.om_lex.specs.declared.lexeme.LexemeKind.TheVariants as kinds;

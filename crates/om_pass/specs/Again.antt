@@ -5,7 +5,8 @@ use Rattle.std.specs.Prelude.{Contains}
 use Rattle.om_model.specs.declared.value.Obj.{Obj}
 use Rattle.om_types.specs.Table.{Table}
 use Rattle.om_format.specs.Words.{objects}
-use Rattle.om_format.specs.Token.{Token, integer, atom, shared, block, leaf, IsToken, Spells, measure_of}
+use Rattle.om_format.specs.Token.{Token, integer, atom, shared, block, leaf, IsToken, Spells}
+use Rattle.om_format.specs.Token.{measure_of}
 use Rattle.om_pass_law.specs.Asked.{of_type, IsBackAt}
 use Rattle.om_pass_law.specs.Noted.{AreAt, AreFlat, flat_values, IsFlatNoted}
 use Rattle.om_pass.specs.declared.again.Seen.{Seen}

@@ -1,6 +1,7 @@
 //! Tokens that were passed are looked at again.
 
-ghost use Rattle.std.specs.Prelude.{◌≡◌, ◌<◌, ◌+◌, length, slice_get, slice_index, Some, Ok, IfSome};
+ghost use Rattle.std.specs.Prelude.{◌≡◌, ◌<◌, ◌+◌, length, slice_get, slice_index, Some, Ok};
+ghost use Rattle.std.specs.Prelude.{IfSome};
 ghost use Rattle.std.specs.Prelude.{if◌then◌else◌};
 ghost use Rattle.om_format.specs.Code.{IsKind, kind_of};
 ghost use Rattle.om_format.specs.Raw.{fixed_bytes, variable_bytes};

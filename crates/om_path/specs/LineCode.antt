@@ -1,5 +1,6 @@
 -- What the parts of the code tell of a line.
-use Rattle.std.specs.Prelude.{ℕ, ◌≡◌, ◌≤◌, nat_le, if◌then◌else◌, Option, Some, None, Result, Ok, Err, List, [], length, take}
+use Rattle.std.specs.Prelude.{ℕ, ◌≡◌, ◌≤◌, nat_le, if◌then◌else◌, Option, Some, None, Result, Ok}
+use Rattle.std.specs.Prelude.{Err, List, [], length, take}
 use Rattle.om_lex.specs.declared.lexeme.Lexeme.{Lexeme}
 use Rattle.om_grammar.specs.Machine.{run}
 use Rattle.om_grammar.specs.Refusals.{IsSyntax}

@@ -1,5 +1,6 @@
 -- What the text of a script is: its edits, or the fault of its first faulty line.
-use Rattle.std.specs.Prelude.{ℕ, suc, ◌≡◌, ◌<◌, ◌≤◌, ◌==◌, Option, Some, None, List, [], ◌∷◌, ◌++◌, length, Result, Ok, Err, ⊤}
+use Rattle.std.specs.Prelude.{ℕ, suc, ◌≡◌, ◌<◌, ◌≤◌, ◌==◌, Option, Some, None, List, [], ◌∷◌, ◌++◌}
+use Rattle.std.specs.Prelude.{length, Result, Ok, Err, ⊤}
 use Rattle.std.specs.List.{slice_split}
 use Rattle.om_lex.specs.declared.lexeme.Lexeme.{Lexeme}
 use Rattle.om_lex.specs.declared.lexeme.LexFault.{LexFault}
@@ -8,7 +9,8 @@ use Rattle.om_lex.specs.LexText.{Outcome}
 use Rattle.om_grammar.specs.Refusals.{IsSyntax}
 use Rattle.om_grammar.specs.Lexemes.{kinds_of}
 use Rattle.om_parse.specs.Parsed.{byte_of}
-use Rattle.om_path.specs.LineGrammar.{LineTree, set_line, link_line, unshare_line, graft_line, line_kinds}
+use Rattle.om_path.specs.LineGrammar.{LineTree, set_line, link_line, unshare_line, graft_line}
+use Rattle.om_path.specs.LineGrammar.{line_kinds}
 use Rattle.om_path.specs.declared.edits.Action.{Action}
 use Rattle.om_path.specs.declared.edits.Action.TheVariants as actions
 use Rattle.om_path.specs.declared.edits.Edit.TheVariants as edits

@@ -1,9 +1,11 @@
 //! A line of a script from its lexemes.
 
-ghost use Rattle.std.specs.Prelude.{◌≡◌, ◌<◌, ◌≤◌, IfOk, IfErr, Option, Some, None, Ok, Err, length, drop};
+ghost use Rattle.std.specs.Prelude.{◌≡◌, ◌<◌, ◌≤◌, IfOk, IfErr, Option, Some, None, Ok, Err};
+ghost use Rattle.std.specs.Prelude.{length, drop};
 ghost use Rattle.om_grammar.specs.Lexemes.{number_of};
 ghost use Rattle.om_path.specs.Machine.{at};
-ghost use Rattle.om_path.specs.LineMachine.{named_role, role_of, valued, begun, is_equals, after_equals, with_other, steps_next, next_of};
+ghost use Rattle.om_path.specs.LineMachine.{named_role, role_of, valued, begun, is_equals};
+ghost use Rattle.om_path.specs.LineMachine.{after_equals, with_other, steps_next, next_of};
 ghost use Rattle.om_path.specs.ScriptAnswer.{IsRead, IsLineAnswer, UnlessMemory};
 ghost use Rattle.om_path.specs.LineCode.{IsTold, action_of, ended_line, in_time};
 ghost use Rattle.om_path.specs.declared.edits.Action.TheVariants as actions;

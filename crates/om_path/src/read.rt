@@ -1,6 +1,7 @@
 //! A path from its text.
 
-ghost use Rattle.std.specs.Prelude.{◌≡◌, if◌then◌else◌, IfOk, IfErr, List, ℕ, Option, Some, None, Result, Ok, Err};
+ghost use Rattle.std.specs.Prelude.{◌≡◌, if◌then◌else◌, IfOk, IfErr, List, ℕ, Option, Some, None};
+ghost use Rattle.std.specs.Prelude.{Result, Ok, Err};
 ghost use Rattle.om_path.specs.Answer.{IsAnswer, IsSpelled, UnlessMemory, Tells};
 ghost use Rattle.om_grammar.specs.Lexemes.{number_of};
 ghost use Rattle.om_path.specs.Machine.{is_dot, at, step, stepped, accepted};

@@ -1,6 +1,7 @@
 //! A script from its text.
 
-ghost use Rattle.std.specs.Prelude.{◌≡◌, ◌++◌, ◌==◌, Option, Ok, Err, IfOk, IfErr, OnOk, Result, option_to_list};
+ghost use Rattle.std.specs.Prelude.{◌≡◌, ◌++◌, ◌==◌, Option, Ok, Err, IfOk, IfErr, OnOk, Result};
+ghost use Rattle.std.specs.Prelude.{option_to_list};
 ghost use Rattle.std.specs.List.{position_or_len};
 ghost use Rattle.om_path.specs.ScriptAnswer.{AreEdits, IsScriptAnswer, UnlessMemory, TellsScript};
 ghost use Rattle.om_path.specs.declared.edits.Script.{Script};

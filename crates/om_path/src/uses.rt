@@ -1,6 +1,7 @@
 //! The values that the lines of a script copy from, and those that they copy into.
 
-ghost use Rattle.std.specs.Prelude.{◌≡◌, ◌++◌, ◌≤◌, [], IfOk, OnOk, MatchOption, All, Any, option_to_list};
+ghost use Rattle.std.specs.Prelude.{◌≡◌, ◌++◌, ◌≤◌, [], IfOk, OnOk, MatchOption, All, Any};
+ghost use Rattle.std.specs.Prelude.{option_to_list};
 ghost use Rattle.om_path.specs.Order.{IsByValue, places_of};
 ghost use Rattle.om_path.specs.Uses.{use_of, uses_in, AreUses};
 

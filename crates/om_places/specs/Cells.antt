@@ -1,5 +1,6 @@
 -- A set of places as cells of 64 bits, each with the number of places before it.
-use Rattle.std.specs.Prelude.{ℕ, ◌+◌, ◌*◌, ◌/◌, ◌%◌, ◌^◌, ◌<◌, ◌≤◌, ◌≡◌, List, length, slice_index, slice_index_or, slice_set, count_ones}
+use Rattle.std.specs.Prelude.{ℕ, ◌+◌, ◌*◌, ◌/◌, ◌%◌, ◌^◌, ◌<◌, ◌≤◌, ◌≡◌, List, length, slice_index}
+use Rattle.std.specs.Prelude.{slice_index_or, slice_set, count_ones}
 use Rattle.om_places.specs.declared.cells.Cell.{Cell}
 
 -- the cell of place p

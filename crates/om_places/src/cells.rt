@@ -1,6 +1,7 @@
 //! Places as bits: the number of a place is how many places are before it.
 
-ghost use Rattle.std.specs.Prelude.{◌≡◌, ◌+◌, ◌-◌, ◌/◌, ◌%◌, ◌^◌, ◌<◌, length, take, replicate, ◌++◌, MatchResult, MatchBool};
+ghost use Rattle.std.specs.Prelude.{◌≡◌, ◌+◌, ◌-◌, ◌/◌, ◌%◌, ◌^◌, ◌<◌, length, take, replicate};
+ghost use Rattle.std.specs.Prelude.{◌++◌, MatchResult, MatchBool};
 ghost use Rattle.om_places.specs.Cells.{cell_at, rank, marked, cut};
 
 use om_model::Memory;

@@ -1,6 +1,7 @@
 //! A list of increasing places.
 
-ghost use Rattle.std.specs.Prelude.{◌≡◌, ◌<◌, ◌≤◌, [], ◌∷◌, ◌++◌, length, take, All, Contains, slice_index, MatchResult, MatchBool};
+ghost use Rattle.std.specs.Prelude.{◌≡◌, ◌<◌, ◌≤◌, [], ◌∷◌, ◌++◌, length, take, All, Contains};
+ghost use Rattle.std.specs.Prelude.{slice_index, MatchResult, MatchBool};
 
 use crate::cells;
 use crate::cells::Cell;

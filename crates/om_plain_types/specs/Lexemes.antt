@@ -1,5 +1,6 @@
 -- The lexemes of a text by their numbers. Behind the last one is the end.
-use Rattle.std.specs.Prelude.{ℕ, List, Option, Some, None, slice_get, codes, slice_index, if◌then◌else◌}
+use Rattle.std.specs.Prelude.{ℕ, List, Option, Some, None, slice_get, codes, slice_index}
+use Rattle.std.specs.Prelude.{if◌then◌else◌}
 use Rattle.std.specs.Str.{bytes_eq}
 use Rattle.om_lex.specs.Lexeme.{starts_lower}
 use Rattle.om_plain_types.specs.declared.lexer.Kind.{Kind}

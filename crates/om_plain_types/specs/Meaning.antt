@@ -1,5 +1,6 @@
 -- What names mean among declarations.
-use Rattle.std.specs.Prelude.{ℕ, ◌≡◌, ◌≢◌, ◌||◌, min, is_some, Bool, List, length, Option, Some, None, position, option_map, option_and_then, slice_get}
+use Rattle.std.specs.Prelude.{ℕ, ◌≡◌, ◌≢◌, ◌||◌, min, is_some, Bool, List, length, Option, Some}
+use Rattle.std.specs.Prelude.{None, position, option_map, option_and_then, slice_get}
 use Rattle.std.specs.List.{list_any}
 use Rattle.std.specs.Str.{bytes_eq}
 use Rattle.om_types.specs.Declarations.{predeclared, predeclared_arity}

@@ -1,6 +1,7 @@
 //! Abbreviations replaced.
 
-ghost use Rattle.std.specs.Prelude.{◌≡◌, ◌<◌, None, false, [], length, position, IfOk, IfSome, IsTrue};
+ghost use Rattle.std.specs.Prelude.{◌≡◌, ◌<◌, None, false, [], length, position, IfOk, IfSome};
+ghost use Rattle.std.specs.Prelude.{IsTrue};
 ghost use Rattle.std.specs.Str.{bytes_eq};
 ghost use Rattle.om_plain_types.specs.Trees.{AreAlike};
 ghost use Rattle.om_plain_types.specs.declared.tree.Placed.{Placed};

@@ -1,7 +1,8 @@
 //! The rules of scope that ask what names and variables mean, on one declaration or on a type.
 
 ghost use Rattle.std.specs.Prelude.{◌≡◌, None, IsSome, IsTrue};
-ghost use Rattle.om_plain_types.specs.Meaning.{arity_of_predeclared, is_among, IsAnswerOf, IsRuleOfScope};
+ghost use Rattle.om_plain_types.specs.Meaning.{arity_of_predeclared, is_among, IsAnswerOf};
+ghost use Rattle.om_plain_types.specs.Meaning.{IsRuleOfScope};
 ghost use Rattle.om_plain_types.specs.Trees.{holds_variable};
 
 use crate::declared::{arity_of, declaration_of, predeclared_arity};

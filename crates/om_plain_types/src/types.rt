@@ -5,7 +5,8 @@
 //! texpr "," texpr { "," texpr } ")" LIDENT | "[" [ "|" ] item { "|" item } "]" item = TAG [ "of"
 //! texpr ] | app
 
-ghost use Rattle.std.specs.Prelude.{◌≡◌, ◌<◌, ◌≤◌, None, true, false, suc, length, vec_len, IfOk, IfErr, IfSome, OnOk, IsTrue};
+ghost use Rattle.std.specs.Prelude.{◌≡◌, ◌<◌, ◌≤◌, None, true, false, suc, length, vec_len, IfOk};
+ghost use Rattle.std.specs.Prelude.{IfErr, IfSome, OnOk, IsTrue};
 ghost use Rattle.om_plain_types.specs.Lexemes.{kind_at, place_at, syntax_at};
 ghost use Rattle.om_plain_types.specs.Progress.{IsReadWithin};
 

@@ -1,5 +1,6 @@
 -- The number of a polymorphic variant's tag (`caml_hash_variant` of OCaml's runtime, `hash.c`).
-use Rattle.std.specs.Prelude.{ℕ, ℤ, pos, ◌-ℤ◌, ◌+◌, ◌*◌, ◌^◌, ◌%◌, List, [], ◌∷◌, length, nat_lt, if◌then◌else◌}
+use Rattle.std.specs.Prelude.{ℕ, ℤ, pos, ◌-ℤ◌, ◌+◌, ◌*◌, ◌^◌, ◌%◌, List, [], ◌∷◌, length, nat_lt}
+use Rattle.std.specs.Prelude.{if◌then◌else◌}
 
 -- the bytes as digits in base 223, the last one of weight 1, with no bound
 abbrev pub number_of_tag : List ℕ → ℕ

@@ -1,5 +1,6 @@
 -- Numbers of labels, by the objects' numbers.
-use Rattle.std.specs.Prelude.{ℕ, ◌<◌, ◌≡◌, ◌||◌, Bool, true, false, List, [], ◌∷◌, ◌++◌, length, slice_index, slice_index_or, slice_set}
+use Rattle.std.specs.Prelude.{ℕ, ◌<◌, ◌≡◌, ◌||◌, Bool, true, false, List, [], ◌∷◌, ◌++◌, length}
+use Rattle.std.specs.Prelude.{slice_index, slice_index_or, slice_set}
 use Rattle.om_model.specs.declared.value.Obj.{Obj}
 use Rattle.om_type_table.specs.declared.tabled.Tabled.{Tabled}
 use Rattle.om_show.specs.Pieces.{Piece, has, firsts, agains, number_in}

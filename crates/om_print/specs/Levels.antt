@@ -1,5 +1,6 @@
 -- Blocks that are open, one inside the other, and the ends of those whose last part has begun.
-use Rattle.std.specs.Prelude.{ℕ, ◌+◌, ◌≤◌, ◌≡◌, ◌==◌, if◌then◌else◌, List, [], ◌∷◌, ◌++◌, length, take, drop, map, Option, Some, None, IfSome, option_to_list, codes}
+use Rattle.std.specs.Prelude.{ℕ, ◌+◌, ◌≤◌, ◌≡◌, ◌==◌, if◌then◌else◌, List, [], ◌∷◌, ◌++◌, length}
+use Rattle.std.specs.Prelude.{take, drop, map, Option, Some, None, IfSome, option_to_list, codes}
 use Rattle.om_fits.specs.Needs.{needs_in}
 use Rattle.om_leaves.specs.FrameView.{frame_in}
 use Rattle.om_print.specs.declared.block.OpenBlock.{OpenBlock}

@@ -1,5 +1,7 @@
 -- Where a walk is among the pieces of a value.
-use Rattle.std.specs.Prelude.{ℕ, suc, zero, ◌+◌, ◌-◌, ◌<◌, ◌≤◌, ◌≡◌, List, [], ◌∷◌, ◌++◌, length, drop, reverse, map, All, Option, None, Some, IfSome, IsTrue, slice_get, slice_index_or, Bool, true, false, codes}
+use Rattle.std.specs.Prelude.{ℕ, suc, zero, ◌+◌, ◌-◌, ◌<◌, ◌≤◌, ◌≡◌, List, [], ◌∷◌, ◌++◌, length}
+use Rattle.std.specs.Prelude.{drop, reverse, map, All, Option, None, Some, IfSome, IsTrue}
+use Rattle.std.specs.Prelude.{slice_get, slice_index_or, Bool, true, false, codes}
 use Rattle.om_model.specs.declared.value.Val.{Val}
 use Rattle.om_model.specs.declared.value.Val.TheVariants as vals
 use Rattle.om_model.specs.declared.value.Obj.{Obj}

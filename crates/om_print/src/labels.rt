@@ -1,6 +1,7 @@
 //! Labels of the objects that are met again.
 
-ghost use Rattle.std.specs.Prelude.{◌≡◌, ◌<◌, ◌++◌, length, true, false, All, IfOk, OnOk, filter, slice_index_or, decimal, vec_len, codes};
+ghost use Rattle.std.specs.Prelude.{◌≡◌, ◌<◌, ◌++◌, length, true, false, All, IfOk, OnOk, filter};
+ghost use Rattle.std.specs.Prelude.{slice_index_or, decimal, vec_len, codes};
 ghost use Rattle.om_show.specs.Pieces.{First, Again, piece_text};
 ghost use Rattle.om_print.specs.Labels.{AreNumbers, AreLabels, IsMarkable, marks_after};
 

@@ -1,6 +1,7 @@
 //! The text of the values that are left, as long as no object is met again.
 
-ghost use Rattle.std.specs.Prelude.{◌≡◌, ◌<◌, ◌≤◌, ◌+◌, ◌++◌, length, Some, None, [], true, false, slice_index, slice_index_or, IfOk, IsTrue, OnOk, vec_len};
+ghost use Rattle.std.specs.Prelude.{◌≡◌, ◌<◌, ◌≤◌, ◌+◌, ◌++◌, length, Some, None, [], true, false};
+ghost use Rattle.std.specs.Prelude.{slice_index, slice_index_or, IfOk, IsTrue, OnOk, vec_len};
 ghost use Rattle.om_model.specs.Graph.{IsValue};
 ghost use Rattle.om_model.specs.declared.value.Val.TheVariants as vals;
 ghost use Rattle.om_model.specs.declared.value.Obj.TheVariants as objects;

@@ -1,6 +1,7 @@
 //! The text of a value at a type.
 
-ghost use Rattle.std.specs.Prelude.{◌≡◌, ◌<◌, ◌++◌, None, [], length, All, IfSome, IfOk, OnOk, flat_map, vec_len};
+ghost use Rattle.std.specs.Prelude.{◌≡◌, ◌<◌, ◌++◌, None, [], length, All, IfSome, IfOk, OnOk};
+ghost use Rattle.std.specs.Prelude.{flat_map, vec_len};
 ghost use Rattle.om_model.specs.Graph.{IsValue};
 ghost use Rattle.om_types.specs.Table.{table_shapes};
 ghost use Rattle.om_types.specs.Typing.{HasType};

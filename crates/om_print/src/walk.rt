@@ -1,6 +1,8 @@
 //! The pieces of a value at a type, depth first and parts from left to right.
 
-ghost use Rattle.std.specs.Prelude.{◌≡◌, ◌<◌, ◌≤◌, ◌+◌, option_map, length, Some, None, All, IfOk, OnOk, IsTrue, [], true, false, slice_index, slice_index_or, vec_len};
+ghost use Rattle.std.specs.Prelude.{◌≡◌, ◌<◌, ◌≤◌, ◌+◌, option_map, length, Some, None, All, IfOk};
+ghost use Rattle.std.specs.Prelude.{OnOk, IsTrue, [], true, false, slice_index, slice_index_or};
+ghost use Rattle.std.specs.Prelude.{vec_len};
 ghost use Rattle.om_model.specs.Graph.{IsValue};
 ghost use Rattle.om_model.specs.declared.value.Val.TheVariants as vals;
 ghost use Rattle.om_model.specs.declared.value.Obj.TheVariants as objects;

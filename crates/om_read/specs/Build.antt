@@ -1,6 +1,8 @@
 -- A graph built from tokens that come one at a time, in preorder: what a reader holds, and what a
 -- token adds to it (`intern.c` fills blocks so, from a stack of its own).
-use Rattle.std.specs.Prelude.{ℕ, ◌+◌, ◌-◌, ◌<◌, ◌≤◌, ◌≡◌, ◌==◌, if◌then◌else◌, List, [], ◌∷◌, ◌++◌, length, reverse, fold, sum_by, replicate, HoldsAt, All, Option, Some, None, pos}
+use Rattle.std.specs.Prelude.{ℕ, ◌+◌, ◌-◌, ◌<◌, ◌≤◌, ◌≡◌, ◌==◌, if◌then◌else◌, List, [], ◌∷◌, ◌++◌}
+use Rattle.std.specs.Prelude.{length, reverse, fold, sum_by, replicate, HoldsAt, All, Option, Some}
+use Rattle.std.specs.Prelude.{None, pos}
 use Rattle.om_model.specs.declared.value.Val.{Val}
 use Rattle.om_model.specs.declared.value.Val.TheVariants as vals
 use Rattle.om_model.specs.declared.value.Obj.{Obj}

@@ -1,5 +1,6 @@
 -- What the steps of a header come to (`intext.h` lays it out).
-use Rattle.std.specs.Prelude.{ℕ, ◌≡◌, ◌<◌, ◌≤◌, List, [], ◌∷◌, length, take, nat_lt, ◌==◌, if◌then◌else◌, Some, None, Result, Ok, Err}
+use Rattle.std.specs.Prelude.{ℕ, ◌≡◌, ◌<◌, ◌≤◌, List, [], ◌∷◌, length, take, nat_lt, ◌==◌}
+use Rattle.std.specs.Prelude.{if◌then◌else◌, Some, None, Result, Ok, Err}
 use Rattle.om_format.specs.Header.{header_length}
 use Rattle.om_model.specs.declared.header.Head.{Head}
 use Rattle.om_model.specs.declared.refusal.ReadRefusal.TheVariants.{TooLarge, Overlong}

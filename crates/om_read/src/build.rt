@@ -1,7 +1,8 @@
 //! The graph that tokens build, one token after another: a block's fields come after it
 //! (`intern.c`).
 
-ghost use Rattle.std.specs.Prelude.{◌≡◌, ◌≢◌, ◌+◌, ◌≤◌, ◌<◌, ◌^◌, ◌∷◌, length, OnOk, vec_len, vec_capacity, IsSome, Some, MatchBool, MatchResult};
+ghost use Rattle.std.specs.Prelude.{◌≡◌, ◌≢◌, ◌+◌, ◌≤◌, ◌<◌, ◌^◌, ◌∷◌, length, OnOk, vec_len};
+ghost use Rattle.std.specs.Prelude.{vec_capacity, IsSome, Some, MatchBool, MatchResult};
 ghost use Rattle.om_model.specs.Graph.{IsValue};
 ghost use Rattle.om_heap.specs.Heap.{word_of};
 ghost use Rattle.om_read.specs.Build.{building, stack, fill as fill_next_of, AreOpen, WellOpen};
@@ -120,7 +121,8 @@ fn open_block(
 }
 
 impl Builder {
-    ghost use Rattle.om_format.specs.Token.{integer as integer_token, atom as atom_token, shared as shared_token, block as block_token, leaf};
+    ghost use Rattle.om_format.specs.Token.{integer as integer_token, atom as atom_token};
+    ghost use Rattle.om_format.specs.Token.{shared as shared_token, block as block_token, leaf};
     ghost use Rattle.om_model.specs.declared.value.Obj.TheVariants as objects;
     ghost use Rattle.om_heap.specs.Heap.{custom_object, heap_words};
     ghost use Rattle.om_model.specs.declared.code.Measure.TheVariants as measures;

@@ -1,7 +1,8 @@
 //! Most tokens pass for sure, by few tests, and need no memory: they are taken here, one after
 //! another. What is in doubt is left to the judge.
 
-ghost use Rattle.std.specs.Prelude.{◌≡◌, ◌≤◌, ◌<◌, ◌+◌, ℕ, List, [], length, slice_index, None, Some, Ok, IfSome, OnSome};
+ghost use Rattle.std.specs.Prelude.{◌≡◌, ◌≤◌, ◌<◌, ◌+◌, ℕ, List, [], length, slice_index, None};
+ghost use Rattle.std.specs.Prelude.{Some, Ok, IfSome, OnSome};
 ghost use Rattle.om_format.specs.Code.{kind_of, IsKind};
 ghost use Rattle.om_format.specs.Raw.{fixed_bytes, variable_bytes};
 ghost use Rattle.om_format.specs.Step.{Context, field_refusal};

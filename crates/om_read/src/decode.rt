@@ -1,6 +1,7 @@
 //! What a whole token adds to the graph (`intern.c`).
 
-ghost use Rattle.std.specs.Prelude.{◌≡◌, ◌≤◌, ◌<◌, ◌*◌, ◌/◌, ◌%◌, ◌^◌, ℕ, List, length, OnOk, Some, MatchBool};
+ghost use Rattle.std.specs.Prelude.{◌≡◌, ◌≤◌, ◌<◌, ◌*◌, ◌/◌, ◌%◌, ◌^◌, ℕ, List, length, OnOk, Some};
+ghost use Rattle.std.specs.Prelude.{MatchBool};
 ghost use Rattle.om_model.specs.declared.value.Obj.TheVariants as objects;
 ghost use Rattle.om_model.specs.Bytes.{number, SpellsDoubles};
 ghost use Rattle.om_format.specs.Code.{IsKind};

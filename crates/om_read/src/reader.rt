@@ -33,7 +33,8 @@ pub struct Reader {
 }
 
 impl Reader {
-    ghost use Rattle.om_read.specs.Reader.{Leads, IsReader, IsReading, IsStopped, IsDone, Feeds, IsWithin, Finishes, EndsInput};
+    ghost use Rattle.om_read.specs.Reader.{Leads, IsReader, IsReading, IsStopped, IsDone, Feeds};
+    ghost use Rattle.om_read.specs.Reader.{IsWithin, Finishes, EndsInput};
 
     /// A reader of a value of at most `limit` words on 64 bits. It takes no memory.
     pub fn new(alloc: Global, limit: u64) -> Reader

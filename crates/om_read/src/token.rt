@@ -3,7 +3,8 @@
 ghost use Rattle.std.specs.Prelude.{◌≡◌, ◌≤◌, ◌<◌, ◌+◌, ◌*◌, ◌^◌, length, take};
 ghost use Rattle.om_model.specs.Bytes.{number, signed};
 ghost use Rattle.om_format.specs.Code.{custom_of, native_bytes, IsKind};
-ghost use Rattle.om_format.specs.Raw.{fixed_bytes, field_bytes, variable_bytes, measure_after, custom_bytes, custom_measure, block_measure};
+ghost use Rattle.om_format.specs.Raw.{fixed_bytes, field_bytes, variable_bytes, measure_after};
+ghost use Rattle.om_format.specs.Raw.{custom_bytes, custom_measure, block_measure};
 ghost use Rattle.om_format.specs.Words.{of_object, fields};
 
 use om_customs::ident;

@@ -1,6 +1,8 @@
 //! Where a token stands, and the steps that compare it with what came before.
 
-ghost use Rattle.std.specs.Prelude.{◌≡◌, ◌≤◌, ◌<◌, ◌+◌, ◌-◌, ◌*◌, ◌^◌, [], length, take, slice_index, None, OnOk, IfOk, false, nat_lt, Option, ℕ, ◌==◌, if◌then◌else◌};
+ghost use Rattle.std.specs.Prelude.{◌≡◌, ◌≤◌, ◌<◌, ◌+◌, ◌-◌, ◌*◌, ◌^◌, [], length, take};
+ghost use Rattle.std.specs.Prelude.{slice_index, None, OnOk, IfOk, false, nat_lt, Option, ℕ, ◌==◌};
+ghost use Rattle.std.specs.Prelude.{if◌then◌else◌};
 ghost use Rattle.std.specs.Option.{ForSome};
 
 use crate::token::{
@@ -39,7 +41,14 @@ impl Totals {
     ghost use Rattle.om_format.specs.Code.{IsKind, custom_of, native_bytes};
     ghost use Rattle.om_format.specs.Raw.{field_bytes, fixed_bytes, variable_bytes, sizing_bytes};
     ghost use Rattle.om_format.specs.Words.{of_object, fields as fields_of, words32, words64};
-    ghost use Rattle.om_format.specs.Step.{overlong as overlong_refusal, field_refusal as refusal_of_fields, shared_refusal as refusal_of_shared, integer_refusal as refusal_of_integer, code_refusal as refusal_of_code, native_steps, variable_steps, entry_steps, closing_steps, words32_refusal, words64_refusal, end_steps, or_else, place};
+    ghost use Rattle.om_format.specs.Step.{overlong as overlong_refusal};
+    ghost use Rattle.om_format.specs.Step.{field_refusal as refusal_of_fields};
+    ghost use Rattle.om_format.specs.Step.{shared_refusal as refusal_of_shared};
+    ghost use Rattle.om_format.specs.Step.{integer_refusal as refusal_of_integer};
+    ghost use Rattle.om_format.specs.Step.{code_refusal as refusal_of_code, native_steps};
+    ghost use Rattle.om_format.specs.Step.{variable_steps, entry_steps, closing_steps};
+    ghost use Rattle.om_format.specs.Step.{words32_refusal, words64_refusal, end_steps, or_else};
+    ghost use Rattle.om_format.specs.Step.{place};
     ghost use Rattle.om_read.specs.Totals.{AreTotals, IsNext, context_of, sums, after_kind};
     ghost use Rattle.om_headers.specs.Counting.{IsCountable};
     ghost use Rattle.om_read.specs.Progress.{answered, and_then, progress, of_refusal};

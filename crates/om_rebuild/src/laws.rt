@@ -1,6 +1,7 @@
 //! The laws, as contracts.
 
-ghost use Rattle.om_rebuild.specs.Laws.{DeclaredTextsAreReadBack, LiteralsAreReadBack, NamesAreReadBack};
+ghost use Rattle.om_rebuild.specs.Laws.{DeclaredTextsAreReadBack, LiteralsAreReadBack};
+ghost use Rattle.om_rebuild.specs.Laws.{NamesAreReadBack};
 ghost use Rattle.om_rebuild.specs.Rebuilt.{ValuesAreRebuilt};
 
 /// Each type that is reached from a type that stands in a text, over declarations that stand in

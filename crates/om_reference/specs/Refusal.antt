@@ -3,7 +3,13 @@ use Rattle.std.specs.Prelude.{◌^◌, ◌<◌, Option, Some, None}
 use Rattle.om_model.specs.declared.refusal.ReadRefusal.{ReadRefusal}
 use Rattle.om_model.specs.declared.refusal.ReadRefusal.TheVariants as refusals
 use Rattle.om_reference.specs.declared.refusal.Refusal.{Refusal}
-use Rattle.om_reference.specs.declared.refusal.Refusal.TheVariants.{BadMagic, Compressed, TooLarge, BadCode, PointerCode, OtherCustom, BadTag, BadShared, NoTable, BadNative, IntRange, ZeroArray, Overlong, SizeMismatch, CountMismatch, LengthMismatch}
+use Rattle.om_reference.specs.declared.refusal.Refusal.TheVariants.{BadMagic, Compressed, TooLarge}
+use Rattle.om_reference.specs.declared.refusal.Refusal.TheVariants.{BadCode, PointerCode}
+use Rattle.om_reference.specs.declared.refusal.Refusal.TheVariants.{OtherCustom, BadTag, BadShared}
+use Rattle.om_reference.specs.declared.refusal.Refusal.TheVariants.{NoTable, BadNative, IntRange}
+use Rattle.om_reference.specs.declared.refusal.Refusal.TheVariants.{ZeroArray, Overlong}
+use Rattle.om_reference.specs.declared.refusal.Refusal.TheVariants.{SizeMismatch, CountMismatch}
+use Rattle.om_reference.specs.declared.refusal.Refusal.TheVariants.{LengthMismatch}
 
 -- the same with the same numbers
 abbrev pub refusal_of : Refusal → ReadRefusal

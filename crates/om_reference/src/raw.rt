@@ -2,7 +2,9 @@
 
 ghost use Rattle.std.specs.Prelude.{◌≡◌, ◌<◌, ◌^◌, Option};
 ghost use Rattle.om_format.specs.Code.{IsKind};
-ghost use Rattle.om_format.specs.Raw.{fixed_bytes, field_bytes, custom_bytes, kind_bytes, custom_measure, variable_bytes, block_measure, measure_after, sizing_bytes, raw_length, raw_measure};
+ghost use Rattle.om_format.specs.Raw.{fixed_bytes, field_bytes, custom_bytes, kind_bytes};
+ghost use Rattle.om_format.specs.Raw.{custom_measure, variable_bytes, block_measure, measure_after};
+ghost use Rattle.om_format.specs.Raw.{sizing_bytes, raw_length, raw_measure};
 
 use crate::code::{custom_of, kind_of, native_bytes};
 use crate::cut::{byte_at, first, number_of};

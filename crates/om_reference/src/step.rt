@@ -1,7 +1,8 @@
 //! Steps, and those of a header (`intern.c`).
 
 ghost use Rattle.std.specs.Prelude.{◌≡◌, Option};
-ghost use Rattle.om_format.specs.Step.{fails_if, or_else, first_refusal, magic_refusal, header_steps};
+ghost use Rattle.om_format.specs.Step.{fails_if, or_else, first_refusal, magic_refusal};
+ghost use Rattle.om_format.specs.Step.{header_steps};
 ghost use Rattle.om_reference.specs.Refusal.{refusal_of, refusal_in};
 ghost use Rattle.om_reference.specs.Step.{steps_of, differ};
 

@@ -4,7 +4,8 @@ ghost use Rattle.std.specs.Prelude.{◌≡◌, ◌*◌, ℕ, List as Seq, length
 ghost use Rattle.std.specs.List.{AllZip};
 ghost use Rattle.om_model.specs.Bytes.{SpellsDoubles};
 ghost use Rattle.om_format.specs.Code.{IsKind};
-ghost use Rattle.om_format.specs.Token.{Token as Spelled, block_or_atom, word_token, leaf, SpellsCustom, SpellsAfter, Spells};
+ghost use Rattle.om_format.specs.Token.{Token as Spelled, block_or_atom, word_token, leaf};
+ghost use Rattle.om_format.specs.Token.{SpellsCustom, SpellsAfter, Spells};
 ghost use Rattle.om_model.specs.declared.value.Obj.TheVariants as objects;
 ghost use Rattle.om_reference.specs.Token.{token_of};
 

@@ -3,7 +3,10 @@
 ghost use Rattle.std.specs.Prelude.{◌≡◌, ◌<◌, ◌^◌, ◌++◌, length, IfOk, OnOk};
 ghost use Rattle.om_format.specs.Code.{IsKind, custom_of};
 ghost use Rattle.om_format.specs.Raw.{measure_after};
-ghost use Rattle.om_format.specs.Step.{place, left_after, overlong, code_refusal, integer_refusal, shared_refusal, field_refusal, native_steps, variable_steps, words32_refusal, words64_refusal, end_steps, entry_steps, closing_steps, steps_after, token_steps};
+ghost use Rattle.om_format.specs.Step.{place, left_after, overlong, code_refusal, integer_refusal};
+ghost use Rattle.om_format.specs.Step.{shared_refusal, field_refusal, native_steps, variable_steps};
+ghost use Rattle.om_format.specs.Step.{words32_refusal, words64_refusal, end_steps, entry_steps};
+ghost use Rattle.om_format.specs.Step.{closing_steps, steps_after, token_steps};
 ghost use Rattle.om_reference.specs.Refusal.{refusal_of, refusal_in};
 ghost use Rattle.om_reference.specs.Step.{steps_of, context_of, differ};
 ghost use Rattle.om_reference.specs.Sums.{sums_in};

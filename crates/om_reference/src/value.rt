@@ -1,6 +1,7 @@
 //! What becomes of bytes that should be a value.
 
-ghost use Rattle.std.specs.Prelude.{◌≡◌, ◌≤◌, ◌<◌, ◌^◌, ◌++◌, ◌∷◌, [], ◌↔◌, take, length, IsTrue, IfOk, OnOk};
+ghost use Rattle.std.specs.Prelude.{◌≡◌, ◌≤◌, ◌<◌, ◌^◌, ◌++◌, ◌∷◌, [], ◌↔◌, take, length, IsTrue};
+ghost use Rattle.std.specs.Prelude.{IfOk, OnOk};
 ghost use Rattle.std.specs.List.{concat};
 ghost use Rattle.om_format.specs.Front.{header_refusal, IsOpen};
 ghost use Rattle.om_format.specs.Header.{header_length};

@@ -1,7 +1,8 @@
 //! The words that objects take, and sums over tokens (`extern.c`).
 
 ghost use Rattle.std.specs.Prelude.{◌≡◌, ◌≤◌, ◌<◌, ◌^◌, length, Option};
-ghost use Rattle.om_format.specs.Words.{words32, words64, fields, objects, all_words32, all_words64, pending, sums_of, one_more};
+ghost use Rattle.om_format.specs.Words.{words32, words64, fields, objects, all_words32};
+ghost use Rattle.om_format.specs.Words.{all_words64, pending, sums_of, one_more};
 ghost use Rattle.om_reference.specs.Sums.{all_fields, sums_in, AreFew};
 
 use om_model::code::Measure;

@@ -1,7 +1,9 @@
 //! The laws, as contracts.
 
 ghost use Rattle.om_same_type.specs.SameText.{DeclaredTextsAreKept, TableTextsAreKept};
-ghost use Rattle.om_same_type.specs.SameType.{DeclaredTypesAreKept, TableTypesAreKept, DeclaredFaultsAreKept, TableFaultsAreKept, DeclaredLinesAreKept};
+ghost use Rattle.om_same_type.specs.SameType.{DeclaredTypesAreKept, TableTypesAreKept};
+ghost use Rattle.om_same_type.specs.SameType.{DeclaredFaultsAreKept, TableFaultsAreKept};
+ghost use Rattle.om_same_type.specs.SameType.{DeclaredLinesAreKept};
 
 /// A value that is the same as one that has a type has it too.
 pub fn the_same_has_the_same_types()

@@ -1,5 +1,7 @@
 -- What a scan knows on its way.
-use Rattle.std.specs.Prelude.{ℕ, suc, ◌+◌, ◌^◌, ◌≡◌, ◌⊎◌, ◌<◌, ◌≤◌, List, [], length, take, Option, Some, None, slice_get, slice_index, Contains, false, IsTrue, MatchOption}
+use Rattle.std.specs.Prelude.{ℕ, suc, ◌+◌, ◌^◌, ◌≡◌, ◌⊎◌, ◌<◌, ◌≤◌, List, [], length, take, Option}
+use Rattle.std.specs.Prelude.{Some, None, slice_get, slice_index, Contains, false, IsTrue}
+use Rattle.std.specs.Prelude.{MatchOption}
 use Rattle.om_model.specs.declared.value.Val.{Val}
 use Rattle.om_model.specs.declared.value.Val.TheVariants as vals
 use Rattle.om_model.specs.declared.value.Obj.{Obj}

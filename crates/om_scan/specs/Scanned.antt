@@ -1,5 +1,6 @@
 -- What a scan answers.
-use Rattle.std.specs.Prelude.{ℕ, ◌≡◌, ◌<◌, ◌≤◌, ◌+◌, ◌-◌, ◌++◌, List, length, Some, Result, Ok, Err, slice_get, sum_by, Contains, IsTrue, MatchBool}
+use Rattle.std.specs.Prelude.{ℕ, ◌≡◌, ◌<◌, ◌≤◌, ◌+◌, ◌-◌, ◌++◌, List, length, Some, Result, Ok, Err}
+use Rattle.std.specs.Prelude.{slice_get, sum_by, Contains, IsTrue, MatchBool}
 use Rattle.om_model.specs.declared.out_of_memory.Memory.{Memory}
 use Rattle.om_model.specs.declared.value.Val.{Val}
 use Rattle.om_model.specs.declared.value.Val.TheVariants as vals
@@ -14,7 +15,8 @@ use Rattle.om_scan.specs.declared.straight.Scanned.{Scanned}
 use Rattle.om_scan.specs.declared.straight.Scanned.TheVariants as answers
 use Rattle.om_scan.specs.declared.taken.Taken.{Taken}
 use Rattle.om_scan.specs.Seconds.{noted_in, AreSeconds}
-use Rattle.om_scan.specs.Taken.{types_in, seen_of, is_unfit_field, is_unfit_object, size_of, rest_of}
+use Rattle.om_scan.specs.Taken.{types_in, seen_of, is_unfit_field, is_unfit_object, size_of}
+use Rattle.om_scan.specs.Taken.{rest_of}
 
 -- what an object needs at a type
 abbrev pub object_needs : Table → List Obj → ℕ → ℕ → List (ℕ × ℕ)

@@ -1,5 +1,6 @@
 -- What a scan took before it stopped, and what it saw of the needs.
-use Rattle.std.specs.Prelude.{ℕ, suc, ◌-◌, ◌==◌, nat_lt, if◌then◌else◌, ◌&&◌, Bool, false, List, length, take}
+use Rattle.std.specs.Prelude.{ℕ, suc, ◌-◌, ◌==◌, nat_lt, if◌then◌else◌, ◌&&◌, Bool, false, List}
+use Rattle.std.specs.Prelude.{length, take}
 use Rattle.om_model.specs.declared.value.Obj.{Obj}
 use Rattle.om_heap.specs.Heap.{object_at, fields_of}
 use Rattle.om_scan.specs.declared.taken.Taken.{Taken}

@@ -1,6 +1,7 @@
 //! A number for each place.
 
-ghost use Rattle.std.specs.Prelude.{◌≡◌, ◌<◌, length, replicate, slice_index, slice_set, IfOk, OnOk};
+ghost use Rattle.std.specs.Prelude.{◌≡◌, ◌<◌, length, replicate, slice_index, slice_set, IfOk};
+ghost use Rattle.std.specs.Prelude.{OnOk};
 ghost use Rattle.om_scan.specs.Row.{numbers_in};
 
 use om_model::Memory;

@@ -1,6 +1,7 @@
 //! The types of the objects in the order of their numbers.
 
-ghost use Rattle.std.specs.Prelude.{ℕ, ◌≡◌, ◌≢◌, ◌<◌, ◌≤◌, ◌+◌, ◌%◌, ◌^◌, ◌↔◌, [], length, take, slice_get, IsTrue, Some, Ok, IfOk, IfSome, OnOk, MatchOption};
+ghost use Rattle.std.specs.Prelude.{ℕ, ◌≡◌, ◌≢◌, ◌<◌, ◌≤◌, ◌+◌, ◌%◌, ◌^◌, ◌↔◌, [], length, take};
+ghost use Rattle.std.specs.Prelude.{slice_get, IsTrue, Some, Ok, IfOk, IfSome, OnOk, MatchOption};
 ghost use Rattle.std.specs.Bool.{OnTrue, OnFalse};
 ghost use Rattle.om_model.specs.Graph.{IsValue};
 ghost use Rattle.om_model.specs.declared.value.Val.{Val};
@@ -12,9 +13,13 @@ ghost use Rattle.om_type_table.specs.Made.{table_of};
 ghost use Rattle.om_scan.specs.Fitting.{table_in};
 ghost use Rattle.om_scan.specs.Taken.{types_in};
 ghost use Rattle.om_scan.specs.Paths.{HasPath, IsHidden, IsLed, HavePaths};
-ghost use Rattle.om_scan.specs.Scanned.{object_typed, Tells, AreTaken, AreCounted, cost_of, left_of};
+ghost use Rattle.om_scan.specs.Scanned.{object_typed, Tells, AreTaken, AreCounted, cost_of};
+ghost use Rattle.om_scan.specs.Scanned.{left_of};
 ghost use Rattle.om_scan.specs.Seconds.{noted_in, AreSeconds};
-ghost use Rattle.om_scan.specs.Scan.{mark_of, AreMarks, AreKept, IsMet, IsOther, AreMet, IsUnmet, AreNoted, AreStillNoted, IsNotedAt, first_or, first_of, Continues, IsUnfit, IsWhole, IsToldIn, IsInRow, IsStoppedAt, IsGoing, IsStopped, IsScanning, Stops, IsTurned};
+ghost use Rattle.om_scan.specs.Scan.{mark_of, AreMarks, AreKept, IsMet, IsOther, AreMet, IsUnmet};
+ghost use Rattle.om_scan.specs.Scan.{AreNoted, AreStillNoted, IsNotedAt, first_or, first_of};
+ghost use Rattle.om_scan.specs.Scan.{Continues, IsUnfit, IsWhole, IsToldIn, IsInRow, IsStoppedAt};
+ghost use Rattle.om_scan.specs.Scan.{IsGoing, IsStopped, IsScanning, Stops, IsTurned};
 
 use crate::cells::Cells;
 use crate::fitting::fits_type;

@@ -1,6 +1,7 @@
 //! Whether a node of a graph lies on a cycle.
 
-ghost use Rattle.std.specs.Prelude.{ℕ, ◌≡◌, ◌+◌, ◌<◌, ◌↔◌, ◌∷◌, IfOk, OnOk, IsTrue, length, vec_len};
+ghost use Rattle.std.specs.Prelude.{ℕ, ◌≡◌, ◌+◌, ◌<◌, ◌↔◌, ◌∷◌, IfOk, OnOk, IsTrue, length};
+ghost use Rattle.std.specs.Prelude.{vec_len};
 ghost use Rattle.om_scope.specs.Graph.{IsOnCycle};
 ghost use Rattle.om_scope.specs.Search.{IsSearch, IsUnseen, unseen_count};
 

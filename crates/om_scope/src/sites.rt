@@ -3,7 +3,8 @@
 ghost use Rattle.std.specs.Prelude.{◌≡◌, ℕ, List, IfOk, length, slice_get};
 ghost use Rattle.om_types.specs.Occurrence.{DeclPlaces, Occurrence};
 ghost use Rattle.om_types.specs.Scope.{BreaksInFile, BreaksInType, NamesBreak, twice};
-ghost use Rattle.om_scope.specs.Breaks.{SiteBreaks, SitesBreak, NameBreaks, TypeBreaks, WantsDistinctNames, rule_of};
+ghost use Rattle.om_scope.specs.Breaks.{SiteBreaks, SitesBreak, NameBreaks, TypeBreaks};
+ghost use Rattle.om_scope.specs.Breaks.{WantsDistinctNames, rule_of};
 ghost use Rattle.om_scope.specs.Least.{IsLeast};
 ghost use Rattle.om_scope.specs.Sites.{AreSites, IsTypeSite};
 

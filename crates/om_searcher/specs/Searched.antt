@@ -1,5 +1,6 @@
 -- What has been found in the input so far, as its bytes come.
-use Rattle.std.specs.Prelude.{ℕ, ◌<◌, ◌≤◌, ◌≡◌, true, false, List, [], ◌∷◌, ◌++◌, length, take, Option, Result, Ok, Err}
+use Rattle.std.specs.Prelude.{ℕ, ◌<◌, ◌≤◌, ◌≡◌, true, false, List, [], ◌∷◌, ◌++◌, length, take}
+use Rattle.std.specs.Prelude.{Option, Result, Ok, Err}
 use Rattle.om_format.specs.Front.{IsFront}
 use Rattle.om_read.specs.declared.reader.Reader.{Reader}
 use Rattle.om_read.specs.Reader.{Leads}

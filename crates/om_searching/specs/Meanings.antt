@@ -6,7 +6,8 @@
 -- Neither the input nor a file causes another. What 6, 7, 9 and 10 mean of the input, of out and of
 -- memory is the same for all commands: it stands in om_promises.
 use Rattle.std.specs.Prelude.{ℕ, ◌≡◌, ◌≢◌}
-use Rattle.om_outcome.specs.declared.status.Status.TheVariants.{Well, No, Types, Value, Script, OpenFault, Compat, Certificate}
+use Rattle.om_outcome.specs.declared.status.Status.TheVariants.{Well, No, Types, Value, Script}
+use Rattle.om_outcome.specs.declared.status.Status.TheVariants.{OpenFault, Compat, Certificate}
 use Rattle.om_promises.specs.Call.{Call}
 use Rattle.om_causes.specs.Causes.{Tables}
 

@@ -2,7 +2,8 @@
 -- of parts, which are told as soon as the bytes that come tell them. Of an item the lines of its
 -- places are said, and at the end those of the bytes that are left, where a value that is cut is
 -- none.
-use Rattle.std.specs.Prelude.{ℕ, ◌+◌, ◌≡◌, true, List, [], ◌∷◌, ◌++◌, length, Option, Some, Result, Ok}
+use Rattle.std.specs.Prelude.{ℕ, ◌+◌, ◌≡◌, true, List, [], ◌∷◌, ◌++◌, length, Option, Some, Result}
+use Rattle.std.specs.Prelude.{Ok}
 use Rattle.om_outcome.specs.Outcome.{Request, Said, Reply, says, stops}
 use Rattle.om_outcome.specs.declared.stop.Stop.{Stop}
 use Rattle.om_sighting.specs.Parts.{Part, bytes_of, BeginNoValue, AreParts, IsStretch}

@@ -2,8 +2,12 @@
 
 ghost use Rattle.std.specs.Prelude.{ℕ, Option};
 ghost use Rattle.om_outcome.specs.Outcome.{Request};
-ghost use Rattle.om_promises.specs.CommandLaws.{HaveOneOutcome, HaveOneStop, StopsStay, StopsAreLast, ArePromised, Follow};
-ghost use Rattle.om_promises.specs.Causes.{AreAsTold, AreMeant, IfWords, IfFiles, OnlyOpenFault, IfMissing, OnlyTooLong, IfFileTooLong, IfInputTooLong, IfInputFails, IfMemory, IfWriteFault, IsDecided, IsExact, IsComplete};
+ghost use Rattle.om_promises.specs.CommandLaws.{HaveOneOutcome, HaveOneStop, StopsStay};
+ghost use Rattle.om_promises.specs.CommandLaws.{StopsAreLast, ArePromised, Follow};
+ghost use Rattle.om_promises.specs.Causes.{AreAsTold, AreMeant, IfWords, IfFiles, OnlyOpenFault};
+ghost use Rattle.om_promises.specs.Causes.{IfMissing, OnlyTooLong, IfFileTooLong, IfInputTooLong};
+ghost use Rattle.om_promises.specs.Causes.{IfInputFails, IfMemory, IfWriteFault, IsDecided};
+ghost use Rattle.om_promises.specs.Causes.{IsExact, IsComplete};
 ghost use Rattle.om_promises.specs.Lawful.{AreLawful, AreInTurns};
 ghost use Rattle.om_promises.specs.Outside.{OnlyReadFault, OnlyWriteFault};
 ghost use Rattle.om_promises.specs.Promises.{IfStop, IfEnd, IfUsage};

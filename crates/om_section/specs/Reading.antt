@@ -1,5 +1,6 @@
 -- What reading a certificate knows on its way.
-use Rattle.std.specs.Prelude.{ℕ, ◌+◌, ◌≤◌, ◌≡◌, ◌≢◌, ◌⊎◌, List, [], ◌∷◌, ◌++◌, length, Option, Some, None}
+use Rattle.std.specs.Prelude.{ℕ, ◌+◌, ◌≤◌, ◌≡◌, ◌≢◌, ◌⊎◌, List, [], ◌∷◌, ◌++◌, length, Option, Some}
+use Rattle.std.specs.Prelude.{None}
 use Rattle.std.specs.Prelude.{IfSome, All, codes, decimal, Contains}
 use Rattle.om_model.specs.PathText.{path_text, steps_text}
 use Rattle.om_section.specs.declared.section.Section.{Section}

@@ -1,5 +1,6 @@
 -- Lines of pairs that stand one after another.
-use Rattle.std.specs.Prelude.{ℕ, ◌+◌, ◌*◌, ◌^◌, ◌≡◌, ◌<◌, ◌≤◌, List, [], ◌∷◌, ◌++◌, length, map, drop}
+use Rattle.std.specs.Prelude.{ℕ, ◌+◌, ◌*◌, ◌^◌, ◌≡◌, ◌<◌, ◌≤◌, List, [], ◌∷◌, ◌++◌, length, map}
+use Rattle.std.specs.Prelude.{drop}
 use Rattle.std.specs.Prelude.{All, slice_index, codes, decimal}
 use Rattle.std.specs.Int.{w64, from_le_bytes}
 use Rattle.om_section.specs.declared.read.Reading.{Reading}

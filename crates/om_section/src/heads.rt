@@ -1,7 +1,9 @@
 //! Single lines of a certificate.
 
 ghost use Rattle.std.specs.Prelude.{◌++◌, IfOk, MatchOption, codes};
-ghost use Rattle.om_section.specs.Reading.{BeginsAt, IsPairLine, IsNoPairLine, IsPathText, IsNoPathText, IsStepsText, IsNoStepsText, IsStep, IsNoStep, IsVerdict, IsNoVerdict, IsHead, IsNoHead};
+ghost use Rattle.om_section.specs.Reading.{BeginsAt, IsPairLine, IsNoPairLine, IsPathText};
+ghost use Rattle.om_section.specs.Reading.{IsNoPathText, IsStepsText, IsNoStepsText, IsStep};
+ghost use Rattle.om_section.specs.Reading.{IsNoStep, IsVerdict, IsNoVerdict, IsHead, IsNoHead};
 
 use crate::cuts::{after, until};
 use crate::number::number_of;

@@ -1,6 +1,7 @@
 //! The laws of the format, as contracts.
 
-ghost use Rattle.om_section.specs.Laws.{SectionsAreOne, CertificatesHaveNoFault, FaultsAreOne, PutSectionsAreCertificates};
+ghost use Rattle.om_section.specs.Laws.{SectionsAreOne, CertificatesHaveNoFault, FaultsAreOne};
+ghost use Rattle.om_section.specs.Laws.{PutSectionsAreCertificates};
 
 /// A text is the certificate of one list of sections, and has no faulty line then; else one line
 /// is the first that is faulty.

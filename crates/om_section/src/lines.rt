@@ -1,6 +1,7 @@
 //! The lines of pairs, put to a sink through a buffer, so that no memory holds them all.
 
-ghost use Rattle.std.specs.Prelude.{◌≡◌, ◌+◌, ◌≤◌, ◌++◌, ◌∷◌, [], length, map, decimal, OnOk, vec_len, vec_capacity};
+ghost use Rattle.std.specs.Prelude.{◌≡◌, ◌+◌, ◌≤◌, ◌++◌, ◌∷◌, [], length, map, decimal, OnOk};
+ghost use Rattle.std.specs.Prelude.{vec_len, vec_capacity};
 ghost use Rattle.om_edge.specs.State.{change};
 ghost use Rattle.om_section.specs.Format.{pair_line, text_of};
 ghost use Rattle.om_section.specs.Putting.{PutsFront};

@@ -1,9 +1,11 @@
 //! Certificates read from their bytes, line by line.
 
-ghost use Rattle.std.specs.Prelude.{◌≡◌, ◌<◌, ◌+◌, ◌^◌, ◌++◌, [], None, length, IfOk, IfErr, OnOk, MatchOption};
+ghost use Rattle.std.specs.Prelude.{◌≡◌, ◌<◌, ◌+◌, ◌^◌, ◌++◌, [], None, length, IfOk, IfErr, OnOk};
+ghost use Rattle.std.specs.Prelude.{MatchOption};
 ghost use Rattle.om_section.specs.Coming.{Bytes, nothing, HasKept, HasCome};
 ghost use Rattle.om_section.specs.Format.{IsCertificate, IsStated, text_of};
-ghost use Rattle.om_section.specs.Reading.{IsReading, GoesOn, GoesNowhere, HasOneMore, HasNoMore, IsFaultOf, IsFaultFrom, IsAt, lines_read};
+ghost use Rattle.om_section.specs.Reading.{IsReading, GoesOn, GoesNowhere, HasOneMore, HasNoMore};
+ghost use Rattle.om_section.specs.Reading.{IsFaultOf, IsFaultFrom, IsAt, lines_read};
 ghost use Rattle.om_section.specs.Runs.{HasReadMore};
 ghost use Rattle.om_section.specs.declared.section.Section.TheVariants as sections;
 

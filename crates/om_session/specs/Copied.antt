@@ -8,7 +8,8 @@ use Rattle.om_format.specs.Compat.{too_large_for_32}
 use Rattle.om_format.specs.Spelled.{SpelledUnder}
 use Rattle.om_format.specs.Tree.{Tree, root, objects_of}
 use Rattle.om_outcome.specs.declared.status.Status.TheVariants.{Well, Memory}
-use Rattle.om_outcome.specs.Outcome.{all_under, asked_with, edit, Asks, ReadsTypeOf, ReadsScriptOf, fetches_of}
+use Rattle.om_outcome.specs.Outcome.{all_under, asked_with, edit, Asks, ReadsTypeOf, ReadsScriptOf}
+use Rattle.om_outcome.specs.Outcome.{fetches_of}
 use Rattle.om_edge.specs.Files.{File, contents_of}
 use Rattle.om_edge.specs.Sink.{Puts}
 use Rattle.om_promises.specs.Call.{Call}

@@ -1,5 +1,6 @@
 -- The earlier values that are kept, for the lines that copy parts of them.
-use Rattle.std.specs.Prelude.{ℕ, ◌≡◌, ◌≤◌, ◌<◌, ◌∷◌, ◌++◌, List, [], None, Some, length, map, All, Any, IfSome, IsSome, nat_eq, nat_lt, if◌then◌else◌, slice_get}
+use Rattle.std.specs.Prelude.{ℕ, ◌≡◌, ◌≤◌, ◌<◌, ◌∷◌, ◌++◌, List, [], None, Some, length, map, All}
+use Rattle.std.specs.Prelude.{Any, IfSome, IsSome, nat_eq, nat_lt, if◌then◌else◌, slice_get}
 use Rattle.std.specs.List.{AllPairs}
 use Rattle.om_model.specs.Graph.{IsValue}
 use Rattle.om_edit.specs.Grafts.{Other}

@@ -1,5 +1,6 @@
 -- What a look at the bytes in hand shows of the next value.
-use Rattle.std.specs.Prelude.{ℕ, ◌+◌, ◌<◌, ◌≤◌, ◌≡◌, true, false, List, [], ◌++◌, length, take, codes, Ok}
+use Rattle.std.specs.Prelude.{ℕ, ◌+◌, ◌<◌, ◌≤◌, ◌≡◌, true, false, List, [], ◌++◌, length, take}
+use Rattle.std.specs.Prelude.{codes, Ok}
 use Rattle.std.specs.Borrow.{Bor}
 use Rattle.om_format.specs.Tree.{Tree, root, objects_of}
 use Rattle.om_format.specs.Spelled.{SpelledUnder}

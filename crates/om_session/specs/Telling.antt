@@ -2,7 +2,8 @@
 -- SCRIPT.
 use Rattle.std.specs.Prelude.{ℕ, ◌≡◌, Bool, false, List, Some, Result, Ok}
 use Rattle.om_outcome.specs.declared.reading.Reading.{Reading}
-use Rattle.om_outcome.specs.Outcome.{Found, Fetches, AskedType, asked_with, Saying, Work, Request, edit, Asks, typed_by, limit_of, TellsAt, FindsWork}
+use Rattle.om_outcome.specs.Outcome.{Found, Fetches, AskedType, asked_with, Saying, Work, Request}
+use Rattle.om_outcome.specs.Outcome.{edit, Asks, typed_by, limit_of, TellsAt, FindsWork}
 use Rattle.om_outcome.specs.declared.stop.Stop.{Stop}
 use Rattle.om_path.specs.declared.edits.ScriptLine.{ScriptLine}
 use Rattle.om_declared.specs.Language.{TypeOver, declared_types}

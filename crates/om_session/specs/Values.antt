@@ -1,5 +1,6 @@
 -- What is said of the values of the input, as their bytes come.
-use Rattle.std.specs.Prelude.{ℕ, ◌<◌, ◌≤◌, ◌≡◌, ◌⊎◌, Bool, true, List, [], ◌∷◌, ◌++◌, length, Result, Ok, Err, All}
+use Rattle.std.specs.Prelude.{ℕ, ◌<◌, ◌≤◌, ◌≡◌, ◌⊎◌, Bool, true, List, [], ◌∷◌, ◌++◌, length}
+use Rattle.std.specs.Prelude.{Result, Ok, Err, All}
 use Rattle.std.specs.List.{AllZip}
 use Rattle.om_model.specs.declared.out_of_memory.Memory.{Memory}
 use Rattle.om_model.specs.Graph.{IsValue}
@@ -8,7 +9,8 @@ use Rattle.om_format.specs.Front.{IsFront}
 use Rattle.om_read.specs.declared.value.Value.{Value}
 use Rattle.om_read.specs.Reading.{IsValueOf}
 use Rattle.om_read.specs.Reader.{Leads, IsDone}
-use Rattle.om_outcome.specs.Outcome.{Said, nothing_said, says, all_well, Work, compares, edits, Task, task, SayFirst, StopsAt, Finishes}
+use Rattle.om_outcome.specs.Outcome.{Said, nothing_said, says, all_well, Work, compares, edits}
+use Rattle.om_outcome.specs.Outcome.{Task, task, SayFirst, StopsAt, Finishes}
 use Rattle.om_outcome.specs.Outcome as outcome
 use Rattle.om_outcome.specs.declared.stop.Stop.{Stop}
 use Rattle.om_outcome.specs.declared.stop.Stop.TheVariants.{Memory as out_of_memory}

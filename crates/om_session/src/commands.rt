@@ -12,7 +12,10 @@ ghost use Rattle.om_promises.specs.CommandLaws.{HaveOneOutcome, ArePromised, Fol
 ghost use Rattle.om_promises.specs.Lawful.{AreLawful, AreInTurns};
 ghost use Rattle.om_declared.specs.Language.{declared_types};
 ghost use Rattle.om_outcome.specs.CommandLine.{searched_by};
-ghost use Rattle.om_session.specs.All.{on_values, on_values_after, on_texts, on_made, on_certificates_after, on_certified_after, on_places, all_commands, IsOfValues, IsOfTexts, IsOfMade, IsOfCertificates, IsOfSections, IsOfPlaces, IsPart};
+ghost use Rattle.om_session.specs.All.{on_values, on_values_after, on_texts, on_made};
+ghost use Rattle.om_session.specs.All.{on_certificates_after, on_certified_after, on_places};
+ghost use Rattle.om_session.specs.All.{all_commands, IsOfValues, IsOfTexts, IsOfMade};
+ghost use Rattle.om_session.specs.All.{IsOfCertificates, IsOfSections, IsOfPlaces, IsPart};
 ghost use Rattle.om_build.specs.Lines.{declared_texts};
 ghost use Rattle.om_texts.specs.Meanings.{texts_tables};
 ghost use Rattle.om_generation.specs.Meanings.{Causes as CausesOfMade};

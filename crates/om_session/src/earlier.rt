@@ -4,7 +4,8 @@ ghost use Rattle.std.specs.Prelude.{◌≡◌, ◌<◌, ◌++◌, ◌∷◌, [],
 ghost use Rattle.std.specs.Vec.{vec_capacity};
 ghost use Rattle.om_path.specs.Order.{lines_of};
 ghost use Rattle.om_read.specs.Reader.{Leads};
-ghost use Rattle.om_session.specs.Earlier.{AreInOrder, AreNamed, IsThere, after_action, after_copy, all_after, with_made};
+ghost use Rattle.om_session.specs.Earlier.{AreInOrder, AreNamed, IsThere, after_action, after_copy};
+ghost use Rattle.om_session.specs.Earlier.{all_after, with_made};
 
 use om_model::Memory;
 use om_path::{Action, Script};

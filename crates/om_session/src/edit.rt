@@ -4,7 +4,8 @@ ghost use Rattle.std.specs.Prelude.{◌≡◌, ℕ, List, true, false, length, S
 ghost use Rattle.om_model.specs.Graph.{IsValue};
 ghost use Rattle.om_edge.specs.State.{change};
 ghost use Rattle.om_session.specs.Earlier.{AreMade, AreServed, IsServed};
-ghost use Rattle.om_session.specs.Edits.{EditsAll, EditsLine, EditsLines, PutsEdited, IsReasonStop, IsPast};
+ghost use Rattle.om_session.specs.Edits.{EditsAll, EditsLine, EditsLines, PutsEdited, IsReasonStop};
+ghost use Rattle.om_session.specs.Edits.{IsPast};
 ghost use Rattle.om_edit.specs.Grafts.{Other};
 ghost use Rattle.om_edit.specs.LineLaws.{IsLineApplied};
 ghost use Rattle.om_edit.specs.Reasons.{Reason, literal_reason, reason_of};

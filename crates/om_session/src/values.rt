@@ -1,7 +1,8 @@
 //! The values of the input, one by one, as their bytes come.
 
 ghost use Rattle.std.specs.Bool.{OnTrue};
-ghost use Rattle.std.specs.Prelude.{◌≡◌, ◌<◌, ◌≤◌, ◌+◌, ◌^◌, ◌++◌, ◌∷◌, ℕ, List, [], length, OnOk, IfSome, MatchBool};
+ghost use Rattle.std.specs.Prelude.{◌≡◌, ◌<◌, ◌≤◌, ◌+◌, ◌^◌, ◌++◌, ◌∷◌, ℕ, List, [], length, OnOk};
+ghost use Rattle.std.specs.Prelude.{IfSome, MatchBool};
 ghost use Rattle.om_model.specs.Graph.{IsValue};
 ghost use Rattle.om_model.specs.Bytes.{AreBytes};
 ghost use Rattle.om_format.specs.Front.{IsFront};
@@ -14,8 +15,11 @@ ghost use Rattle.om_session.specs.declared.values.Job.{Job};
 ghost use Rattle.om_session.specs.declared.values.Job.TheVariants as jobs;
 ghost use Rattle.om_declared.specs.Language.{declared_types};
 ghost use Rattle.om_session.specs.SaidOfValue.{PutsSaid};
-ghost use Rattle.om_session.specs.Glimpse.{IsYes, IsUnchanged, IsLeft, IsBetween, Later, verdict_job};
-ghost use Rattle.om_session.specs.Values.{IsReadyJob, AreValues, IsFull, MayTake, HasRead, IsValueRead, KeepsNext, PutsNext, Compares, EndsScript, task_of, word_limit};
+ghost use Rattle.om_session.specs.Glimpse.{IsYes, IsUnchanged, IsLeft, IsBetween, Later};
+ghost use Rattle.om_session.specs.Glimpse.{verdict_job};
+ghost use Rattle.om_session.specs.Values.{IsReadyJob, AreValues, IsFull, MayTake, HasRead};
+ghost use Rattle.om_session.specs.Values.{IsValueRead, KeepsNext, PutsNext, Compares, EndsScript};
+ghost use Rattle.om_session.specs.Values.{task_of, word_limit};
 
 use crate::earlier::{Earlier, make_room, next_reader};
 use crate::edit::{Edits, edit_value, line_past};

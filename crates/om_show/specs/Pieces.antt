@@ -1,6 +1,7 @@
 -- A text in which objects are shown where they are first met, and later by a label. Labels are
 -- numbered by first meetings, among the objects that are met again.
-use Rattle.std.specs.Prelude.{ℕ, suc, ◌==◌, if◌then◌else◌, Bool, List, [], ◌∷◌, ◌++◌, codes, decimal, flat_map, filter}
+use Rattle.std.specs.Prelude.{ℕ, suc, ◌==◌, if◌then◌else◌, Bool, List, [], ◌∷◌, ◌++◌, codes}
+use Rattle.std.specs.Prelude.{decimal, flat_map, filter}
 use Rattle.std.specs.List.{list_any}
 
 -- bytes as they are, the place before the text of an object that is met for the first time, or an

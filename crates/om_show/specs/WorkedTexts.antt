@@ -1,8 +1,10 @@
-use Rattle.std.specs.Prelude.{◌++◌, ℕ, pos, negsuc, ◌≡◌, false, List, [], ◌∷◌, Option, Some, None, codes}
+use Rattle.std.specs.Prelude.{◌++◌, ℕ, pos, negsuc, ◌≡◌, false, List, [], ◌∷◌, Option, Some, None}
+use Rattle.std.specs.Prelude.{codes}
 use Rattle.om_model.specs.declared.value.Val.{Val}
 use Rattle.om_model.specs.declared.value.Val.TheVariants.{Int, Atom, Ref}
 use Rattle.om_model.specs.declared.value.Obj.{Obj}
-use Rattle.om_model.specs.declared.value.Obj.TheVariants.{Block, Bytes, Double, Doubles, I32, I64, Native}
+use Rattle.om_model.specs.declared.value.Obj.TheVariants.{Block, Bytes, Double, Doubles, I32, I64}
+use Rattle.om_model.specs.declared.value.Obj.TheVariants.{Native}
 use Rattle.om_types.specs.declared.decl.Field.{Field}
 use Rattle.om_types.specs.declared.decl.Arguments.TheVariants as arguments
 use Rattle.om_types.specs.declared.decl.Body.TheVariants as bodies

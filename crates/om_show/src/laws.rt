@@ -1,6 +1,7 @@
 //! What a table of types says of a value's text, and that texts are whole.
 
-ghost use Rattle.om_show.specs.Laws.{MoreIsTheSame, MoreIsTheSameByNumbers, NoNameIsMissing, NoNameIsMissingInParts, RootsShowAlike, TablesShowAlike};
+ghost use Rattle.om_show.specs.Laws.{MoreIsTheSame, MoreIsTheSameByNumbers, NoNameIsMissing};
+ghost use Rattle.om_show.specs.Laws.{NoNameIsMissingInParts, RootsShowAlike, TablesShowAlike};
 
 /// A value, and each part of it, has one text at a number of a table and at the type of this
 /// number.

@@ -6,7 +6,8 @@ use Rattle.om_lex.specs.declared.lexeme.Symbol.TheVariants as symbols
 use Rattle.om_grammar.specs.Grammar.{app, Params, no_params, param, params, FieldTree, RecordTree}
 use Rattle.om_grammar.specs.Grammar.{ArgumentsTree, ConstrTree, BodyTree, record_body, variant_body}
 use Rattle.om_grammar.specs.Grammar.{type_body, DeclTree, GroupTree, FileTree, word_if, mark_if}
-use Rattle.om_grammar.specs.Grammar.{params_kinds, field_kinds, constr_kinds, decl_kinds, group_kinds}
+use Rattle.om_grammar.specs.Grammar.{params_kinds, field_kinds, constr_kinds, decl_kinds}
+use Rattle.om_grammar.specs.Grammar.{group_kinds}
 use Rattle.om_grammar.specs.Grammar as trees
 use Rattle.om_types.specs.Occurrence.{Placed, Occurrence, DeclPlaces}
 use Rattle.om_parse.specs.Written.{declaration_of_tree}

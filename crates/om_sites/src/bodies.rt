@@ -3,10 +3,12 @@
 ghost use Rattle.std.specs.Prelude.{◌≡◌, ◌++◌, ◌∷◌, [], IfOk, OnOk, drop, false};
 ghost use Rattle.om_sites.specs.Counted.{in_type};
 ghost use Rattle.om_sites.specs.CountedFile.{along, count_all, type_count, field_count, in_field};
-ghost use Rattle.om_sites.specs.CountedFile.{names_of_fields, record_in_arguments, in_arguments, arguments_count};
+ghost use Rattle.om_sites.specs.CountedFile.{names_of_fields, record_in_arguments, in_arguments};
+ghost use Rattle.om_sites.specs.CountedFile.{arguments_count};
 ghost use Rattle.om_sites.specs.CountedFile.{constructor_count, records_in, in_body, body_count};
 ghost use Rattle.om_sites.specs.Found.{AddsFound};
-ghost use Rattle.om_sites.specs.Bodies.{constructor_names, records_of, carrying_of, occurrences_of, names_in, carrying_body};
+ghost use Rattle.om_sites.specs.Bodies.{constructor_names, records_of, carrying_of, occurrences_of};
+ghost use Rattle.om_sites.specs.Bodies.{names_in, carrying_body};
 
 use crate::found::{Found, put_carrying, put_names};
 use crate::mark::{placed, skip};

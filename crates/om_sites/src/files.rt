@@ -1,7 +1,8 @@
 //! What stands where in the text of declarations.
 
 ghost use Rattle.std.specs.Prelude.{◌≡◌, ◌+◌, IfOk, drop, length};
-ghost use Rattle.om_sites.specs.CountedFile.{parameters_in, counted_places, decl_count, counted_file, in_body};
+ghost use Rattle.om_sites.specs.CountedFile.{parameters_in, counted_places, decl_count};
+ghost use Rattle.om_sites.specs.CountedFile.{counted_file, in_body};
 ghost use Rattle.om_scope.specs.Brackets.{AreBrackets, AreFileBrackets};
 ghost use Rattle.om_scope.specs.Sites.{IsSite, AreSites};
 

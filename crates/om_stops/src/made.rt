@@ -2,8 +2,13 @@
 //! the run stops for that.
 
 ghost use Rattle.std.specs.Prelude.{◌≡◌, IfOk};
-ghost use Rattle.om_outcome.specs.declared.stop.Stop.TheVariants.{CannotOpen as cannot_open, RequestedType as requested_type, Value as value, Script as script_line, LargeValue as large_value};
-ghost use Rattle.om_outcome.specs.RefusalText.{refusal_text as text_of_refusal, truncated_text as text_of_cut};
+ghost use Rattle.om_outcome.specs.declared.stop.Stop.TheVariants.{CannotOpen as cannot_open};
+ghost use Rattle.om_outcome.specs.declared.stop.Stop.TheVariants.{RequestedType as requested_type};
+ghost use Rattle.om_outcome.specs.declared.stop.Stop.TheVariants.{Value as value};
+ghost use Rattle.om_outcome.specs.declared.stop.Stop.TheVariants.{Script as script_line};
+ghost use Rattle.om_outcome.specs.declared.stop.Stop.TheVariants.{LargeValue as large_value};
+ghost use Rattle.om_outcome.specs.RefusalText.{refusal_text as text_of_refusal};
+ghost use Rattle.om_outcome.specs.RefusalText.{truncated_text as text_of_cut};
 ghost use Rattle.om_stops.specs.Stops.{text_of_compat, IsOrMemory, IsStopOf};
 
 use crate::compat_text::compat_text;

@@ -2,7 +2,10 @@
 
 ghost use Rattle.std.specs.Prelude.{◌≡◌, ◌++◌, codes, decimal, IfOk, string_bytes};
 ghost use Rattle.std.specs.Fmt.{signed_decimal};
-ghost use Rattle.om_outcome.specs.RefusalText.{refusal_text as text_of, truncated_text as text_of_cut, stated_text as stated, sum_text as sum, hex_byte, hex_word};
+ghost use Rattle.om_outcome.specs.RefusalText.{refusal_text as text_of};
+ghost use Rattle.om_outcome.specs.RefusalText.{truncated_text as text_of_cut};
+ghost use Rattle.om_outcome.specs.RefusalText.{stated_text as stated, sum_text as sum, hex_byte};
+ghost use Rattle.om_outcome.specs.RefusalText.{hex_word};
 
 use itoa::Buffer;
 use om_model::refusal::{ReadRefusal, Stated, WordSum};

@@ -1,8 +1,13 @@
 //! A halt of a run, and the line of a stop on err.
 
 ghost use Rattle.std.specs.Prelude.{◌≡◌, ◌++◌, codes, decimal, IfOk, OnOk, string_bytes};
-ghost use Rattle.om_outcome.specs.Outcome.{status_of, stop_text, stop_line, err_line, value_text as text_of_value};
-ghost use Rattle.om_outcome.specs.declared.stop.Stop.TheVariants.{Script as script_line, Text as text_line, Certificate as certificate_line, Short as short_input, Finished as finished};
+ghost use Rattle.om_outcome.specs.Outcome.{status_of, stop_text, stop_line, err_line};
+ghost use Rattle.om_outcome.specs.Outcome.{value_text as text_of_value};
+ghost use Rattle.om_outcome.specs.declared.stop.Stop.TheVariants.{Script as script_line};
+ghost use Rattle.om_outcome.specs.declared.stop.Stop.TheVariants.{Text as text_line};
+ghost use Rattle.om_outcome.specs.declared.stop.Stop.TheVariants.{Certificate as certificate_line};
+ghost use Rattle.om_outcome.specs.declared.stop.Stop.TheVariants.{Short as short_input};
+ghost use Rattle.om_outcome.specs.declared.stop.Stop.TheVariants.{Finished as finished};
 ghost use Rattle.om_edge.specs.State.{change};
 ghost use Rattle.om_stops.specs.Stops.{Reports};
 

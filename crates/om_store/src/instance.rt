@@ -1,10 +1,12 @@
 //! Types with their parameters replaced.
 
-ghost use Rattle.std.specs.Prelude.{◌≡◌, ◌<◌, List, Some, length, slice_get, map, All, Contains, IfOk, IfSome, OnErr};
+ghost use Rattle.std.specs.Prelude.{◌≡◌, ◌<◌, List, Some, length, slice_get, map, All, Contains};
+ghost use Rattle.std.specs.Prelude.{IfOk, IfSome, OnErr};
 ghost use Rattle.om_types.specs.Ty.{Ty, instance};
 ghost use Rattle.om_types.specs.Nodes.{type_at, types_of, IsBelow, AreOrdered};
 ghost use Rattle.om_store.specs.Held.{Grows, Holds};
-ghost use Rattle.om_store.specs.Instance.{instance_of_node, argument_at, type_or_variable, AreInstances, HoldsEach};
+ghost use Rattle.om_store.specs.Instance.{instance_of_node, argument_at, type_or_variable};
+ghost use Rattle.om_store.specs.Instance.{AreInstances, HoldsEach};
 
 use crate::types::Types;
 use om_model::Memory;

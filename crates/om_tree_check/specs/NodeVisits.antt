@@ -1,5 +1,6 @@
 -- The nodes among all that is met of a value, and what is said of them.
-use Rattle.std.specs.Prelude.{ℕ, ◌≡◌, ◌<◌, Bool, false, List, length, IsTrue, Some, slice_get, slice_index_or}
+use Rattle.std.specs.Prelude.{ℕ, ◌≡◌, ◌<◌, Bool, false, List, length, IsTrue, Some, slice_get}
+use Rattle.std.specs.Prelude.{slice_index_or}
 use Rattle.om_model.specs.declared.value.Obj.{Obj}
 use Rattle.om_check.specs.declared.visits.Visit.{Visit}
 use Rattle.om_check.specs.Told.{IsPathOf}

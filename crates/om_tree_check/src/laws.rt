@@ -1,6 +1,8 @@
 //! The laws, as contracts.
 
-ghost use Rattle.om_tree_check.specs.Laws.{TablesJudgeTrees, TablesHaveTheVerdict, SoundVerdictsTellSearchTrees, SoundTableVerdictsTellSearchTrees};
+ghost use Rattle.om_tree_check.specs.Laws.{TablesJudgeTrees, TablesHaveTheVerdict};
+ghost use Rattle.om_tree_check.specs.Laws.{SoundVerdictsTellSearchTrees};
+ghost use Rattle.om_tree_check.specs.Laws.{SoundTableVerdictsTellSearchTrees};
 
 use om_trees::sound_trees_are_search_trees;
 use om_type_table::laws::tables_are_lawful;

@@ -1,6 +1,7 @@
 -- What is said of a list of nodes: the first of the gravest faults among them, or that there is
 -- none.
-use Rattle.std.specs.Prelude.{ℕ, ◌<◌, ◌≡◌, ◌⊎◌, List, length, Option, Some, None, slice_get, All, Contains, IsSomeAnd}
+use Rattle.std.specs.Prelude.{ℕ, ◌<◌, ◌≡◌, ◌⊎◌, List, length, Option, Some, None, slice_get, All}
+use Rattle.std.specs.Prelude.{Contains, IsSomeAnd}
 use Rattle.om_model.specs.declared.value.Val.{Val}
 use Rattle.om_model.specs.declared.value.Val.TheVariants as vals
 use Rattle.om_model.specs.declared.value.Obj.{Obj}

@@ -4,7 +4,8 @@ use Rattle.om_types.specs.declared.shape.Constr.{Constr}
 use Rattle.om_types.specs.declared.shape.ShapeOf.TheVariants as shapes
 use Rattle.om_type_table.specs.declared.tabled.Tabled.{Tabled}
 use Rattle.om_trees.specs.declared.types.Layout.{Layout}
-use Rattle.om_trees.specs.TreeType.{layout_of, field_names, names_with, fields_in, shape_in, names_in, SameClass}
+use Rattle.om_trees.specs.TreeType.{layout_of, field_names, names_with, fields_in, shape_in}
+use Rattle.om_trees.specs.TreeType.{names_in, SameClass}
 
 -- the types of a node's parts: two of the tree itself, an element, and a number
 pub record AreParts (table : Tabled) (t left element right height : ℕ) : Type 0 where

@@ -1,6 +1,7 @@
 -- The parts of a search tree's nodes, what lies below them, and the order of their elements
 -- (`set.ml` and `map.ml` of OCaml's standard library).
-use Rattle.std.specs.Prelude.{ℕ, ◌≡◌, ◌==◌, nat_lt, ◌||◌, ◌&&◌, Bool, true, false, List, [], ◌∷◌, ℤ, pos}
+use Rattle.std.specs.Prelude.{ℕ, ◌≡◌, ◌==◌, nat_lt, ◌||◌, ◌&&◌, Bool, true, false, List, [], ◌∷◌, ℤ}
+use Rattle.std.specs.Prelude.{pos}
 use Rattle.std.specs.Prelude.{int_lt}
 use Rattle.om_model.specs.declared.value.Val.{Val}
 use Rattle.om_model.specs.declared.value.Val.TheVariants as vals

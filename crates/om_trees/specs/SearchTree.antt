@@ -1,6 +1,7 @@
 -- Search trees as OCaml's standard library keeps them: finite trees, whose elements increase from
 -- left to right, whose nodes state their heights, and whose parts have nearly one height.
-use Rattle.std.specs.Prelude.{ℕ, suc, ◌≡◌, ◌≤◌, ◌+◌, max, IsTrue, List, [], ◌∷◌, ◌++◌, Contains, pos}
+use Rattle.std.specs.Prelude.{ℕ, suc, ◌≡◌, ◌≤◌, ◌+◌, max, IsTrue, List, [], ◌∷◌, ◌++◌, Contains}
+use Rattle.std.specs.Prelude.{pos}
 use Rattle.om_model.specs.declared.value.Val.{Val}
 use Rattle.om_model.specs.declared.value.Val.TheVariants as vals
 use Rattle.om_model.specs.declared.value.Obj.{Obj}

@@ -1,5 +1,6 @@
 -- A sweep over nodes, from the last to the first: what is settled, and the gravest fault so far.
-use Rattle.std.specs.Prelude.{ℕ, ◌≡◌, ◌≢◌, ◌<◌, ◌≤◌, ◌-◌, ◌^◌, nat_lt, if◌then◌else◌, List, Option, Some, None, slice_get}
+use Rattle.std.specs.Prelude.{ℕ, ◌≡◌, ◌≢◌, ◌<◌, ◌≤◌, ◌-◌, ◌^◌, nat_lt, if◌then◌else◌, List, Option}
+use Rattle.std.specs.Prelude.{Some, None, slice_get}
 use Rattle.om_model.specs.declared.value.Obj.{Obj}
 use Rattle.om_trees.specs.declared.judging.Judgement.{Judgement}
 use Rattle.om_trees.specs.declared.judging.Judgement.TheVariants.{Sound, Faulty}

@@ -1,6 +1,7 @@
 //! Nodes by their heights.
 
-ghost use Rattle.std.specs.Prelude.{ℕ, ◌≡◌, ◌<◌, ◌^◌, length, All, Contains, IfOk, OnOk, vec_len, pos};
+ghost use Rattle.std.specs.Prelude.{ℕ, ◌≡◌, ◌<◌, ◌^◌, length, All, Contains, IfOk, OnOk, vec_len};
+ghost use Rattle.std.specs.Prelude.{pos};
 ghost use Rattle.om_trees.specs.Parts as parts;
 ghost use Rattle.om_trees.specs.Levels.{AreLevels, AreRising, HasLevel, HasRooms, IsPut, Has};
 ghost use Rattle.om_trees.specs.Span.{IsSettled};

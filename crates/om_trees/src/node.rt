@@ -1,6 +1,7 @@
 //! A node of a search tree, and what may be wrong with it.
 
-ghost use Rattle.std.specs.Prelude.{◌≡◌, ◌+◌, ◌<◌, ◌↔◌, ◌⊎◌, ◌+ℤ◌, ◌<ℤ◌, length, map, pos, All, IsTrue};
+ghost use Rattle.std.specs.Prelude.{◌≡◌, ◌+◌, ◌<◌, ◌↔◌, ◌⊎◌, ◌+ℤ◌, ◌<ℤ◌, length, map, pos, All};
+ghost use Rattle.std.specs.Prelude.{IsTrue};
 ghost use Rattle.om_model.specs.Graph.{IsValue, IsInteger};
 ghost use Rattle.om_heap.specs.Heap.{object_at, fields_of, field_at, word_of, IsFieldWord};
 ghost use Rattle.om_trees.specs.Parts as parts;

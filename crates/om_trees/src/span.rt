@@ -6,7 +6,9 @@ ghost use Rattle.om_trees.specs.Parts as parts;
 ghost use Rattle.om_trees.specs.Parts.{IsAtOrBelow};
 ghost use Rattle.om_trees.specs.TreeFault.{IsElementLess};
 ghost use Rattle.om_trees.specs.Valid.{IsValid};
-ghost use Rattle.om_trees.specs.Span.{IsLesser, IsGreater, IsSpread, IsSpan, IsOnLeftOrAt, IsLeftOver, IsRightUnder, IsSettledAs, IsSettled, IsPartSettled, IsReady};
+ghost use Rattle.om_trees.specs.Span.{IsLesser, IsGreater, IsSpread, IsSpan, IsOnLeftOrAt};
+ghost use Rattle.om_trees.specs.Span.{IsLeftOver, IsRightUnder, IsSettledAs, IsSettled};
+ghost use Rattle.om_trees.specs.Span.{IsPartSettled, IsReady};
 
 use crate::node::{Node, node_at};
 use crate::order::is_element_less;

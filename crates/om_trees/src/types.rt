@@ -1,6 +1,8 @@
 //! Which types are those of sets and maps.
 
-ghost use Rattle.std.specs.Prelude.{ℕ, ◌≡◌, ◌<◌, ◌⊎◌, ◌↔◌, false, [], ◌∷◌, length, map, slice_index, slice_index_or, slice_get, Some, All, IsTrue, IfOk};
+ghost use Rattle.std.specs.Prelude.{ℕ, ◌≡◌, ◌<◌, ◌⊎◌, ◌↔◌, false, [], ◌∷◌, length, map};
+ghost use Rattle.std.specs.Prelude.{slice_index, slice_index_or, slice_get, Some, All, IsTrue};
+ghost use Rattle.std.specs.Prelude.{IfOk};
 ghost use Rattle.om_types.specs.declared.shape.ShapeOf.TheVariants as shapes;
 ghost use Rattle.om_trees.specs.TreeType.{IsTreeNumber, names_with, node_with};
 ghost use Rattle.om_trees.specs.TreeType.{field_names, SameClass};

@@ -3,7 +3,8 @@
 ghost use Rattle.std.specs.Prelude.{◌≡◌, ◌<◌, ◌++◌, length, All, IfOk, OnOk, codes};
 ghost use Rattle.om_types.specs.Nodes.{type_at};
 ghost use Rattle.om_types.specs.TypeText.{type_text};
-ghost use Rattle.om_type_table.specs.Texts.{is_tuple, in_parentheses, added_text, arguments_text, text_of_waiting, IsWithin, IsPut};
+ghost use Rattle.om_type_table.specs.Texts.{is_tuple, in_parentheses, added_text, arguments_text};
+ghost use Rattle.om_type_table.specs.Texts.{text_of_waiting, IsWithin, IsPut};
 
 use crate::waiting::{Waiting, before_part, push_parts, stem_of, wait};
 use om_model::Memory;

@@ -1,9 +1,11 @@
 //! What is still to be put of a type's text.
 
-ghost use Rattle.std.specs.Prelude.{◌≡◌, ◌<◌, ◌++◌, [], List, None, length, IfSome, OnOk, All, option_map};
+ghost use Rattle.std.specs.Prelude.{◌≡◌, ◌<◌, ◌++◌, [], List, None, length, IfSome, OnOk, All};
+ghost use Rattle.std.specs.Prelude.{option_map};
 ghost use Rattle.om_types.specs.Ty.{Ty};
 ghost use Rattle.om_types.specs.Nodes.{type_at};
-ghost use Rattle.om_type_table.specs.Texts.{whole_of, stem, parts_text, text_of_waiting, waiting_text, IsWithin};
+ghost use Rattle.om_type_table.specs.Texts.{whole_of, stem, parts_text, text_of_waiting};
+ghost use Rattle.om_type_table.specs.Texts.{waiting_text, IsWithin};
 
 use om_model::Memory;
 use om_store::{TypeNode, Types};

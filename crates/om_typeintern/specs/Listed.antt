@@ -1,5 +1,6 @@
 -- Types in the order in which they are met, and what is known of the first of them.
-use Rattle.std.specs.Prelude.{ℕ, ◌<◌, ◌≤◌, ◌≡◌, List, [], ◌∷◌, ◌++◌, length, map, take, Some, All, slice_get}
+use Rattle.std.specs.Prelude.{ℕ, ◌<◌, ◌≤◌, ◌≡◌, List, [], ◌∷◌, ◌++◌, length, map, take, Some, All}
+use Rattle.std.specs.Prelude.{slice_get}
 use Rattle.std.specs.List.{flat_map}
 use Rattle.om_types.specs.declared.decl.Decl.{Decl}
 use Rattle.om_types.specs.declared.head.HeadOf.{HeadOf}

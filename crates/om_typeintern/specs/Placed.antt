@@ -9,7 +9,8 @@ use Rattle.om_types.specs.declared.shape.PolyTag.{PolyTag}
 use Rattle.om_types.specs.declared.shape.ShapeOf.{ShapeOf}
 use Rattle.om_types.specs.Ty.{Ty}
 use Rattle.om_types.specs.Reached.{listed_if, named_in, parts_of}
-use Rattle.om_types.specs.Table.{with_parts, head_with_parts, constr_with, tag_with_parts, tag_with_part}
+use Rattle.om_types.specs.Table.{with_parts, head_with_parts, constr_with, tag_with_parts}
+use Rattle.om_types.specs.Table.{tag_with_part}
 
 -- what the one says of each place, the other says of the number there
 pub record SayTheSame (met : List ℕ) (of_place of_number : ℕ → Option Ty) : Type 0 where

@@ -1,7 +1,8 @@
 //! Shapes by places.
 
 ghost use Rattle.std.specs.Prelude.{IfOk};
-ghost use Rattle.om_typeintern.specs.Placed.{AreBlocksPlaced, IsTagPlaced, AreTagsPlaced, IsShapePlaced};
+ghost use Rattle.om_typeintern.specs.Placed.{AreBlocksPlaced, IsTagPlaced, AreTagsPlaced};
+ghost use Rattle.om_typeintern.specs.Placed.{IsShapePlaced};
 
 use crate::met::{Met, place, place_if, places};
 use om_model::Memory;

@@ -1,5 +1,6 @@
 -- How many steps a check takes that takes each object at each class once.
-use Rattle.std.specs.Prelude.{ℕ, ◌+◌, ◌<◌, ◌≤◌, ◌≡◌, List, length, map, Some, Option, slice_get, sum_by, Contains}
+use Rattle.std.specs.Prelude.{ℕ, ◌+◌, ◌<◌, ◌≤◌, ◌≡◌, List, length, map, Some, Option, slice_get}
+use Rattle.std.specs.Prelude.{sum_by, Contains}
 use Rattle.om_model.specs.declared.value.Val.TheVariants as vals
 use Rattle.om_model.specs.declared.value.Obj.{Obj}
 use Rattle.om_types.specs.Steps.{most_steps}

@@ -8,7 +8,8 @@ use Rattle.om_section.specs.Coming.{HasCome}
 use Rattle.om_edge.specs.State.{ByteState, FilesState, Change}
 use Rattle.om_outcome.specs.Outcome.{Taken, Found, opened, at_end, fault_of}
 use Rattle.om_outcome.specs.declared.stop.Stop.{Stop}
-use Rattle.om_outcome.specs.declared.stop.Stop.TheVariants.{Certificate as certificate_line, Memory as out_of_memory}
+use Rattle.om_outcome.specs.declared.stop.Stop.TheVariants.{Certificate as certificate_line}
+use Rattle.om_outcome.specs.declared.stop.Stop.TheVariants.{Memory as out_of_memory}
 use Rattle.om_promises.specs.Given.{Gathers, Fetched}
 use Rattle.om_verification.specs.Verification.{ReadsCertificateOf}
 use Rattle.om_verifier.specs.Shown.{reads_sections}

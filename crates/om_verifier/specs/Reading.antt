@@ -1,5 +1,6 @@
 -- What has been read of the values, and said of them by their sections, as their bytes come.
-use Rattle.std.specs.Prelude.{ℕ, ◌<◌, ◌≡◌, Bool, false, List, [], ◌∷◌, ◌++◌, length, Result, Ok, Err}
+use Rattle.std.specs.Prelude.{ℕ, ◌<◌, ◌≡◌, Bool, false, List, [], ◌∷◌, ◌++◌, length, Result, Ok}
+use Rattle.std.specs.Prelude.{Err}
 use Rattle.om_format.specs.Front.{IsFront}
 use Rattle.om_read.specs.declared.reader.Reader.{Reader}
 use Rattle.om_read.specs.Reader.{Leads, IsDone}

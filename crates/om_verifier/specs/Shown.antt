@@ -13,7 +13,8 @@ use Rattle.om_format.specs.Tree.{Tree, root, objects_of}
 use Rattle.om_section.specs.declared.section.Section.{Section}
 use Rattle.om_section.specs.Format.{IsCertificate, IsSyntaxAt}
 use Rattle.om_cert.specs.declared.verified.Why.{Why}
-use Rattle.om_cert.specs.declared.verified.Why.TheVariants.{Range, Unfit, Need, TwoTypes, Root, NotFault}
+use Rattle.om_cert.specs.declared.verified.Why.TheVariants.{Range, Unfit, Need, TwoTypes, Root}
+use Rattle.om_cert.specs.declared.verified.Why.TheVariants.{NotFault}
 use Rattle.om_cert.specs.declared.verified.Verified.{Verified}
 use Rattle.om_cert.specs.declared.verified.Verified.TheVariants.{Yes, No, Rejected}
 use Rattle.om_cert_alike.specs.Alike.{IsAnswerAt}

@@ -1,12 +1,14 @@
 //! CERT, opened, and read as its bytes come.
 
-ghost use Rattle.std.specs.Prelude.{ℕ, ◌≡◌, ◌<◌, ◌+◌, ◌^◌, ◌++◌, [], length, vec_len, List as Seq, IfOk, OnOk};
+ghost use Rattle.std.specs.Prelude.{ℕ, ◌≡◌, ◌<◌, ◌+◌, ◌^◌, ◌++◌, [], length, vec_len, List as Seq};
+ghost use Rattle.std.specs.Prelude.{IfOk, OnOk};
 ghost use Rattle.om_model.specs.Bytes.{AreBytes};
 ghost use Rattle.om_outcome.specs.Outcome.{opened};
 ghost use Rattle.om_edge.specs.State.{as_source, change};
 ghost use Rattle.om_promises.specs.Given.{piece_limit};
 ghost use Rattle.om_section.specs.Coming.{HasCome};
-ghost use Rattle.om_verifier.specs.Files.{IsCertificateStop, GivesCertificate, all_of, ComesWhole, TakesCertificate, FindsCertificateIn};
+ghost use Rattle.om_verifier.specs.Files.{IsCertificateStop, GivesCertificate, all_of, ComesWhole};
+ghost use Rattle.om_verifier.specs.Files.{TakesCertificate, FindsCertificateIn};
 
 use om_edge::{OpenError, Opener};
 use om_model::Memory;

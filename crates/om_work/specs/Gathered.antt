@@ -1,8 +1,10 @@
 -- What is said of items, gathered before it is put.
-use Rattle.std.specs.Prelude.{ℕ, ◌<◌, ◌≤◌, ◌≡◌, ◌⊎◌, Bool, List, [], ◌∷◌, ◌++◌, length, take, drop, Some, Result, Ok, Err}
+use Rattle.std.specs.Prelude.{ℕ, ◌<◌, ◌≤◌, ◌≡◌, ◌⊎◌, Bool, List, [], ◌∷◌, ◌++◌, length, take, drop}
+use Rattle.std.specs.Prelude.{Some, Result, Ok, Err}
 use Rattle.om_outcome.specs.Outcome.{Said, texts_of}
 use Rattle.om_outcome.specs.declared.stop.Stop.{Stop}
-use Rattle.om_outcome.specs.declared.stop.Stop.TheVariants.{Finished as finished, Memory as out_of_memory}
+use Rattle.om_outcome.specs.declared.stop.Stop.TheVariants.{Finished as finished}
+use Rattle.om_outcome.specs.declared.stop.Stop.TheVariants.{Memory as out_of_memory}
 use Rattle.om_edge.specs.Faults.{last_count}
 use Rattle.om_edge.specs.State.{ByteState, change}
 use Rattle.om_stops.specs.declared.stop.Halt.{Halt}

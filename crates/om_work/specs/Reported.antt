@@ -1,9 +1,12 @@
 -- What a run says at last, and what its status tells of the outside.
-use Rattle.std.specs.Prelude.{ℕ, ◌^◌, ◌≤◌, ◌≡◌, ◌⊎◌, Bool, if◌then◌else◌, List, [], length, Result, Ok, Err, IfSome}
+use Rattle.std.specs.Prelude.{ℕ, ◌^◌, ◌≤◌, ◌≡◌, ◌⊎◌, Bool, if◌then◌else◌, List, [], length, Result}
+use Rattle.std.specs.Prelude.{Ok, Err, IfSome}
 use Rattle.om_outcome.specs.declared.status.Status.{Status}
 use Rattle.om_outcome.specs.declared.status.Status.TheVariants as statuses
 use Rattle.om_outcome.specs.declared.stop.Stop.{Stop}
-use Rattle.om_outcome.specs.declared.stop.Stop.TheVariants.{ReadFault as read_fault, TooLong as too_long, Memory as out_of_memory}
+use Rattle.om_outcome.specs.declared.stop.Stop.TheVariants.{ReadFault as read_fault}
+use Rattle.om_outcome.specs.declared.stop.Stop.TheVariants.{TooLong as too_long}
+use Rattle.om_outcome.specs.declared.stop.Stop.TheVariants.{Memory as out_of_memory}
 use Rattle.om_edge.specs.Faults.{RoseOrLast}
 use Rattle.om_edge.specs.Sink.{Puts}
 use Rattle.om_edge.specs.State.{ByteState, FilesState, Change}

@@ -1,7 +1,9 @@
 -- What a command does with the bytes of its input, as they come.
-use Rattle.std.specs.Prelude.{ℕ, ◌<◌, ◌≤◌, ◌≡◌, ◌⊎◌, Bool, List, [], ◌∷◌, ◌++◌, length, take, Result, Ok, Err}
+use Rattle.std.specs.Prelude.{ℕ, ◌<◌, ◌≤◌, ◌≡◌, ◌⊎◌, Bool, List, [], ◌∷◌, ◌++◌, length, take}
+use Rattle.std.specs.Prelude.{Result, Ok, Err}
 use Rattle.om_outcome.specs.Outcome.{Said, says, stops, texts_of, all_well}
-use Rattle.om_outcome.specs.declared.stop.Stop.TheVariants.{Finished as finished, Memory as out_of_memory}
+use Rattle.om_outcome.specs.declared.stop.Stop.TheVariants.{Finished as finished}
+use Rattle.om_outcome.specs.declared.stop.Stop.TheVariants.{Memory as out_of_memory}
 use Rattle.om_edge.specs.Sink.{Puts, PutsPart}
 use Rattle.om_edge.specs.State.{ByteState, Change, change}
 use Rattle.om_stops.specs.declared.stop.Halt.{Halt}

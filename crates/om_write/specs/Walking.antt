@@ -1,10 +1,13 @@
 -- Where a walk is among the tokens of a value.
-use Rattle.std.specs.Prelude.{ℕ, suc, ◌+◌, ◌-◌, ◌*◌, ◌<◌, ◌≤◌, ◌≡◌, ◌==◌, true, List, [], ◌∷◌, ◌++◌, length, map, drop, All, Option, None, Some, slice_get, slice_index, slice_set, vec_len, vec_capacity, if◌then◌else◌}
+use Rattle.std.specs.Prelude.{ℕ, suc, ◌+◌, ◌-◌, ◌*◌, ◌<◌, ◌≤◌, ◌≡◌, ◌==◌, true, List, [], ◌∷◌, ◌++◌}
+use Rattle.std.specs.Prelude.{length, map, drop, All, Option, None, Some, slice_get, slice_index}
+use Rattle.std.specs.Prelude.{slice_set, vec_len, vec_capacity, if◌then◌else◌}
 use Rattle.std.specs.List.{AllZip}
 use Rattle.om_model.specs.declared.value.Val.{Val}
 use Rattle.om_model.specs.declared.value.Obj.{Obj}
 use Rattle.om_model.specs.Graph.{IsValue}
-use Rattle.om_format.specs.Tree.{Tree, Forest, tokens, forest_tokens, AreTrees, AllReferBack, roots, objects_of, all_objects}
+use Rattle.om_format.specs.Tree.{Tree, Forest, tokens, forest_tokens, AreTrees, AllReferBack, roots}
+use Rattle.om_format.specs.Tree.{objects_of, all_objects}
 use Rattle.om_format.specs.Iso.{AreAlike, IsTreeOf}
 use Rattle.om_canonical.specs.Numbering.{numbered, IsNumbering}
 use Rattle.om_heap.specs.Heap.{object_at, fields_of, IsHeap, place, word_of}

@@ -1,6 +1,7 @@
 //! What a reader on 32 bits cannot hold (`extern.c`, flag `Compat_32`).
 
-ghost use Rattle.std.specs.Prelude.{◌≡◌, ◌<◌, length, true, false, find, None, IsNone, IsSomeAnd, MatchOption};
+ghost use Rattle.std.specs.Prelude.{◌≡◌, ◌<◌, length, true, false, find, None, IsNone, IsSomeAnd};
+ghost use Rattle.std.specs.Prelude.{MatchOption};
 ghost use Rattle.om_format.specs.Canonical.{is_signed};
 ghost use Rattle.om_format.specs.Compat.{is_large, large_header, token};
 ghost use Rattle.om_format.specs.Iso.{IsTreeOf};

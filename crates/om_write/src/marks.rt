@@ -1,6 +1,7 @@
 //! Which objects a walk has met.
 
-ghost use Rattle.std.specs.Prelude.{◌≡◌, ◌+◌, ◌<◌, length, true, false, IsOk, IfOk, OnOk, MatchResult, replicate, slice_index, slice_set};
+ghost use Rattle.std.specs.Prelude.{◌≡◌, ◌+◌, ◌<◌, length, true, false, IsOk, IfOk, OnOk};
+ghost use Rattle.std.specs.Prelude.{MatchResult, replicate, slice_index, slice_set};
 ghost use Rattle.om_write.specs.Marks.{mark_in_order, in_order, marks_of};
 
 use om_model::Memory;

@@ -9,7 +9,8 @@ ghost use Rattle.om_headers.specs.Counting.{IsCountable};
 ghost use Rattle.om_model.specs.declared.value.Val.TheVariants as vals;
 ghost use Rattle.om_heap.specs.Heap.{IsHeap, object_at, word_of};
 ghost use Rattle.om_write.specs.Step.{token_in, IsHeld};
-ghost use Rattle.om_write.specs.Sums.{token_totals, object_totals, plus, head_of_totals, measure_of_custom, FitTotals};
+ghost use Rattle.om_write.specs.Sums.{token_totals, object_totals, plus, head_of_totals};
+ghost use Rattle.om_write.specs.Sums.{measure_of_custom, FitTotals};
 ghost use Rattle.om_write.specs.Walking.{IsWalk};
 
 use crate::walk::{Step, Walk, kind_at};

@@ -1,15 +1,19 @@
 //! The tokens of a value, depth first and fields from left to right: an object where it is met
 //! first, and references to it after that.
 
-ghost use Rattle.std.specs.Prelude.{◌≡◌, ◌≢◌, ◌+◌, ◌-◌, ◌*◌, ◌≤◌, ◌<◌, ◌^◌, ◌∷◌, ◌++◌, [], length, true, All, IfSome, IfNone, IfOk, IsOk, OnOk, MatchOption, vec_len, vec_capacity, slice_index};
+ghost use Rattle.std.specs.Prelude.{◌≡◌, ◌≢◌, ◌+◌, ◌-◌, ◌*◌, ◌≤◌, ◌<◌, ◌^◌, ◌∷◌, ◌++◌, [], length};
+ghost use Rattle.std.specs.Prelude.{true, All, IfSome, IfNone, IfOk, IsOk, OnOk, MatchOption};
+ghost use Rattle.std.specs.Prelude.{vec_len, vec_capacity, slice_index};
 ghost use Rattle.om_model.specs.declared.value.Val.TheVariants as vals;
 ghost use Rattle.om_model.specs.Graph.{IsValue};
 ghost use Rattle.om_format.specs.Iso.{IsTreeOf};
 ghost use Rattle.om_format.specs.Tree.{Tree, tokens};
-ghost use Rattle.om_heap.specs.Heap.{IsHeap, IsFieldWord, IsOfKind, object_at, fields_of, kind_of, place, word_of};
+ghost use Rattle.om_heap.specs.Heap.{IsHeap, IsFieldWord, IsOfKind, object_at, fields_of, kind_of};
+ghost use Rattle.om_heap.specs.Heap.{place, word_of};
 ghost use Rattle.om_write.specs.Marks.{marks_of};
 ghost use Rattle.om_write.specs.Step.{IsNext, IsHeld, token_in, object_token};
-ghost use Rattle.om_write.specs.Walking.{IsFrame, IsOuter, fields_left, left_in, left_of, pending, Takes, IsMet, IsWalk};
+ghost use Rattle.om_write.specs.Walking.{IsFrame, IsOuter, fields_left, left_in, left_of, pending};
+ghost use Rattle.om_write.specs.Walking.{Takes, IsMet, IsWalk};
 
 use crate::marks::Marks;
 use om_heap::{Heap, Kind};

@@ -6,7 +6,8 @@ ghost use Rattle.om_format.specs.Iso.{IsTreeOf};
 ghost use Rattle.om_format.specs.Tree.{Tree};
 ghost use Rattle.om_edge.specs.State.{change};
 ghost use Rattle.om_write.specs.Written.{Writes32, IsEarly};
-ghost use Rattle.om_write.specs.declared.writer32.Write32Error.TheVariants.{Fault, Memory as OutOfMemory};
+ghost use Rattle.om_write.specs.declared.writer32.Write32Error.TheVariants.{Fault};
+ghost use Rattle.om_write.specs.declared.writer32.Write32Error.TheVariants.{Memory as OutOfMemory};
 
 use crate::compat::{Compat, first_large, head_compat};
 use crate::measure::measure;
