@@ -2,8 +2,10 @@
 #![tactic(auto)]
 
 mod kind;
+mod known;
 mod spell;
 
 pub use kind::code_kind;
+pub use known::Known;
 pub use om_model::code::{CodeFault, CodeKind};
 pub use spell::{spell_block, spell_double_array_len, spell_int, spell_shared, spell_string_len};

@@ -1,6 +1,8 @@
 -- What a heap's calls read and write: an object's parts, its size in words (`extern.c`), and a
 -- graph with one place changed.
-use Rattle.std.specs.Prelude.{ℕ, ◌+◌, ◌-◌, ◌*◌, ◌/◌, ◌^◌, ◌<◌, ◌≡◌, List, [], ◌∷◌, ◌++◌, length, take, All, sum_by, ℤ, pos, negsuc, Option, Some, None, Result, Ok, Err, slice_index, slice_index_or, slice_set}
+use Rattle.std.specs.Prelude.{ℕ, ◌+◌, ◌-◌, ◌*◌, ◌/◌, ◌^◌, ◌<◌, ◌≡◌, List, [], ◌∷◌, ◌++◌, length}
+use Rattle.std.specs.Prelude.{take, All, sum_by, ℤ, pos, negsuc, Option, Some, None, Result, Ok}
+use Rattle.std.specs.Prelude.{Err, slice_index, slice_index_or, slice_set}
 use Rattle.om_model.specs.declared.out_of_memory.Memory.{Memory}
 use Rattle.om_model.specs.declared.value.Val.{Val}
 use Rattle.om_model.specs.declared.value.Val.TheVariants as vals

@@ -1,3 +1,4 @@
 pub mod Heap
+pub mod Lent
 pub mod Stored
 pub mod Words

@@ -1,13 +1,18 @@
 //! The heap: the words of all objects in one region, and the places of their headers.
 
-ghost use Rattle.std.specs.Prelude.{◌≡◌, ℕ, ◌+◌, ◌*◌, ◌/◌, ◌<◌, ◌≤◌, ◌^◌, List, [], length, map, take, All, vec_len, replicate, pos};
+ghost use Rattle.std.specs.Prelude.{◌≡◌, ℕ, ◌+◌, ◌*◌, ◌/◌, ◌<◌, ◌≤◌, ◌^◌, List, [], length, map};
+ghost use Rattle.std.specs.Prelude.{take, All, vec_len, replicate, pos};
 ghost use Rattle.om_model.specs.Graph.{IsValue, IsObject, IsGraph};
 ghost use Rattle.om_format.specs.Words.{words64};
 ghost use Rattle.om_model.specs.declared.value.Val.{Val};
 ghost use Rattle.om_model.specs.declared.value.Val.TheVariants as vals;
 ghost use Rattle.om_model.specs.declared.value.Obj.TheVariants as objects;
 ghost use Rattle.om_model.specs.declared.code.Measure.TheVariants as measures;
-ghost use Rattle.om_heap.specs.Heap.{object_at, fields_of, bytes_of, doubles_of, field_at, byte_at, double_at, set_field, set_byte, set_double, custom_object, kind_of, IsOfKind, IsHeap, Appends, AppendsInRoom, object_words, heap_words, IsBlock, place, word_of, key_of, IsFieldWord, IsReferenceWord, ForNamed};
+ghost use Rattle.om_heap.specs.Heap.{object_at, fields_of, bytes_of, doubles_of, field_at, byte_at};
+ghost use Rattle.om_heap.specs.Heap.{double_at, set_field, set_byte, set_double, custom_object};
+ghost use Rattle.om_heap.specs.Heap.{kind_of, IsOfKind, IsHeap, Appends, AppendsInRoom};
+ghost use Rattle.om_heap.specs.Heap.{object_words, heap_words, IsBlock, place, word_of, key_of};
+ghost use Rattle.om_heap.specs.Heap.{IsFieldWord, IsReferenceWord, ForNamed};
 ghost use Rattle.om_heap.specs.Words.{header_of, body_of};
 
 use crate::kind::Kind;

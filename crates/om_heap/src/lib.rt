@@ -3,9 +3,11 @@
 
 mod heap;
 mod kind;
+mod lent;
 mod objects;
 mod strings;
 mod words;
 
 pub use heap::Heap;
 pub use kind::Kind;
+pub use lent::{Placed, Rooted};

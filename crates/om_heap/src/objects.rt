@@ -1,6 +1,8 @@
 //! Objects as words of the region.
 
-ghost use Rattle.std.specs.Prelude.{◌≡◌, ◌+◌, ◌/◌, ◌<◌, ◌≤◌, ◌^◌, [], ◌∷◌, ◌++◌, length, take, drop, replicate, All, MatchResult, MatchBool, OnOk, slice_index, slice_range};
+ghost use Rattle.std.specs.Prelude.{◌≡◌, ◌+◌, ◌/◌, ◌<◌, ◌≤◌, ◌^◌, [], ◌∷◌, ◌++◌, length, take};
+ghost use Rattle.std.specs.Prelude.{drop, replicate, All, MatchResult, MatchBool, OnOk};
+ghost use Rattle.std.specs.Prelude.{slice_index, slice_range};
 ghost use Rattle.std.specs.Bool.{OnTrue};
 ghost use Rattle.om_heap.specs.Words.{custom_words};
 

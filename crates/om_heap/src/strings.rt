@@ -1,7 +1,8 @@
 //! Strings as words: eight bytes each, the least significant first, and the last tells how many
 //! zeros end it.
 
-ghost use Rattle.std.specs.Prelude.{◌≡◌, ◌+◌, ◌-◌, ◌*◌, ◌/◌, ◌%◌, ◌^◌, ◌<◌, ◌≤◌, [], ◌∷◌, ◌++◌, length, take, drop, replicate, slice_set};
+ghost use Rattle.std.specs.Prelude.{◌≡◌, ◌+◌, ◌-◌, ◌*◌, ◌/◌, ◌%◌, ◌^◌, ◌<◌, ◌≤◌, [], ◌∷◌, ◌++◌};
+ghost use Rattle.std.specs.Prelude.{length, take, drop, replicate, slice_set};
 ghost use Rattle.om_heap.specs.Stored.{string_length};
 ghost use Rattle.om_heap.specs.Words.{word_of_bytes, bytes_of_word, string_words, byte_in};
 

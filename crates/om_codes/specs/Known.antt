@@ -1,0 +1,17 @@
+-- What a code leaves to the numbers of its kind: of this there is one proof at most.
+use Rattle.std.specs.Coded.{×_prop, Unit-prop, le_prop}
+use Rattle.om_model.specs.declared.code.CodeKind.{CodeKind}
+use Rattle.om_model.specs.declared.code.CodeKind.TheVariants as kinds
+use Rattle.om_format.specs.Code.{IsKind}
+
+pub IsKind-prop : (kind : CodeKind) → IsProp (IsKind kind)
+IsKind-prop (kinds.SmallBlock tag size) = ×_prop le_prop le_prop
+IsKind-prop (kinds.SmallInt n) = le_prop
+IsKind-prop (kinds.SmallString n) = le_prop
+IsKind-prop (kinds.Int width) = ×_prop le_prop le_prop
+IsKind-prop (kinds.Shared width) = ×_prop le_prop le_prop
+IsKind-prop (kinds.Block width) = ×_prop le_prop le_prop
+IsKind-prop (kinds.Str width) = ×_prop le_prop le_prop
+IsKind-prop (kinds.Double little) = Unit-prop
+IsKind-prop (kinds.Doubles width little) = ×_prop le_prop le_prop
+IsKind-prop (kinds.Custom old) = Unit-prop

@@ -1,0 +1,12 @@
+-- A value of a heap: of this there is one proof at most.
+use Rattle.std.specs.Prelude.{ℕ, pos, negsuc}
+use Rattle.std.specs.Coded.{le_prop}
+use Rattle.om_model.specs.Graph.{IsValue}
+use Rattle.om_model.specs.declared.value.Val.{Val}
+use Rattle.om_model.specs.declared.value.Val.TheVariants as vals
+
+pub IsValue-prop : (n : ℕ) (v : Val) → IsProp (IsValue n v)
+IsValue-prop n (vals.Int (pos z)) = le_prop
+IsValue-prop n (vals.Int (negsuc z)) = le_prop
+IsValue-prop n (vals.Atom tag) = le_prop
+IsValue-prop n (vals.Ref k) = le_prop

@@ -1,0 +1,25 @@
+//! A heap that is lent, with what of it is meant: one of its values, or one of its objects.
+
+ghost use Rattle.std.specs.Prelude.{◌<◌, length};
+ghost use Rattle.om_model.specs.Graph.{IsValue};
+ghost use Rattle.om_heap.specs.Lent.{IsValue-prop};
+
+use crate::heap::Heap;
+use om_model::value::Val;
+
+/// A value of a heap: an integer, an atom, or one of its objects. Most often it is the value that
+/// was read, whose objects the heap has.
+#[derive(Clone, Copy)]
+pub struct Rooted<'a> {
+    pub heap: &'a Heap,
+    pub root: Val,
+    pub ghost value: { IsValue (length heap.now) root } by { IsValue-prop (length heap.now) root },
+}
+
+/// An object of a heap, by its number.
+#[derive(Clone, Copy)]
+pub struct Placed<'a> {
+    pub heap: &'a Heap,
+    pub object: u64,
+    pub ghost there: { object < length heap.now },
+}
