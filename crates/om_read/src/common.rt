@@ -3,7 +3,7 @@
 
 ghost use Rattle.std.specs.Prelude.{◌≡◌, ◌≤◌, ◌<◌, ◌+◌, ℕ, List, [], length, slice_index, None};
 ghost use Rattle.std.specs.Prelude.{Some, Ok, IfSome, OnSome};
-ghost use Rattle.om_format.specs.Code.{kind_of, IsKind};
+ghost use Rattle.om_format.specs.Code.{kind_of};
 ghost use Rattle.om_format.specs.Raw.{fixed_bytes, variable_bytes};
 ghost use Rattle.om_format.specs.Step.{Context, field_refusal};
 ghost use Rattle.om_read.specs.declared.totals.Totals.{Totals};
@@ -16,22 +16,21 @@ use crate::decode::decode_in_room;
 use crate::left::Left;
 use crate::token::{measure_at, number_at};
 use crate::totals::Totals;
-use om_codes::code_kind;
+use om_codes::{Known, code_kind};
 use om_model::bytes::skip;
 use om_model::code::CodeKind;
 
 /// How many bytes the token has after its code, if its kind is a common one, it is whole and its
 /// fields are sound: a reference goes back to one of so many objects, where the header states some.
 #[inline(always)]
-fn sound_len(stated: u64, objects: u64, kind: CodeKind, rest: &[u8]) -> Option<usize>
-    requires { IsKind kind }
+fn sound_len(stated: u64, objects: u64, kind: Known, rest: &[u8]) -> Option<usize>
     ensures len { IfSome result
-        (λ len. (len ≡ fixed_bytes kind + variable_bytes kind rest.now) × (len < 32)
-        × (len ≤ length rest.now) × IsPlain kind) }
+        (λ len. (len ≡ fixed_bytes kind.kind + variable_bytes kind.kind rest.now) × (len < 32)
+        × (len ≤ length rest.now) × IsPlain kind.kind) }
     ensures sound { (c : Context) (code : ℕ) → c.head.objects ≡ stated → c.sums.objects ≡ objects
-        → OnSome result (field_refusal c code kind rest.now ≡ None) }
+        → OnSome result (field_refusal c code kind.kind rest.now ≡ None) }
 {
-    let len = match kind {
+    let len = match kind.kind {
         CodeKind::SmallBlock(_, _) | CodeKind::SmallInt(_) => 0,
         CodeKind::SmallString(len) => usize::from(len),
         CodeKind::Int(width) if width < 8 => usize::from(width),
@@ -66,7 +65,6 @@ fn take_kind(
 ) -> usize
     requires some { 0 < length bytes.now }
     requires kind { kind_of (slice_index bytes.now 0) ≡ Ok kind }
-    requires known { IsKind kind }
     requires open { 0 < left.old.pending }
     requires stands { (n : ℕ) × (header : List ℕ) × (before : List (List ℕ)) × (place : Totals)
         × Stands first.now n header before place left.old builder.old }
@@ -76,14 +74,15 @@ fn take_kind(
         builder.new result }
 {
     let rest = skip(bytes, 1);
-    let Some(len) = sound_len(first.head.objects, builder.count(), kind, rest) else {
+    let known = Known { kind };
+    let Some(len) = sound_len(first.head.objects, builder.count(), known, rest) else {
         return 0;
     };
     let mut next = *left;
-    if !next.spend(1 + len as u64, measure_at(kind, rest)) {
+    if !next.spend(1 + len as u64, measure_at(known, rest)) {
         return 0;
     }
-    if !decode_in_room(builder, kind, &rest[..len]) {
+    if !decode_in_room(builder, known, &rest[..len]) {
         return 0;
     }
     *left = next;

@@ -4,7 +4,6 @@ ghost use Rattle.std.specs.Prelude.{◌≡◌, ◌≤◌, ◌<◌, ◌*◌, ◌/
 ghost use Rattle.std.specs.Prelude.{MatchBool};
 ghost use Rattle.om_model.specs.declared.value.Obj.TheVariants as objects;
 ghost use Rattle.om_model.specs.Bytes.{number, SpellsDoubles};
-ghost use Rattle.om_format.specs.Code.{IsKind};
 ghost use Rattle.om_model.specs.declared.code.Measure.TheVariants as measures;
 ghost use Rattle.om_format.specs.Raw.{measure_after, block_measure};
 ghost use Rattle.om_format.specs.Token.{Token, leaf, word_token, SpellsAfter};
@@ -15,6 +14,7 @@ ghost use Rattle.om_read.specs.Contents.{SpellsTokenAfter};
 use crate::build::Builder;
 use crate::content::{custom_value, doubles_of};
 use crate::token::{number_at, signed_four};
+use om_codes::Known;
 use om_model::Memory;
 use om_model::bytes::{big_endian, double, signed, skip};
 use om_model::code::CodeKind;
@@ -55,17 +55,16 @@ fn doubles(
 /// The token of this kind, after whose code stands `rest`, comes, if it is one that may be common
 /// and no memory is needed for it.
 #[inline(always)]
-pub fn decode_in_room(builder: &mut Builder, kind: CodeKind, rest: &[u8]) -> bool
-    requires known { IsKind kind }
+pub fn decode_in_room(builder: &mut Builder, kind: Known, rest: &[u8]) -> bool
     requires small { length rest.now < 2 ^ 53 }
-    requires size { of_object fields (measure_after kind rest.now) < 2 ^ 53 }
-    requires fits { Fits builder.old (measure_after kind rest.now) }
-    requires spelled { SpellsTokenAfter kind rest.now (length builder.old.built.objects) }
+    requires size { of_object fields (measure_after kind.kind rest.now) < 2 ^ 53 }
+    requires fits { Fits builder.old (measure_after kind.kind rest.now) }
+    requires spelled { SpellsTokenAfter kind.kind rest.now (length builder.old.built.objects) }
     ensures { MatchBool result
-        ((t : Token) → SpellsAfter kind rest.now t → builder.new ≡ absorb_in builder.old t)
+        ((t : Token) → SpellsAfter kind.kind rest.now t → builder.new ≡ absorb_in builder.old t)
         (builder.new ≡ builder.old) }
 {
-    match kind {
+    match kind.kind {
         CodeKind::SmallBlock(tag, size) => {
             if size == 0 {
                 builder.atom(tag);
@@ -97,21 +96,15 @@ pub fn decode_in_room(builder: &mut Builder, kind: CodeKind, rest: &[u8]) -> boo
 
 /// The token of this kind, after whose code stands `rest`, comes.
 #[inline(always)]
-pub fn decode(
-    alloc: Global,
-    builder: &mut Builder,
-    kind: CodeKind,
-    rest: &[u8],
-) -> Result<(), Memory>
-    requires known { IsKind kind }
+pub fn decode(alloc: Global, builder: &mut Builder, kind: Known, rest: &[u8]) -> Result<(), Memory>
     requires small { length rest.now < 2 ^ 53 }
-    requires size { of_object fields (measure_after kind rest.now) < 2 ^ 53 }
-    requires fits { Fits builder.old (measure_after kind rest.now) }
-    requires spelled { SpellsTokenAfter kind rest.now (length builder.old.built.objects) }
+    requires size { of_object fields (measure_after kind.kind rest.now) < 2 ^ 53 }
+    requires fits { Fits builder.old (measure_after kind.kind rest.now) }
+    requires spelled { SpellsTokenAfter kind.kind rest.now (length builder.old.built.objects) }
     ensures { OnOk result
-        ((t : Token) → SpellsAfter kind rest.now t → builder.new ≡ absorb_in builder.old t) }
+        ((t : Token) → SpellsAfter kind.kind rest.now t → builder.new ≡ absorb_in builder.old t) }
 {
-    match kind {
+    match kind.kind {
         CodeKind::SmallBlock(tag, size) => builder.block(tag, u64::from(size)),
         CodeKind::SmallInt(value) => {
             builder.integer(i64::from(value));

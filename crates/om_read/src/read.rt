@@ -12,7 +12,7 @@ use crate::build::Builder;
 use crate::decode::decode;
 use crate::totals::Totals;
 use crate::unread::Unread;
-use om_codes::code_kind;
+use om_codes::{Known, code_kind};
 use om_model::Memory;
 use om_model::bytes::skip;
 use std::alloc::Global;
@@ -28,7 +28,7 @@ fn add(alloc: Global, builder: &mut Builder, token: &[u8]) -> Result<(), Memory>
         ((t : Token) → Spells t token.now → builder.new ≡ absorb_in builder.old t) }
 {
     match code_kind(token[0]) {
-        Ok(kind) => decode(alloc, builder, kind, skip(token, 1)),
+        Ok(kind) => decode(alloc, builder, Known { kind }, skip(token, 1)),
         Err(_) => unreachable!(),
     }
 }

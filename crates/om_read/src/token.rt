@@ -2,11 +2,12 @@
 
 ghost use Rattle.std.specs.Prelude.{◌≡◌, ◌≤◌, ◌<◌, ◌+◌, ◌*◌, ◌^◌, length, take};
 ghost use Rattle.om_model.specs.Bytes.{number, signed};
-ghost use Rattle.om_format.specs.Code.{custom_of, native_bytes, IsKind};
+ghost use Rattle.om_format.specs.Code.{custom_of, native_bytes};
 ghost use Rattle.om_format.specs.Raw.{fixed_bytes, field_bytes, variable_bytes, measure_after};
 ghost use Rattle.om_format.specs.Raw.{custom_bytes, custom_measure, block_measure};
 ghost use Rattle.om_format.specs.Words.{of_object, fields};
 
+use om_codes::Known;
 use om_customs::ident;
 use om_model::bytes::big_endian;
 use om_model::code::{CodeKind, CustomKind, Measure};
@@ -96,12 +97,11 @@ pub fn custom_len(custom: Option<CustomKind>, kind: u8) -> u64
 }
 
 /// How many bytes the token has after those that each of its kind has.
-pub fn variable_len(kind: CodeKind, rest: &[u8]) -> u128
-    requires known { IsKind kind }
-    requires whole { field_bytes kind ≤ length rest.now }
-    ensures { result ≡ variable_bytes kind rest.now }
+pub fn variable_len(kind: Known, rest: &[u8]) -> u128
+    requires whole { field_bytes kind.kind ≤ length rest.now }
+    ensures { result ≡ variable_bytes kind.kind rest.now }
 {
-    match kind {
+    match kind.kind {
         CodeKind::SmallString(len) => u128::from(len),
         CodeKind::Str(width) => u128::from(number_at(rest, width)),
         CodeKind::Doubles(width, _) => 8 * u128::from(number_at(rest, width)),
@@ -137,13 +137,12 @@ pub fn custom_measure_of(custom: Option<CustomKind>) -> Option<Measure>
 }
 
 /// The measure of the object that the token makes, if it makes one.
-pub fn measure_at(kind: CodeKind, rest: &[u8]) -> Option<Measure>
-    requires known { IsKind kind }
-    requires whole { field_bytes kind ≤ length rest.now }
-    ensures measure { result ≡ measure_after kind rest.now }
+pub fn measure_at(kind: Known, rest: &[u8]) -> Option<Measure>
+    requires whole { field_bytes kind.kind ≤ length rest.now }
+    ensures measure { result ≡ measure_after kind.kind rest.now }
     ensures few { of_object fields result < 2 ^ 60 }
 {
-    match kind {
+    match kind.kind {
         CodeKind::SmallBlock(_, size) => block_measure_of(u64::from(size)),
         CodeKind::SmallInt(_) | CodeKind::Int(_) | CodeKind::Shared(_) => None,
         CodeKind::SmallString(len) => Some(Measure::Bytes(u64::from(len))),

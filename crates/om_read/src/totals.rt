@@ -9,7 +9,7 @@ use crate::token::{
     custom_at, field_len, fixed_len, measure_at, native_len, number_at, variable_len,
 };
 use crate::unread::{Unread, pass};
-use om_codes::code_kind;
+use om_codes::{Known, code_kind};
 use om_headers::words_of;
 use om_model::bytes::{signed, skip};
 use om_model::code::{CodeFault, CodeKind, CustomKind, Measure};
@@ -38,7 +38,7 @@ pub struct Totals {
 }
 
 impl Totals {
-    ghost use Rattle.om_format.specs.Code.{IsKind, custom_of, native_bytes};
+    ghost use Rattle.om_format.specs.Code.{custom_of, native_bytes};
     ghost use Rattle.om_format.specs.Raw.{field_bytes, fixed_bytes, variable_bytes, sizing_bytes};
     ghost use Rattle.om_format.specs.Words.{of_object, fields as fields_of, words32, words64};
     ghost use Rattle.om_format.specs.Step.{overlong as overlong_refusal};
@@ -99,12 +99,11 @@ impl Totals {
     }
 
     /// What is wrong with the token's fields: tag, offset, identifier, integer or length.
-    fn field_refusal(&self, code: u8, kind: CodeKind, rest: &[u8]) -> Option<ReadRefusal>
-        requires known { IsKind kind }
-        requires whole { field_bytes kind ≤ length rest.now }
-        ensures { result ≡ refusal_of_fields (context_of self.now) code kind rest.now }
+    fn field_refusal(&self, code: u8, kind: Known, rest: &[u8]) -> Option<ReadRefusal>
+        requires whole { field_bytes kind.kind ≤ length rest.now }
+        ensures { result ≡ refusal_of_fields (context_of self.now) code kind.kind rest.now }
     {
-        match kind {
+        match kind.kind {
             CodeKind::Int(8) => self.integer_refusal(signed(&rest[..8])),
             CodeKind::Shared(width) => self.shared_refusal(number_at(rest, width)),
             CodeKind::Block(width) => {
@@ -159,39 +158,38 @@ impl Totals {
     }
 
     /// What the kind's fixed bytes and its fields decide.
-    fn fields(&self, code: u8, kind: CodeKind, rest: &[u8]) -> Result<(), Unread>
+    fn fields(&self, code: u8, kind: Known, rest: &[u8]) -> Result<(), Unread>
         requires open { 0 < self.now.pending }
-        requires known { IsKind kind }
         ensures steps { answered result ≡ progress (length rest.now + 1)
-            (entry_steps (context_of self.now) code kind rest.now) }
-        ensures whole { OnOk result (field_bytes kind ≤ length rest.now) }
+            (entry_steps (context_of self.now) code kind.kind rest.now) }
+        ensures whole { OnOk result (field_bytes kind.kind ≤ length rest.now) }
         ensures room { OnOk result
-            (self.now.taken + (1 + fixed_bytes kind) ≤ self.now.head.length) }
+            (self.now.taken + (1 + fixed_bytes kind.kind) ≤ self.now.head.length) }
     {
-        pass(self.overlong(u128::from(fixed_len(kind)), 1))?;
-        if rest.len() < field_len(kind) {
+        pass(self.overlong(u128::from(fixed_len(kind.kind)), 1))?;
+        if rest.len() < field_len(kind.kind) {
             return Err(Unread::NeedMore);
         }
         pass(self.field_refusal(code, kind, rest))
     }
 
     /// What the bytes of a content decide, and how many there are.
-    fn variable(&self, kind: CodeKind, rest: &[u8]) -> Result<u64, Unread>
-        requires known { IsKind kind }
-        requires whole { field_bytes kind ≤ length rest.now }
-        requires room { self.now.taken + (1 + fixed_bytes kind) ≤ self.now.head.length }
+    fn variable(&self, kind: Known, rest: &[u8]) -> Result<u64, Unread>
+        requires whole { field_bytes kind.kind ≤ length rest.now }
+        requires room { self.now.taken + (1 + fixed_bytes kind.kind) ≤ self.now.head.length }
         ensures steps { answered result ≡ progress (length rest.now + 1)
-            (variable_steps (context_of self.now) kind (custom_of (take 3 rest.now)) rest.now) }
-        ensures len { IfOk result (λ len. len ≡ variable_bytes kind rest.now) }
+            (variable_steps (context_of self.now) kind.kind (custom_of (take 3 rest.now))
+            rest.now) }
+        ensures len { IfOk result (λ len. len ≡ variable_bytes kind.kind rest.now) }
         ensures room { IfOk result
-            (λ len. self.now.taken + (1 + fixed_bytes kind + len) ≤ self.now.head.length) }
-        ensures sized { OnOk result (sizing_bytes kind rest.now ≤ length rest.now) }
+            (λ len. self.now.taken + (1 + fixed_bytes kind.kind + len) ≤ self.now.head.length) }
+        ensures sized { OnOk result (sizing_bytes kind.kind rest.now ≤ length rest.now) }
     {
-        if matches!(kind, CodeKind::Custom(_)) && custom_at(rest) == Some(CustomKind::Native) {
+        if matches!(kind.kind, CodeKind::Custom(_)) && custom_at(rest) == Some(CustomKind::Native) {
             return self.native(rest);
         }
         let len = variable_len(kind, rest);
-        pass(self.overlong(len, 1 + fixed_len(kind)))?;
+        pass(self.overlong(len, 1 + fixed_len(kind.kind)))?;
         Ok(len as u64)
     }
 
@@ -303,21 +301,21 @@ impl Totals {
     /// The steps that need the token's size, and after the last token those of the whole value. The
     /// place after it.
     #[tactic(auto, using(crate::proofs::SizeLemmas::measure_small, crate::proofs::SizeLemmas::few_words32, crate::proofs::SizeLemmas::few_words64))]
-    fn close(&self, kind: CodeKind, rest: &[u8], len: u64) -> Result<Totals, Unread>
+    fn close(&self, kind: Known, rest: &[u8], len: u64) -> Result<Totals, Unread>
         requires open { 0 < self.now.pending }
-        requires known { IsKind kind }
-        requires whole { field_bytes kind ≤ length rest.now }
-        requires sized { sizing_bytes kind rest.now ≤ length rest.now }
-        requires len { len ≡ variable_bytes kind rest.now }
-        requires room { self.now.taken + (1 + fixed_bytes kind + len) ≤ self.now.head.length }
+        requires whole { field_bytes kind.kind ≤ length rest.now }
+        requires sized { sizing_bytes kind.kind rest.now ≤ length rest.now }
+        requires len { len ≡ variable_bytes kind.kind rest.now }
+        requires room { self.now.taken + (1 + fixed_bytes kind.kind + len) ≤ self.now.head.length }
         ensures steps { answered result
-            ≡ progress (length rest.now + 1) (closing_steps (context_of self.now) kind rest.now) }
+            ≡ progress (length rest.now + 1)
+            (closing_steps (context_of self.now) kind.kind rest.now) }
         ensures next { IfOk result
-            (λ next. AreTotals next (after_kind (context_of self.now) kind rest.now)) }
+            (λ next. AreTotals next (after_kind (context_of self.now) kind.kind rest.now)) }
         ensures len { IfOk result
-            (λ next. next.taken ≡ self.now.taken + (1 + fixed_bytes kind + len)) }
+            (λ next. next.taken ≡ self.now.taken + (1 + fixed_bytes kind.kind + len)) }
     {
-        let n = 1 + fixed_len(kind) + len;
+        let n = 1 + fixed_len(kind.kind) + len;
         let measure = measure_at(kind, rest);
         let pending = self.pending_after(measure);
         pass(self.overlong(u128::from(pending), n))?;
@@ -337,24 +335,23 @@ impl Totals {
     }
 
     /// The steps of a token of this kind, and the place after it.
-    fn steps(&self, code: u8, kind: CodeKind, rest: &[u8]) -> Result<Totals, Unread>
+    fn steps(&self, code: u8, kind: Known, rest: &[u8]) -> Result<Totals, Unread>
         requires open { 0 < self.now.pending }
-        requires known { IsKind kind }
         ensures steps { answered result
             ≡ and_then
             (progress (length rest.now + 1)
-            (entry_steps (context_of self.now) code kind rest.now))
+            (entry_steps (context_of self.now) code kind.kind rest.now))
             (and_then
             (progress (length rest.now + 1)
-            (variable_steps (context_of self.now) kind (custom_of (take 3 rest.now))
+            (variable_steps (context_of self.now) kind.kind (custom_of (take 3 rest.now))
             rest.now))
             (progress (length rest.now + 1)
-            (closing_steps (context_of self.now) kind rest.now))) }
+            (closing_steps (context_of self.now) kind.kind rest.now))) }
         ensures next { IfOk result
-            (λ next. AreTotals next (after_kind (context_of self.now) kind rest.now)) }
+            (λ next. AreTotals next (after_kind (context_of self.now) kind.kind rest.now)) }
         ensures len { IfOk result
             (λ next. next.taken
-            ≡ self.now.taken + (1 + fixed_bytes kind + variable_bytes kind rest.now)) }
+            ≡ self.now.taken + (1 + fixed_bytes kind.kind + variable_bytes kind.kind rest.now)) }
     {
         self.fields(code, kind, rest)?;
         let len = self.variable(kind, rest)?;
@@ -383,7 +380,7 @@ impl Totals {
         match code_kind(code) {
             Err(fault) => Err(Unread::Refused(self.code_refusal(fault, code))),
             Ok(kind) => {
-                let next = self.steps(code, kind, skip(bytes, 1))?;
+                let next = self.steps(code, Known { kind }, skip(bytes, 1))?;
                 if (bytes.len() as u64) < next.taken - self.taken {
                     return Err(Unread::NeedMore);
                 }

@@ -1,13 +1,13 @@
 //! A raw token: the fields of one, in their lengths, with any contents (`intern.c`).
 
 ghost use Rattle.std.specs.Prelude.{◌≡◌, ◌<◌, ◌^◌, Option};
-ghost use Rattle.om_format.specs.Code.{IsKind};
 ghost use Rattle.om_format.specs.Raw.{fixed_bytes, field_bytes, custom_bytes, kind_bytes};
 ghost use Rattle.om_format.specs.Raw.{custom_measure, variable_bytes, block_measure, measure_after};
 ghost use Rattle.om_format.specs.Raw.{sizing_bytes, raw_length, raw_measure};
 
 use crate::code::{custom_of, kind_of, native_bytes};
 use crate::cut::{byte_at, first, number_of};
+use om_codes::Known;
 use om_model::bytes::skip;
 use om_model::code::{CodeKind, CustomKind, Measure};
 
@@ -87,12 +87,11 @@ fn custom_measure(custom: Option<CustomKind>) -> Option<Measure>
 }
 
 /// The bytes after the fixed ones, of a string, an array or a custom. After the code stands `rest`.
-pub fn variable_bytes(kind: CodeKind, rest: &[u8]) -> u128
-    requires { IsKind kind }
-    ensures bytes { result ≡ variable_bytes kind rest.now }
+pub fn variable_bytes(kind: Known, rest: &[u8]) -> u128
+    ensures bytes { result ≡ variable_bytes kind.kind rest.now }
     ensures few { result < 2 ^ 68 }
 {
-    match kind {
+    match kind.kind {
         CodeKind::SmallString(n) => u128::from(n),
         CodeKind::Str(width) => u128::from(number_of(rest, usize::from(width))),
         CodeKind::Doubles(width, _) => 8 * u128::from(number_of(rest, usize::from(width))),
@@ -113,11 +112,10 @@ fn block_measure(size: u64) -> Option<Measure>
 }
 
 /// The object that a token makes.
-pub fn measure_after(kind: CodeKind, rest: &[u8]) -> Option<Measure>
-    requires { IsKind kind }
-    ensures { result ≡ measure_after kind rest.now }
+pub fn measure_after(kind: Known, rest: &[u8]) -> Option<Measure>
+    ensures { result ≡ measure_after kind.kind rest.now }
 {
-    match kind {
+    match kind.kind {
         CodeKind::SmallBlock(_, size) => block_measure(u64::from(size)),
         CodeKind::SmallInt(_) => None,
         CodeKind::SmallString(n) => Some(Measure::Bytes(u64::from(n))),
@@ -153,7 +151,7 @@ pub fn raw_length(bytes: &[u8]) -> u128
     match kind_of(*code) {
         Ok(kind) => {
             let rest = skip(bytes, 1);
-            1 + (fixed_bytes(kind) + variable_bytes(kind, rest))
+            1 + (fixed_bytes(kind) + variable_bytes(Known { kind }, rest))
         }
         Err(_) => 1,
     }
@@ -167,7 +165,7 @@ pub fn raw_measure(bytes: &[u8]) -> Option<Measure>
         return None;
     };
     match kind_of(*code) {
-        Ok(kind) => measure_after(kind, skip(bytes, 1)),
+        Ok(kind) => measure_after(Known { kind }, skip(bytes, 1)),
         Err(_) => None,
     }
 }

@@ -3,7 +3,6 @@
 ghost use Rattle.std.specs.Prelude.{◌≡◌, ◌*◌, ℕ, List as Seq, length, map, IfOk};
 ghost use Rattle.std.specs.List.{AllZip};
 ghost use Rattle.om_model.specs.Bytes.{SpellsDoubles};
-ghost use Rattle.om_format.specs.Code.{IsKind};
 ghost use Rattle.om_format.specs.Token.{Token as Spelled, block_or_atom, word_token, leaf};
 ghost use Rattle.om_format.specs.Token.{SpellsCustom, SpellsAfter, Spells};
 ghost use Rattle.om_model.specs.declared.value.Obj.TheVariants as objects;
@@ -11,6 +10,7 @@ ghost use Rattle.om_reference.specs.Token.{token_of};
 
 use crate::code::{custom_of, kind_of};
 use crate::cut::{first, number_of};
+use om_codes::Known;
 use om_model::bytes::{big_endian, double, signed, skip};
 use om_model::code::{CodeKind, CustomKind};
 use om_model::list::List;
@@ -100,12 +100,11 @@ fn doubles_token(
 }
 
 /// The token of this kind, after whose code stands `rest`.
-fn token_after(alloc: Global, kind: CodeKind, rest: &[u8]) -> Result<Token, AllocError>
-    requires known { IsKind kind }
-    requires spelled { (t : Spelled) × SpellsAfter kind rest.now t }
-    ensures { IfOk result (λ t. (u : Spelled) → SpellsAfter kind rest.now u → token_of t ≡ u) }
+fn token_after(alloc: Global, kind: Known, rest: &[u8]) -> Result<Token, AllocError>
+    requires spelled { (t : Spelled) × SpellsAfter kind.kind rest.now t }
+    ensures { IfOk result (λ t. (u : Spelled) → SpellsAfter kind.kind rest.now u → token_of t ≡ u) }
 {
-    match kind {
+    match kind.kind {
         CodeKind::SmallBlock(tag, size) => Ok(block_or_atom(tag, u64::from(size))),
         CodeKind::SmallInt(n) => Ok(Token::Integer(i64::from(n))),
         CodeKind::SmallString(_) => string_token(alloc, rest),
@@ -129,7 +128,7 @@ fn token_spelled(alloc: Global, bytes: &[u8]) -> Result<Token, AllocError>
     ensures { IfOk result (λ t. Spells (token_of t) bytes.now) }
 {
     match kind_of(bytes[0]) {
-        Ok(kind) => token_after(alloc, kind, skip(bytes, 1)),
+        Ok(kind) => token_after(alloc, Known { kind }, skip(bytes, 1)),
         Err(_) => unreachable!(),
     }
 }

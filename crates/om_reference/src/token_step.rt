@@ -1,7 +1,7 @@
 //! The steps of a token (`intern.c`).
 
 ghost use Rattle.std.specs.Prelude.{◌≡◌, ◌<◌, ◌^◌, ◌++◌, length, IfOk, OnOk};
-ghost use Rattle.om_format.specs.Code.{IsKind, custom_of};
+ghost use Rattle.om_format.specs.Code.{custom_of};
 ghost use Rattle.om_format.specs.Raw.{measure_after};
 ghost use Rattle.om_format.specs.Step.{place, left_after, overlong, code_refusal, integer_refusal};
 ghost use Rattle.om_format.specs.Step.{shared_refusal, field_refusal, native_steps, variable_steps};
@@ -18,6 +18,7 @@ use crate::raw::{field_bytes, fixed_bytes, measure_after, sizing_bytes, variable
 use crate::refusal::Refusal;
 use crate::step::{Comparison, Step, differs, fails_if, or_else};
 use crate::words::{Sums, one_more};
+use om_codes::Known;
 use om_model::bytes::skip;
 use om_model::code::{CodeFault, CodeKind, CustomKind};
 use om_model::header::Head;
@@ -85,11 +86,10 @@ fn shared_refusal(c: &Context, offset: u64) -> Option<Refusal>
 }
 
 /// What is wrong with the token's fields.
-fn field_refusal(c: &Context, code: u8, kind: CodeKind, rest: &[u8]) -> Option<Refusal>
-    requires { IsKind kind }
-    ensures { refusal_in result ≡ field_refusal (context_of c.now) code kind rest.now }
+fn field_refusal(c: &Context, code: u8, kind: Known, rest: &[u8]) -> Option<Refusal>
+    ensures { refusal_in result ≡ field_refusal (context_of c.now) code kind.kind rest.now }
 {
-    match kind {
+    match kind.kind {
         CodeKind::Int(8) => integer_refusal(c, integer_of(rest)),
         CodeKind::Shared(width) => shared_refusal(c, number_of(rest, usize::from(width))),
         CodeKind::Block(width) => {
@@ -132,23 +132,22 @@ fn native_steps(c: &Context, kind: u8) -> [Step; 3]
 /// Adds the steps of the bytes after the fixed ones.
 fn add_variable(
     c: &Context,
-    kind: CodeKind,
+    kind: Known,
     custom: Option<CustomKind>,
     rest: &[u8],
     steps: &mut Vec<Step>,
 ) -> Result<(), AllocError>
-    requires { IsKind kind }
     ensures { OnOk result
         (steps_of steps.new.items
-        ≡ steps_of steps.old.items ++ variable_steps (context_of c.now) kind custom rest.now) }
+        ≡ steps_of steps.old.items ++ variable_steps (context_of c.now) kind.kind custom rest.now) }
 {
-    match (kind, custom) {
+    match (kind.kind, custom) {
         (CodeKind::Custom(_), Some(CustomKind::Native)) => {
             steps.extend_from_slice(&native_steps(c, byte_at(rest, 3)))
         }
         _ => steps.extend_from_slice(&[Step {
-            ends: 1 + field_bytes(kind),
-            refusal: overlong(c, variable_bytes(kind, rest), 1 + fixed_bytes(kind)),
+            ends: 1 + field_bytes(kind.kind),
+            refusal: overlong(c, variable_bytes(kind, rest), 1 + fixed_bytes(kind.kind)),
         }]),
     }
 }
@@ -204,17 +203,16 @@ fn end_steps(c: &Context, n: u128, all: Sums) -> [Step; 4]
 }
 
 /// The steps of the fixed bytes, and of the fields.
-fn entry_steps(c: &Context, code: u8, kind: CodeKind, rest: &[u8]) -> [Step; 2]
-    requires { IsKind kind }
-    ensures { steps_of result ≡ entry_steps (context_of c.now) code kind rest.now }
+fn entry_steps(c: &Context, code: u8, kind: Known, rest: &[u8]) -> [Step; 2]
+    ensures { steps_of result ≡ entry_steps (context_of c.now) code kind.kind rest.now }
 {
     [
         Step {
             ends: 1,
-            refusal: overlong(c, fixed_bytes(kind), 1),
+            refusal: overlong(c, fixed_bytes(kind.kind), 1),
         },
         Step {
-            ends: 1 + field_bytes(kind),
+            ends: 1 + field_bytes(kind.kind),
             refusal: field_refusal(c, code, kind, rest),
         },
     ]
@@ -224,17 +222,16 @@ fn entry_steps(c: &Context, code: u8, kind: CodeKind, rest: &[u8]) -> [Step; 2]
 /// of the tree's end.
 fn add_closing(
     c: &Context,
-    kind: CodeKind,
+    kind: Known,
     rest: &[u8],
     steps: &mut Vec<Step>,
 ) -> Result<(), AllocError>
-    requires { IsKind kind }
     ensures { OnOk result
         (steps_of steps.new.items
-        ≡ steps_of steps.old.items ++ closing_steps (context_of c.now) kind rest.now) }
+        ≡ steps_of steps.old.items ++ closing_steps (context_of c.now) kind.kind rest.now) }
 {
-    let n = 1 + fixed_bytes(kind) + variable_bytes(kind, rest);
-    let sized = 1 + sizing_bytes(kind, rest);
+    let n = 1 + fixed_bytes(kind.kind) + variable_bytes(kind, rest);
+    let sized = 1 + sizing_bytes(kind.kind, rest);
     let all = one_more(c.sums, measure_after(kind, rest));
     steps.extend_from_slice(&[
         Step {
@@ -261,12 +258,11 @@ fn steps_after(
     alloc: Global,
     c: &Context,
     code: u8,
-    kind: CodeKind,
+    kind: Known,
     rest: &[u8],
 ) -> Result<Vec<Step>, AllocError>
-    requires { IsKind kind }
     ensures { IfOk result
-        (λ steps. steps_of steps.items ≡ steps_after (context_of c.now) code kind rest.now) }
+        (λ steps. steps_of steps.items ≡ steps_after (context_of c.now) code kind.kind rest.now) }
 {
     let mut steps = Vec::from_slice(alloc, &entry_steps(c, code, kind, rest))?;
     add_variable(c, kind, custom_of(first(rest, 3)), rest, &mut steps)?;
@@ -284,7 +280,7 @@ pub fn token_steps(alloc: Global, c: &Context, token: &[u8]) -> Result<Vec<Step>
         return Ok(Vec::new(alloc));
     };
     match kind_of(*code) {
-        Ok(kind) => steps_after(alloc, c, *code, kind, skip(token, 1)),
+        Ok(kind) => steps_after(alloc, c, *code, Known { kind }, skip(token, 1)),
         Err(fault) => Vec::from_slice(
             alloc,
             &[Step {

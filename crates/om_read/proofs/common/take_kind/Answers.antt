@@ -5,6 +5,7 @@ use Rattle.om_format.specs.Raw.{fixed_bytes, variable_bytes, measure_after}
 use Rattle.om_format.specs.Words.{words32, words64}
 use Rattle.om_format.specs.Step.{field_refusal}
 use Rattle.om_format.specs.Token.{Token, SpellsAfter}
+use Rattle.om_format.proofs.KindLemmas.{IsKind-kind_of}
 use Rattle.om_format.proofs.RawLemmas.{fields_fit, measure_after-take}
 use Rattle.om_read.specs.declared.totals.Totals.{Totals}
 use Rattle.om_read.specs.Totals.{PassesTo, Advances, AreFew, context_of, IsPlain}
@@ -17,6 +18,10 @@ use Rattle.om_read.proofs.NextLemmas.{objects_built}
 use Rattle.om_read.proofs.CommonLemmas.{advance_fits, common_taken, common_spelled, passes_from}
 use Rattle.om_read.proofs.common.take_kind.Goals as goal
 use Rattle.om_read.proofs.common.take_kind.Goals.{After-spend}
+
+-- a code of this kind leaves it so much
+pub invariant_of-known : goal.invariant_of-known
+invariant_of-known c = record { known = IsKind-kind_of (get_or c.args.bytes.now 0 0) c.args.kind c.requires.kind }
 
 -- the length, by the bytes after the code
 len_is : (c : After-spend) → c.in-Some.len ≡ fixed_bytes c.args.kind + variable_bytes c.args.kind (drop 1 c.args.bytes.now)

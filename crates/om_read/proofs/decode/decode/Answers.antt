@@ -38,6 +38,6 @@ pub custom-requires : goal.custom-requires
 custom-requires c =
     let h = c.requires.spelled in
     let spelled : SpellsAfter (kinds.Custom c.in-Custom.field-0) c.args.rest.now h.0 = subst (λ (k : CodeKind). SpellsAfter k c.args.rest.now h.0) c.in-Custom.is h.1 in
-    let same : measure_after c.args.kind c.args.rest.now ≡ leaf_measure (custom_object c.custom_value.result) =
-    spelled_measure c.args.kind c.args.rest.now h.0 h.1 ∙ ap measure_of (c.custom_value.ensures h.0 spelled) in
+    let same : measure_after c.args.kind.kind c.args.rest.now ≡ leaf_measure (custom_object c.custom_value.result) =
+    spelled_measure c.args.kind.kind c.args.rest.now h.0 h.1 ∙ ap measure_of (c.custom_value.ensures h.0 spelled) in
     subst (Fits c.args.builder.now) same c.requires.fits

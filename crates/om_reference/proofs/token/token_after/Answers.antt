@@ -8,7 +8,7 @@ use Rattle.om_reference.proofs.token.token_after.Goals as goal
 pub doubles_token-requires : goal.doubles_token-requires
 doubles_token-requires c =
     let rest = c.args.rest.now in
-    let kind : c.args.kind ≡ kinds.Doubles c.in-Doubles.width c.in-Doubles.little = search rules in
+    let kind : c.args.kind.kind ≡ kinds.Doubles c.in-Doubles.width c.in-Doubles.little = search rules in
     let spelled : SpellsAfter (kinds.Doubles c.in-Doubles.width c.in-Doubles.little) rest c.requires.spelled.0 =
     subst (λ (k : CodeKind). SpellsAfter k rest c.requires.spelled.0) kind c.requires.spelled.1 in
     let whole = doubles_whole c.in-Doubles.width c.in-Doubles.little rest c.requires.spelled.0 spelled in

@@ -12,13 +12,13 @@ use Rattle.om_read.proofs.totals.Totals.close.Goals as goal
 use Rattle.om_read.proofs.totals.Totals.close.Goals.{After-end}
 
 -- what the call of `end` answers is what all these steps answer
-closed : (c : After-end) → answered c.end.result ≡ progress (length c.args.rest.now + 1) (closing_steps (context_of c.args.self.now) c.args.kind c.args.rest.now)
+closed : (c : After-end) → answered c.end.result ≡ progress (length c.args.rest.now + 1) (closing_steps (context_of c.args.self.now) c.args.kind.kind c.args.rest.now)
 closed c =
     let c' : Context = context_of c.args.self.now in
-    let all : Sums = one_more c'.sums (measure_after c.args.kind c.args.rest.now) in
-    let n : ℕ = 1 + fixed_bytes c.args.kind + variable_bytes c.args.kind c.args.rest.now in
+    let all : Sums = one_more c'.sums (measure_after c.args.kind.kind c.args.rest.now) in
+    let n : ℕ = 1 + fixed_bytes c.args.kind.kind + variable_bytes c.args.kind.kind c.args.rest.now in
     let m : ℕ = length c.args.rest.now + 1 in
-    let d : ltb m (1 + sizing_bytes c.args.kind c.args.rest.now) ≡ false = grind (arith, nat_tests) in
+    let d : ltb m (1 + sizing_bytes c.args.kind.kind c.args.rest.now) ≡ false = grind (arith, nat_tests) in
     let o : overlong c' all.pending n ≡ None = grind (arith, common_steps) in
     let e : or_else (words32_refusal ltb (place c') c'.head all.w32) (words64_refusal ltb (place c') c'.head all.w64) ≡ None = grind (arith, common_steps) in
     let p : answered c.end.result ≡ progress m (cond (eqb all.pending 0) (end_steps c' n all) []) =
@@ -28,9 +28,9 @@ closed c =
 pub returns-in_err-pass-2-clause-steps : goal.returns-in_err-pass-2-clause-steps
 returns-in_err-pass-2-clause-steps c =
     let c' : Context = context_of c.args.self.now in
-    let all : Sums = one_more c'.sums (measure_after c.args.kind c.args.rest.now) in
-    let n : ℕ = 1 + fixed_bytes c.args.kind + variable_bytes c.args.kind c.args.rest.now in
-    let d : ltb (length c.args.rest.now + 1) (1 + sizing_bytes c.args.kind c.args.rest.now) ≡ false = grind (arith, nat_tests) in
+    let all : Sums = one_more c'.sums (measure_after c.args.kind.kind c.args.rest.now) in
+    let n : ℕ = 1 + fixed_bytes c.args.kind.kind + variable_bytes c.args.kind.kind c.args.rest.now in
+    let d : ltb (length c.args.rest.now + 1) (1 + sizing_bytes c.args.kind.kind c.args.rest.now) ≡ false = grind (arith, nat_tests) in
     let o : overlong c' all.pending n ≡ None = grind (arith, common_steps) in
     let e : c.exceeded.result ≡ or_else (words32_refusal ltb (place c') c'.head all.w32) (words64_refusal ltb (place c') c'.head all.w64) = grind (arith, common_steps) in
     let stop : IsErr c.from_residual-in_err-pass-2.result = search rules in
