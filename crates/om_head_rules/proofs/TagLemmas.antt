@@ -4,24 +4,57 @@ use Rattle.std.specs.Prelude.{slice_get, option_map, Contains, ◌↔◌}
 use Rattle.std.proofs.lemmas.List.Elements.{All-get_or}
 use Rattle.std.proofs.lemmas.Option.{none-some, same_Some}
 use Rattle.om_types.specs.declared.decl.Decl.{Decl}
+use Rattle.om_types.specs.declared.head.HeadOf.{HeadOf}
+use Rattle.om_types.specs.declared.head.HeadOf.TheVariants as heads
 use Rattle.om_types.specs.declared.head.TagOf.{TagOf}
 use Rattle.om_types.specs.Ty.{Ty}
 use Rattle.om_types.specs.Nodes.{type_at}
 use Rattle.om_types.specs.Occurrence.{PlacedItem}
 use Rattle.om_types.specs.Head.{head, tags_in}
 use Rattle.om_types.specs.Scope.{Rule, turn, not_variant, tag_clash, hash_clash}
-use Rattle.om_types.specs.Table.{tag_with_part}
+use Rattle.om_types.specs.Table.{tag_with_part, head_with_parts}
 use Rattle.om_store.specs.Held.{Grows}
 use Rattle.om_store.proofs.HeldLemmas.{there_kept}
 use Rattle.om_brackets.specs.declared.item.Item.{Item}
 use Rattle.om_brackets.specs.Trees.{typed_item, written_item, AreItems}
 use Rattle.om_brackets.proofs.TreeLemmas.{in_both, clash_written, clash_numbered, hash_written, hash_numbered, names_written}
 use Rattle.om_head_rules.specs.declared.item.NumberedItem.{NumberedItem}
-use Rattle.om_head_rules.specs.Rules.{IsWithin, AreWithin, AreAllWithin, item_at, items_at, brackets_at}
+use Rattle.om_head_rules.specs.Rules.{IsWithin, AreWithin, AreAllWithin, item_at, items_at, brackets_at, tags_of_head}
 use Rattle.om_head_rules.specs.Rules.{AreTagged, CollideAmong, TagsBreak, BracketsBreak, BracketsHash}
 use Rattle.om_head_rules.proofs.FirstLemmas.{of_late}
 use Rattle.om_head_rules.proofs.LoopLemmas.{maps_more}
 use Rattle.om_head_rules.proofs.VariantLemmas.{type_kept, items_kept}
+
+-- ---- the tags of a head, by numbers and as they are written
+
+abbrev tags_there : HeadOf (Option Ty) → List (TagOf (Option Ty))
+tags_there (heads.Variants tags) = tags
+tags_there other = []
+
+numbers_there :
+    (f : ℕ → Option Ty) (h : HeadOf ℕ) → tags_there (head_with_parts f h) ≡ map (tag_with_part f) (tags_of_head h)
+numbers_there f (heads.Variable name) = refl
+numbers_there f (heads.Predeclared base parts) = refl
+numbers_there f (heads.Datatype name parts) = refl
+numbers_there f (heads.Tuple parts) = refl
+numbers_there f (heads.Variants tags) = refl
+numbers_there f heads.Absent = refl
+
+written_there :
+    (f : Ty → Option Ty) (h : HeadOf Ty) → tags_there (head_with_parts f h) ≡ map (tag_with_part f) (tags_in h)
+written_there f (heads.Variable name) = refl
+written_there f (heads.Predeclared base parts) = refl
+written_there f (heads.Datatype name parts) = refl
+written_there f (heads.Tuple parts) = refl
+written_there f (heads.Variants tags) = refl
+written_there f heads.Absent = refl
+
+pub head_tags :
+    (types : List Ty) (h : HeadOf ℕ) (u : HeadOf Ty)
+    → head_with_parts (slice_get types) h ≡ head_with_parts (λ (t : Ty). Some t) u
+    → map (tag_with_part (slice_get types)) (tags_of_head h) ≡ map (tag_with_part (λ (t : Ty). Some t)) (tags_in u)
+head_tags types h u is =
+    sym (numbers_there (slice_get types) h) ∙ ap tags_there is ∙ written_there (λ (t : Ty). Some t) u
 
 -- ---- where types are added
 

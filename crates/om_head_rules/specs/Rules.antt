@@ -1,7 +1,10 @@
 -- The rules that ask for heads, over numbered items of brackets and over declarations.
-use Rattle.std.specs.Prelude.{ℕ, ◌<◌, ◌≡◌, List, Option, Some, None, IsSome, option_and_then}
+use Rattle.std.specs.Prelude.{ℕ, ◌<◌, ◌≡◌, List, [], Option, Some, None, IsSome, option_and_then}
 use Rattle.std.specs.Prelude.{Contains, IfSome, All, length, map, slice_get}
 use Rattle.om_types.specs.declared.decl.Decl.{Decl}
+use Rattle.om_types.specs.declared.head.HeadOf.{HeadOf}
+use Rattle.om_types.specs.declared.head.HeadOf.TheVariants as heads
+use Rattle.om_types.specs.declared.head.TagOf.{TagOf}
 use Rattle.om_types.specs.Ty.{Ty, including, name_of}
 use Rattle.om_types.specs.Declarations.{declaration_of, abbreviated}
 use Rattle.om_types.specs.Nodes.{type_at}
@@ -20,6 +23,11 @@ use Rattle.om_brackets.specs.Trees.{typed_item, written_item, NamesHashAt}
 use Rattle.om_head_rules.specs.declared.item.NumberedItem.{NumberedItem}
 
 -- ---- numbered items
+
+-- the tags of a head, whose parts are numbers
+abbrev pub tags_of_head : HeadOf ℕ → List (TagOf ℕ)
+tags_of_head (heads.Variants tags) = tags
+tags_of_head other = []
 
 abbrev pub IsWithin : List Ty → NumberedItem → Type 0
 IsWithin types i = i.number < length types

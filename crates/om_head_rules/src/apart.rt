@@ -1,7 +1,7 @@
 //! Texts whose tags clash in no bracket, whatever their brackets include: each name is written with
 //! one argument, without variables, and each hash with one name.
 
-ghost use Rattle.std.specs.Prelude.{◌≡◌, ◌<◌, ◌+◌, ◌++◌, ◌∷◌, [], length, IfOk, IfSome, OnOk};
+ghost use Rattle.std.specs.Prelude.{◌≡◌, ◌+◌, ◌++◌, ◌∷◌, [], length, IfOk, IfSome, OnOk};
 ghost use Rattle.std.specs.Prelude.{IsTrue};
 ghost use Rattle.om_types.specs.Nodes.{type_at};
 ghost use Rattle.om_store.specs.Held.{Grows};
@@ -11,6 +11,7 @@ ghost use Rattle.std.specs.Prelude.{All};
 
 use crate::item::NumberedItem;
 use om_brackets::{Item, least_clash, least_collision};
+use om_layout::Stored;
 use om_model::Memory;
 use om_model::list::List;
 use om_store::{TypeNode, Types};
@@ -19,13 +20,12 @@ use om_types::head::TagOf;
 use std::alloc::Global;
 
 /// Whether a type holds no variable, where that is told of those before it.
-fn is_closed(types: &Types, told: &[bool], number: usize) -> bool
-    requires number { number < length types.now }
-    requires before { length told.now ≡ number }
-    requires told { TellsClosed types.now told.now }
-    ensures { result ≡ is_closed (type_at types.now number) }
+fn is_closed(t: &Stored<'_>, told: &[bool]) -> bool
+    requires before { length told.now ≡ t.now.number }
+    requires told { TellsClosed t.now.types.now told.now }
+    ensures { result ≡ is_closed (type_at t.now.types.now t.now.number) }
 {
-    match types.node(number) {
+    match t.types.node(t.number) {
         TypeNode::Variable(_) => false,
         TypeNode::Part(whole, added) => told[whole] && told[added],
         TypeNode::TagOf(whole, _, argument) => told[whole] && told[argument],
@@ -42,7 +42,7 @@ fn closed_types(alloc: Global, types: &Types) -> Result<Vec<bool>, Memory>
 {
     let mut told = Vec::new(alloc);
     for number in 0..types.len() {
-        let closed = is_closed(types, told.as_slice(), number);
+        let closed = is_closed(&Stored { types, number }, told.as_slice());
         told.push(closed)?;
     }
     Ok(told)
@@ -69,19 +69,17 @@ fn put_item(
 /// Adds the tag that a type ends with, and answers whether it holds no variable.
 fn put_last(
     alloc: Global,
-    types: &Types,
+    t: &Stored<'_>,
     told: &[bool],
     items: &mut List<Item>,
-    number: usize,
 ) -> Result<bool, Memory>
-    requires number { number < length types.now }
-    requires all { length told.now ≡ length types.now }
-    requires told { TellsClosed types.now told.now }
+    requires all { length told.now ≡ length t.now.types.now }
+    requires told { TellsClosed t.now.types.now told.now }
     ensures { IfOk result
-        (λ closed. IsTrue closed → AreListed types.now items.old number
-        → AreListed types.now items.new (number + 1)) }
+        (λ closed. IsTrue closed → AreListed t.now.types.now items.old t.now.number
+        → AreListed t.now.types.now items.new (t.now.number + 1)) }
 {
-    match types.node(number) {
+    match t.types.node(t.number) {
         TypeNode::Tag(_, name) => {
             put_item(alloc, items, name, None)?;
             Ok(true)
@@ -102,7 +100,12 @@ fn listed(alloc: Global, types: &Types) -> Result<Option<List<Item>>, Memory>
     let told = closed_types(alloc, types)?;
     let mut items = List::new(alloc);
     for number in 0..types.len() {
-        if !put_last(alloc, types, told.as_slice(), &mut items, number)? {
+        if !put_last(
+            alloc,
+            &Stored { types, number },
+            told.as_slice(),
+            &mut items,
+        )? {
             return Ok(None);
         }
     }

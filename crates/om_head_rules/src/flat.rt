@@ -1,6 +1,6 @@
 //! Records that lie flat through an abbreviation of their own group.
 
-ghost use Rattle.std.specs.Prelude.{◌≡◌, ◌<◌, ◌↔◌, true, length, Contains, IfOk, IsTrue};
+ghost use Rattle.std.specs.Prelude.{◌≡◌, ◌↔◌, true, length, Contains, IfOk, IsTrue};
 ghost use Rattle.om_types.specs.Nodes.{type_at};
 ghost use Rattle.om_types.specs.Scope.{IsThrough, IsFlatThroughGroup};
 ghost use Rattle.om_types.specs.declared.decl.Field.{Field as Member};
@@ -9,19 +9,19 @@ ghost use Rattle.om_scope.specs.Least.{IsLeast};
 ghost use Rattle.om_store.specs.Held.{Grows};
 ghost use Rattle.om_head_rules.specs.Rules.{IsOwn, SomeFlat};
 
-use om_layout::{is_float, name, nearer, none_known};
+use om_layout::{Stored, is_float, name, nearer, none_known};
 use om_model::Memory;
 use om_scope::{Placed, SoundEnvironment, place_if, sooner};
 use om_store::Types;
 use om_types::decl::{Body, Decl, Field};
+use om_types::ty::Ty;
 use std::alloc::Global;
 
 /// Whether an abbreviation of this group is at the head of a type.
-fn is_own(types: &Types, decls: &SoundEnvironment<'_>, group: usize, number: usize) -> bool
-    requires number { number < length types.now }
-    ensures { IsTrue result ↔ IsOwn decls.now group (type_at types.now number) }
+fn is_own(t: &Stored<'_>, decls: &SoundEnvironment<'_>, group: usize) -> bool
+    ensures { IsTrue result ↔ IsOwn decls.now group (type_at t.now.types.now t.now.number) }
 {
-    let decl = match name(types, number) {
+    let decl = match name(t) {
         Some(name) => decls.get(name),
         None => None,
     };
@@ -40,17 +40,15 @@ fn is_through(
     types: &mut Types,
     decls: &SoundEnvironment<'_>,
     group: usize,
-    number: usize,
+    t: &Ty,
 ) -> Result<bool, Memory>
-    requires number { number < length types.old }
-    ensures ok { IfOk result
-        (λ is. IsTrue is ↔ IsThrough decls.now group (type_at types.old number)) }
+    ensures ok { IfOk result (λ is. IsTrue is ↔ IsThrough decls.now group t.now) }
     ensures grown { Grows types.old types.new }
 {
     decls.holds();
+    let mut at = types.add(alloc, t)?;
     let mut known = none_known(alloc);
-    let mut at = number;
-    'next: while !is_own(types, decls, group, at) {
+    'next: while !is_own(&Stored { types, number: at }, decls, group) {
         match nearer(alloc, types, decls, Some(group), &mut known, at)? {
             Some(next) => at = next,
             None => return Ok(false),
@@ -71,8 +69,7 @@ fn are_floats(
         ↔ ((f : Member) → Contains fields.now f → is_float decls.now f.ty ≡ true)) }
 {
     for field in fields {
-        let number = types.add(alloc, &field.ty)?;
-        if !is_float(alloc, types, decls, number)? {
+        if !is_float(alloc, types, decls, &field.ty)? {
             return Ok(false);
         }
     }
@@ -92,8 +89,7 @@ fn some_through(
         ↔ ((f : Member) × Contains fields.now f × IsThrough decls.now group f.ty)) }
 {
     for field in fields {
-        let number = types.add(alloc, &field.ty)?;
-        if is_through(alloc, types, decls, group, number)? {
+        if is_through(alloc, types, decls, group, &field.ty)? {
             return Ok(true);
         }
     }

@@ -1,13 +1,10 @@
 //! Items of brackets with the tags that they bring.
 
-ghost use Rattle.std.specs.Prelude.{◌≡◌, ◌<◌, Some, length, map, slice_get, IfOk};
-ghost use Rattle.om_types.specs.Nodes.{type_at};
-ghost use Rattle.om_types.specs.Scope.{tags_of_item};
-ghost use Rattle.om_types.specs.Table.{tag_with_part};
+ghost use Rattle.std.specs.Prelude.{◌≡◌, map, IfOk};
 ghost use Rattle.om_store.specs.Held.{Grows};
 ghost use Rattle.om_brackets.specs.Trees.{typed_item, written_item};
 ghost use Rattle.om_head_rules.specs.Rules.{AreWithin, AreAllWithin, AreTagged, items_at};
-ghost use Rattle.om_head_rules.specs.Rules.{brackets_at};
+ghost use Rattle.om_head_rules.specs.Rules.{brackets_at, tags_of_head};
 
 use crate::item::NumberedItem;
 use om_brackets::Item;
@@ -19,22 +16,13 @@ use om_store::Types;
 use om_types::head::{HeadOf, TagOf};
 use std::alloc::Global;
 
-/// The tags that an item brings.
-fn tags_of(
-    alloc: Global,
-    types: &mut Types,
-    decls: &SoundEnvironment<'_>,
-    number: usize,
-) -> Result<List<TagOf<usize>>, Memory>
-    requires number { number < length types.old }
-    ensures ok { IfOk result
-        (λ tags. map (tag_with_part (slice_get types.new)) tags
-        ≡ map (tag_with_part Some) (tags_of_item decls.now (type_at types.old number))) }
-    ensures grown { Grows types.old types.new }
+/// The tags of a head. That of anything but a polymorphic variant has none.
+fn tags_in(alloc: Global, head: HeadOf<usize>) -> List<TagOf<usize>>
+    ensures { result ≡ tags_of_head head }
 {
-    match head_of(alloc, types, decls, number)? {
-        HeadOf::Variants(tags) => Ok(tags),
-        _ => Ok(List::new(alloc)),
+    match head {
+        HeadOf::Variants(tags) => tags,
+        _ => List::new(alloc),
     }
 }
 
@@ -53,10 +41,10 @@ fn tagged_items(
 {
     let mut all = List::new(alloc);
     for item in items {
-        let tags = tags_of(alloc, types, decls, item.number)?;
+        let head = head_of(alloc, types, decls, item.number)?;
         all.push(Item {
             place: item.place,
-            tags,
+            tags: tags_in(alloc, head),
         })?;
     }
     Ok(all)

@@ -28,17 +28,6 @@ module _ (decls : List Decl) where
   NextOf group types t next = MatchOption next (unfolded decls t ≡ None) (IsNearer decls group types t)
 
   -- one replacement
-  pub once_is :
-      (old new : List Ty) (t : Ty) (next : Option ℕ) → MatchOption next (IsLeft decls old new t) (IsReplaced decls old new t)
-      → MatchOption next (unfolded decls t ≡ None) (λ n. (group : Option ℕ) → IsNearer decls group new t n)
-  once_is old new t None left = left.none
-  once_is old new t (Some n) replaced = λ group. record {
-    first = replaced.next;
-    is = replaced.is;
-    leads = (0, sym (get_or_from_slice_get new n replaced.next tuple replaced.holds.there));
-    within = slice_get_within new n replaced.next replaced.holds.there;
-  }
-
   pub once_grown :
       (old new : List Ty) (t : Ty) (next : Option ℕ) → MatchOption next (IsLeft decls old new t) (IsReplaced decls old new t)
       → Grows old new
@@ -46,11 +35,16 @@ module _ (decls : List Decl) where
   once_grown old new t (Some n) replaced = Holds-grows old new replaced.next n replaced.holds
 
   module _ (group : Option ℕ) where
-    pub once_at :
-        (types : List Ty) (t : Ty) (next : Option ℕ)
-        → MatchOption next (unfolded decls t ≡ None) (λ n. (g : Option ℕ) → IsNearer decls g types t n) → NextOf group types t next
-    once_at types t None none = none
-    once_at types t (Some n) nearer = nearer group
+    pub once_is :
+        (old new : List Ty) (t : Ty) (next : Option ℕ) → MatchOption next (IsLeft decls old new t) (IsReplaced decls old new t)
+        → NextOf group new t next
+    once_is old new t None left = left.none
+    once_is old new t (Some n) replaced = record {
+      first = replaced.next;
+      is = replaced.is;
+      leads = (0, sym (get_or_from_slice_get new n replaced.next tuple replaced.holds.there));
+      within = slice_get_within new n replaced.next replaced.holds.there;
+    }
 
     -- replacements that are known
     pub passed_is :

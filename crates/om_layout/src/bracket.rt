@@ -19,6 +19,7 @@ ghost use Rattle.om_layout.specs.Work.{work, written_work};
 ghost use Rattle.om_layout.specs.Steps.{AreLeft, AreGathered, AreAll, IsStepWithin, steps_work};
 
 use crate::known::{Known, abbreviation, none_known};
+use crate::lent::Stored;
 use crate::replaced::nearer;
 use crate::settled::{Settled, is_settled, settle};
 use indexmap::{IndexMap, IndexSet};
@@ -56,32 +57,14 @@ pub fn bracket_head(
     ensures grown { Grows types.old types.new }
 {
     decls.holds();
-    if !has_bracket(types, number) {
+    if !has_bracket(&Stored { types, number }) {
         return Ok(HeadOf::Absent);
     }
-    let mut tags: Tags = IndexMap::new(alloc);
-    gather_tags(alloc, types, decls, number, &mut tags)?;
-    Ok(HeadOf::Variants(List::of(listed(alloc, tags)?)))
-}
-
-/// Adds the tags of a bracket.
-fn gather_tags(
-    alloc: Global,
-    types: &mut Types,
-    decls: &SoundEnvironment<'_>,
-    number: usize,
-    tags: &mut Tags,
-) -> Result<(), Memory>
-    requires number { number < length types.old }
-    requires none { tags.old.entries ≡ [] }
-    ensures gathered { OnOk result
-        (AreAll types.new (tags_of_entries tags.new.entries)
-        (with_items (head decls.now) [] (items (type_at types.old number)))) }
-    ensures grown { Grows types.old types.new }
-{
     let mut waiting = Vec::new(alloc);
-    push_items(types, number, &mut waiting)?;
-    gather_all(alloc, types, decls, tags, &mut waiting)
+    push_items(&Stored { types, number }, &mut waiting)?;
+    let mut tags: Tags = IndexMap::new(alloc);
+    gather_all(alloc, types, decls, &mut tags, &mut waiting)?;
+    Ok(HeadOf::Variants(List::of(listed(alloc, tags)?)))
 }
 
 /// Takes all steps.
@@ -215,7 +198,13 @@ fn include(
     ensures grown { Grows types.old types.new }
 {
     decls.holds();
-    let decl = abbreviation(types, decls, included);
+    let decl = abbreviation(
+        &Stored {
+            types,
+            number: included,
+        },
+        decls,
+    );
     if is_settled(settled, decl) {
         return Ok(());
     }
@@ -267,10 +256,14 @@ fn put_items(types: &Types, bracket: usize, waiting: &mut Vec<Step>) -> Result<(
         ≤ steps_work decls types.now (reverse waiting.old.items)
         + work decls (type_at types.now bracket)) }
 {
-    if !has_bracket(types, bracket) {
+    let t = Stored {
+        types,
+        number: bracket,
+    };
+    if !has_bracket(&t) {
         return Ok(());
     }
-    push_items(types, bracket, waiting)
+    push_items(&t, waiting)
 }
 
 /// Adds a tag, unless its name is there.
@@ -308,12 +301,12 @@ fn listed(alloc: Global, mut tags: Tags) -> Result<Vec<TagOf<usize>>, Memory>
 }
 
 /// Whether a bracket is what items are added to.
-pub(crate) fn has_bracket(types: &Types, number: usize) -> bool
-    requires { number < length types.now }
-    ensures { result ≡ has_bracket (type_at types.now number) }
+pub(crate) fn has_bracket(t: &Stored<'_>) -> bool
+    ensures { result ≡ has_bracket (type_at t.now.types.now t.now.number) }
 {
-    let mut at = number;
-    while let Some(whole) = before_item(types, at) {
+    let types = t.types;
+    let mut at = t.number;
+    while let Some(whole) = before_item(&Stored { types, number: at }) {
         at = whole;
     }
     match types.node(at) {
@@ -323,22 +316,22 @@ pub(crate) fn has_bracket(types: &Types, number: usize) -> bool
 }
 
 /// Has the items of a bracket wait, the first one on top.
-fn push_items(types: &Types, number: usize, waiting: &mut Vec<Step>) -> Result<(), Memory>
-    requires { number < length types.now }
+fn push_items(t: &Stored<'_>, waiting: &mut Vec<Step>) -> Result<(), Memory>
     ensures left { OnOk result
         ((decls : List Declaration) (tags all : List (Tag Ty))
-        → AreLeft decls types.now
-        (with_items (head decls) tags (items (type_at types.now number)))
+        → AreLeft decls t.now.types.now
+        (with_items (head decls) tags (items (type_at t.now.types.now t.now.number)))
         (reverse waiting.old.items) all
-        → AreLeft decls types.now tags (reverse waiting.new.items) all) }
+        → AreLeft decls t.now.types.now tags (reverse waiting.new.items) all) }
     ensures work { OnOk result
         ((decls : List Declaration)
-        → steps_work decls types.now (reverse waiting.new.items)
-        ≡ steps_work decls types.now (reverse waiting.old.items)
-        + written_work (work decls) (type_at types.now number)) }
+        → steps_work decls t.now.types.now (reverse waiting.new.items)
+        ≡ steps_work decls t.now.types.now (reverse waiting.old.items)
+        + written_work (work decls) (type_at t.now.types.now t.now.number)) }
 {
-    let mut at = number;
-    while let Some(whole) = before_item(types, at) {
+    let types = t.types;
+    let mut at = t.number;
+    while let Some(whole) = before_item(&Stored { types, number: at }) {
         waiting.push(Step::Item(at))?;
         at = whole;
     }
@@ -346,12 +339,12 @@ fn push_items(types: &Types, number: usize, waiting: &mut Vec<Step>) -> Result<(
 }
 
 /// The bracket before its last item.
-pub(crate) fn before_item(types: &Types, number: usize) -> Option<usize>
-    requires { number < length types.now }
-    ensures is { option_map (type_at types.now) result ≡ before_item (type_at types.now number) }
-    ensures below { IfSome result (λ i. i < number) }
+pub(crate) fn before_item(t: &Stored<'_>) -> Option<usize>
+    ensures is { option_map (type_at t.now.types.now) result
+        ≡ before_item (type_at t.now.types.now t.now.number) }
+    ensures below { IfSome result (λ i. i < t.now.number) }
 {
-    match types.node(number) {
+    match t.types.node(t.number) {
         TypeNode::Tag(whole, _) | TypeNode::TagOf(whole, _, _) | TypeNode::Including(whole, _) =>
             Some(whole),
         _ => None,

@@ -62,8 +62,7 @@ pub(crate) fn is_flat(
     ensures grown { Grows types.old types.new }
 {
     for field in fields {
-        let number = types.add(alloc, &field.ty)?;
-        if !is_float(alloc, types, decls, number)? {
+        if !is_float(alloc, types, decls, &field.ty)? {
             return Ok(false);
         }
     }

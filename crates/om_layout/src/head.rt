@@ -6,6 +6,7 @@ ghost use Rattle.om_store.specs.Held.{Grows};
 ghost use Rattle.om_layout.specs.Tags.{IsHeadOf};
 
 use crate::bracket::bracket_head;
+use crate::lent::Stored;
 use crate::plain::plain;
 use crate::replaced::expanded;
 use om_model::Memory;
@@ -28,7 +29,7 @@ pub fn head_of(
 {
     decls.holds();
     let at = expanded(alloc, types, decls, number)?;
-    match plain(alloc, types, at)? {
+    match plain(alloc, &Stored { types, number: at })? {
         Some(head) => Ok(head),
         None => bracket_head(alloc, types, decls, at),
     }

@@ -9,6 +9,7 @@ ghost use Rattle.om_store.specs.Held.{Grows};
 ghost use Rattle.om_layout.specs.Kind.{is_float_name};
 
 use crate::bracket::has_bracket;
+use crate::lent::Stored;
 use crate::replaced::expanded;
 use crate::spine::name;
 use om_model::Memory;
@@ -16,6 +17,7 @@ use om_scope::SoundEnvironment;
 use om_scope::predeclared::predeclared;
 use om_store::Types;
 use om_types::decl::Predeclared;
+use om_types::ty::Ty;
 use std::alloc::Global;
 
 /// Whether a type is a polymorphic variant. After `Memory` there may be more types, at the end.
@@ -32,7 +34,7 @@ pub fn is_polymorphic_variant(
 {
     decls.holds();
     let at = expanded(alloc, types, decls, number)?;
-    Ok(has_bracket(types, at))
+    Ok(has_bracket(&Stored { types, number: at }))
 }
 
 /// Whether a type is `float`. After `Memory` there may be more types, at the end.
@@ -40,15 +42,15 @@ pub fn is_float(
     alloc: Global,
     types: &mut Types,
     decls: &SoundEnvironment<'_>,
-    number: usize,
+    t: &Ty,
 ) -> Result<bool, Memory>
-    requires number { number < length types.old }
-    ensures ok { IfOk result (λ is. is ≡ is_float decls.now (type_at types.old number)) }
+    ensures ok { IfOk result (λ is. is ≡ is_float decls.now t.now) }
     ensures grown { Grows types.old types.new }
 {
     decls.holds();
+    let number = types.add(alloc, t)?;
     let at = expanded(alloc, types, decls, number)?;
-    match name(types, at) {
+    match name(&Stored { types, number: at }) {
         Some(name) => Ok(is_float_name(name)),
         None => Ok(false),
     }

@@ -12,6 +12,7 @@ ghost use Rattle.om_store.specs.Held.{Grows};
 ghost use Rattle.om_layout.specs.Way.{AreKnown, IsAbbreviation, IsOf, EachLeads, EachPasses};
 ghost use Rattle.om_layout.specs.Way.{IsArgument, IsMore};
 
+use crate::lent::Stored;
 use crate::spine::{name, parts};
 use indexmap::IndexMap;
 use om_model::Memory;
@@ -32,15 +33,10 @@ pub fn none_known(alloc: Global) -> Known
 }
 
 /// The number of the declaration of the abbreviation at the head of a type.
-pub(crate) fn abbreviation(
-    types: &Types,
-    decls: &SoundEnvironment<'_>,
-    number: usize,
-) -> Option<usize>
-    requires number { number < length types.now }
-    ensures { IfSome result (IsAbbreviation decls.now (type_at types.now number)) }
+pub(crate) fn abbreviation(t: &Stored<'_>, decls: &SoundEnvironment<'_>) -> Option<usize>
+    ensures { IfSome result (IsAbbreviation decls.now (type_at t.now.types.now t.now.number)) }
 {
-    let name = name(types, number)?;
+    let name = name(t)?;
     let found = decls.place(name)?;
     match &decls.at(found).body {
         Body::Abbreviation(_) => Some(found),
@@ -59,14 +55,13 @@ fn known_argument(known: &Known, decl: usize) -> Option<usize>
 }
 
 /// The part of this number from the left.
-fn part(alloc: Global, types: &Types, number: usize, i: usize) -> Result<Option<usize>, Memory>
-    requires { number < length types.now }
+fn part(alloc: Global, t: &Stored<'_>, i: usize) -> Result<Option<usize>, Memory>
     ensures is { IfOk result
-        (λ part. option_map (type_at types.now) part
-        ≡ slice_get (parts (type_at types.now number)) i) }
-    ensures below { IfOk result (λ part. IfSome part (λ n. n < number)) }
+        (λ part. option_map (type_at t.now.types.now) part
+        ≡ slice_get (parts (type_at t.now.types.now t.now.number)) i) }
+    ensures below { IfOk result (λ part. IfSome part (λ n. n < t.now.number)) }
 {
-    let parts = parts(alloc, types, number)?;
+    let parts = parts(alloc, t)?;
     Ok(nth(parts.as_slice(), i))
 }
 
@@ -80,24 +75,22 @@ fn nth(numbers: &[usize], i: usize) -> Option<usize>
 /// The argument that the abbreviation at the head of a type is known to come to.
 pub(crate) fn known_part(
     alloc: Global,
-    types: &Types,
+    t: &Stored<'_>,
     decls: &SoundEnvironment<'_>,
     known: &Known,
-    number: usize,
 ) -> Result<Option<usize>, Memory>
-    requires number { number < length types.now }
     ensures passes { IfOk result
         (λ part. (group : Option ℕ) → AreKnown decls.now group known.now
         → IfSome part
-        (λ n. EachPasses decls.now group (type_at types.now number)
-        (type_at types.now n))) }
-    ensures below { IfOk result (λ part. IfSome part (λ n. n < number)) }
+        (λ n. EachPasses decls.now group (type_at t.now.types.now t.now.number)
+        (type_at t.now.types.now n))) }
+    ensures below { IfOk result (λ part. IfSome part (λ n. n < t.now.number)) }
 {
-    let Some(decl) = abbreviation(types, decls, number) else {
+    let Some(decl) = abbreviation(t, decls) else {
         return Ok(None);
     };
     match known_argument(known, decl) {
-        Some(i) => part(alloc, types, number, i),
+        Some(i) => part(alloc, t, i),
         None => Ok(None),
     }
 }
@@ -105,19 +98,19 @@ pub(crate) fn known_part(
 /// The argument that a type comes to by what is known.
 pub(crate) fn known_end(
     alloc: Global,
-    types: &Types,
+    t: &Stored<'_>,
     decls: &SoundEnvironment<'_>,
     known: &Known,
-    number: usize,
 ) -> Result<usize, Memory>
-    requires number { number < length types.now }
     ensures leads { IfOk result
         (λ end. (group : Option ℕ) → AreKnown decls.now group known.now
-        → EachLeads decls.now group (type_at types.now number) (type_at types.now end)) }
-    ensures below { IfOk result (λ end. end < length types.now) }
+        → EachLeads decls.now group (type_at t.now.types.now t.now.number)
+        (type_at t.now.types.now end)) }
+    ensures below { IfOk result (λ end. end < length t.now.types.now) }
 {
-    let mut at = number;
-    while let Some(next) = known_part(alloc, types, decls, known, at)? {
+    let types = t.types;
+    let mut at = t.number;
+    while let Some(next) = known_part(alloc, &Stored { types, number: at }, decls, known)? {
         at = next;
     }
     Ok(at)
@@ -134,14 +127,13 @@ fn is_of(group: Option<usize>, decl: &Decl) -> bool
 }
 
 /// The number of the parameter that a type is, unless the declaration is of the group.
-fn argument(types: &Types, decl: &Decl, group: Option<usize>, number: usize) -> Option<usize>
-    requires { number < length types.now }
-    ensures { IfSome result (IsArgument decl.now group (type_at types.now number)) }
+fn argument(t: &Stored<'_>, decl: &Decl, group: Option<usize>) -> Option<usize>
+    ensures { IfSome result (IsArgument decl.now group (type_at t.now.types.now t.now.number)) }
 {
     if is_of(group, decl) {
         return None;
     }
-    match types.node(number) {
+    match t.types.node(t.number) {
         TypeNode::Variable(name) => place(decl, name),
         _ => None,
     }
@@ -178,11 +170,19 @@ fn look(
         return Ok(None);
     };
     let start = types.add(alloc, body)?;
-    let end = known_end(alloc, types, decls, known, start)?;
-    if let Some(other) = abbreviation(types, decls, end) {
+    let end = known_end(
+        alloc,
+        &Stored {
+            types,
+            number: start,
+        },
+        decls,
+        known,
+    )?;
+    if let Some(other) = abbreviation(&Stored { types, number: end }, decls) {
         return first_look(known, other);
     }
-    if let Some(i) = argument(types, decls.at(decl), group, end) {
+    if let Some(i) = argument(&Stored { types, number: end }, decls.at(decl), group) {
         known.insert(decl, Some(i))?;
     }
     Ok(None)

@@ -1,27 +1,27 @@
 //! The head of a type without a bracket or an abbreviation at it.
 
-ghost use Rattle.std.specs.Prelude.{◌≡◌, ◌<◌, length, IfOk, MatchOption};
+ghost use Rattle.std.specs.Prelude.{◌≡◌, IfOk, MatchOption};
 ghost use Rattle.om_types.specs.Nodes.{type_at};
 ghost use Rattle.om_store.specs.Lent.{written_of};
 ghost use Rattle.om_layout.specs.Plain.{IsBracketed, IsPlainHead, head_of_root};
 
+use crate::lent::Stored;
 use crate::spine::{parts, root};
 use om_model::Memory;
 use om_model::list::List;
 use om_scope::predeclared::predeclared;
-use om_store::{TypeNode, Types};
+use om_store::TypeNode;
 use om_types::head::HeadOf;
 use std::alloc::Global;
 
 /// The head of a type as it is written, unless that is a bracket.
-pub fn plain(alloc: Global, types: &Types, number: usize) -> Result<Option<HeadOf<usize>>, Memory>
-    requires { number < length types.now }
+pub fn plain(alloc: Global, t: &Stored<'_>) -> Result<Option<HeadOf<usize>>, Memory>
     ensures { IfOk result
-        (λ h. MatchOption h (IsBracketed (type_at types.now number))
-        (IsPlainHead types.now (type_at types.now number))) }
+        (λ h. MatchOption h (IsBracketed (type_at t.now.types.now t.now.number))
+        (IsPlainHead t.now.types.now (type_at t.now.types.now t.now.number))) }
 {
-    let found = parts(alloc, types, number)?;
-    of_root(alloc, types.node(root(types, number)), found)
+    let found = parts(alloc, t)?;
+    of_root(alloc, t.types.node(root(t)), found)
 }
 
 /// The head of a type from its root and its parts.

@@ -9,6 +9,7 @@ ghost use Rattle.om_layout.specs.Unfolded.{IsReplaced, IsLeft, HasHeadOf};
 ghost use Rattle.om_layout.specs.Way.{AreKnown, IsNearer};
 
 use crate::known::{Known, abbreviation, known_part, look_at, none_known};
+use crate::lent::Stored;
 use crate::spine::{name, parts};
 use om_model::Memory;
 use om_scope::SoundEnvironment;
@@ -31,7 +32,7 @@ pub fn unfolded(
         (IsReplaced decls.now types.old types.new (type_at types.old number))) }
     ensures err { OnErr result (types.new ≡ types.old) }
 {
-    let decl = match name(types, number) {
+    let decl = match name(&Stored { types, number }) {
         Some(name) => decls.get(name),
         None => None,
     };
@@ -41,7 +42,7 @@ pub fn unfolded(
     let Body::Abbreviation(body) = &decl.body else {
         return Ok(None);
     };
-    let arguments = parts(alloc, types, number)?;
+    let arguments = parts(alloc, &Stored { types, number })?;
     let next = types.instance(
         alloc,
         body,
@@ -49,23 +50,6 @@ pub fn unfolded(
         arguments.as_slice(),
     )?;
     Ok(Some(next))
-}
-
-/// The type after one replacement, at any group.
-fn once(
-    alloc: Global,
-    types: &mut Types,
-    decls: &SoundEnvironment<'_>,
-    number: usize,
-) -> Result<Option<usize>, Memory>
-    requires number { number < length types.old }
-    ensures ok { IfOk result
-        (λ next. MatchOption next (unfolded decls.now (type_at types.old number) ≡ None)
-        (λ n. (group : Option ℕ)
-        → IsNearer decls.now group types.new (type_at types.old number) n)) }
-    ensures grown { Grows types.old types.new }
-{
-    unfolded(alloc, types, decls, number)
 }
 
 /// The type after the replacements that this abbreviation at its head is known to begin, or after
@@ -84,9 +68,9 @@ fn passed(
         (IsNearer decls.now group types.new (type_at types.old number))) }
     ensures grown { Grows types.old types.new }
 {
-    match known_part(alloc, types, decls, known, number)? {
+    match known_part(alloc, &Stored { types, number }, decls, known)? {
         Some(next) => Ok(Some(next)),
-        None => once(alloc, types, decls, number),
+        None => unfolded(alloc, types, decls, number),
     }
 }
 
@@ -108,7 +92,7 @@ pub fn nearer(
     ensures known { OnOk result (AreKnown decls.now group known.new) }
     ensures grown { Grows types.old types.new }
 {
-    let Some(decl) = abbreviation(types, decls, number) else {
+    let Some(decl) = abbreviation(&Stored { types, number }, decls) else {
         return passed(alloc, types, decls, known, number);
     };
     look_at(alloc, types, decls, group, known, decl)?;

@@ -15,6 +15,7 @@ ghost use Rattle.om_layout.specs.Steps.{EachItemBringsNone, AreEachThere, number
 
 use crate::bracket::{Tags, before_item, has_bracket};
 use crate::known::{Known, abbreviation, known_end};
+use crate::lent::Stored;
 use indexmap::IndexSet;
 use om_model::Memory;
 use om_scope::SoundEnvironment;
@@ -60,7 +61,14 @@ pub(crate) fn settle(
     };
     decls.holds();
     let number = types.add(alloc, body)?;
-    if are_there(alloc, types, decls, known, tags, settled, number)? {
+    if are_there(
+        alloc,
+        &Stored { types, number },
+        decls,
+        known,
+        tags,
+        settled,
+    )? {
         settled.insert(decl)?;
     }
     Ok(())
@@ -69,30 +77,31 @@ pub(crate) fn settle(
 /// Whether all tags of a type are there, whatever stands for its variables.
 fn are_there(
     alloc: Global,
-    types: &Types,
+    t: &Stored<'_>,
     decls: &SoundEnvironment<'_>,
     known: &Known,
     tags: &Tags,
     settled: &Settled,
-    number: usize,
 ) -> Result<bool, Memory>
-    requires number { number < length types.now }
     requires known { AreKnown decls.now None known.now }
-    ensures { let there = tags_at types.now (tags_of_entries tags.now.entries) in
+    ensures { let there = tags_at t.now.types.now (tags_of_entries tags.now.entries) in
         IfOk result
         (λ are. IsTrue are → AreSettled decls.now there settled.now.keys
-        → EachBringsNone decls.now there (type_at types.now number)) }
+        → EachBringsNone decls.now there (type_at t.now.types.now t.now.number)) }
 {
-    let mut waiting = vec![in alloc; number]?;
+    let types = t.types;
+    let mut waiting = vec![in alloc; t.number]?;
     'next: while let Some(next) = waiting.pop() {
         if !is_there(
             alloc,
-            types,
+            &Stored {
+                types,
+                number: next,
+            },
             decls,
             known,
             tags,
             settled,
-            next,
             &mut waiting,
         )? {
             return Ok(false);
@@ -104,68 +113,63 @@ fn are_there(
 /// Whether all tags of a type are there, once those of what waits are.
 fn is_there(
     alloc: Global,
-    types: &Types,
+    t: &Stored<'_>,
     decls: &SoundEnvironment<'_>,
     known: &Known,
     tags: &Tags,
     settled: &Settled,
-    number: usize,
     waiting: &mut Vec<usize>,
 ) -> Result<bool, Memory>
-    requires number { number < length types.now }
     requires known { AreKnown decls.now None known.now }
-    requires within { All (λ n. n < length types.now) waiting.old.items }
-    ensures there { let there = tags_at types.now (tags_of_entries tags.now.entries) in
+    requires within { All (λ n. n < length t.now.types.now) waiting.old.items }
+    ensures there { let there = tags_at t.now.types.now (tags_of_entries tags.now.entries) in
         IfOk result
         (λ is. IsTrue is → AreSettled decls.now there settled.now.keys
-        → AreEachThere decls.now types.now there waiting.new.items
-        → AreEachThere decls.now types.now there waiting.old.items
-        × EachBringsNone decls.now there (type_at types.now number)) }
+        → AreEachThere decls.now t.now.types.now there waiting.new.items
+        → AreEachThere decls.now t.now.types.now there waiting.old.items
+        × EachBringsNone decls.now there (type_at t.now.types.now t.now.number)) }
     ensures less { IfOk result
         (λ is. IsTrue is
-        → numbers_work decls.now types.now waiting.new.items
-        ≤ numbers_work decls.now types.now waiting.old.items
-        + work decls.now (type_at types.now number)) }
-    ensures within { OnOk result (All (λ n. n < length types.now) waiting.new.items) }
+        → numbers_work decls.now t.now.types.now waiting.new.items
+        ≤ numbers_work decls.now t.now.types.now waiting.old.items
+        + work decls.now (type_at t.now.types.now t.now.number)) }
+    ensures within { OnOk result (All (λ n. n < length t.now.types.now) waiting.new.items) }
 {
     decls.holds();
-    let end = known_end(alloc, types, decls, known, number)?;
-    match abbreviation(types, decls, end) {
+    let types = t.types;
+    let number = known_end(alloc, t, decls, known)?;
+    let end = Stored { types, number };
+    match abbreviation(&end, decls) {
         Some(decl) => Ok(settled.contains(&decl)),
-        None => items_are_there(types, tags, end, waiting),
+        None => items_are_there(&end, tags, waiting),
     }
 }
 
 /// Whether all items of a bracket are there, once what waits is. No other type's are.
-fn items_are_there(
-    types: &Types,
-    tags: &Tags,
-    number: usize,
-    waiting: &mut Vec<usize>,
-) -> Result<bool, Memory>
-    requires number { number < length types.now }
-    requires within { All (λ n. n < length types.now) waiting.old.items }
-    ensures there { let there = tags_at types.now (tags_of_entries tags.now.entries) in
+fn items_are_there(t: &Stored<'_>, tags: &Tags, waiting: &mut Vec<usize>) -> Result<bool, Memory>
+    requires within { All (λ n. n < length t.now.types.now) waiting.old.items }
+    ensures there { let there = tags_at t.now.types.now (tags_of_entries tags.now.entries) in
         IfOk result
         (λ are. IsTrue are → (decls : List Declaration) → AreSound decls
-        → AreEachThere decls types.now there waiting.new.items
-        → AreEachThere decls types.now there waiting.old.items
-        × EachBringsNone decls there (type_at types.now number)) }
+        → AreEachThere decls t.now.types.now there waiting.new.items
+        → AreEachThere decls t.now.types.now there waiting.old.items
+        × EachBringsNone decls there (type_at t.now.types.now t.now.number)) }
     ensures less { IfOk result
         (λ are. IsTrue are → (decls : List Declaration) → AreSound decls
-        → numbers_work decls types.now waiting.new.items
-        ≤ numbers_work decls types.now waiting.old.items
-        + work decls (type_at types.now number)) }
-    ensures within { OnOk result (All (λ n. n < length types.now) waiting.new.items) }
+        → numbers_work decls t.now.types.now waiting.new.items
+        ≤ numbers_work decls t.now.types.now waiting.old.items
+        + work decls (type_at t.now.types.now t.now.number)) }
+    ensures within { OnOk result (All (λ n. n < length t.now.types.now) waiting.new.items) }
 {
-    let mut at = number;
-    'whole: while let Some(whole) = before_item(types, at) {
+    let types = t.types;
+    let mut at = t.number;
+    'whole: while let Some(whole) = before_item(&Stored { types, number: at }) {
         if !item_is_there(types, tags, at, waiting)? {
             return Ok(false);
         }
         at = whole;
     }
-    Ok(has_bracket(types, at))
+    Ok(has_bracket(&Stored { types, number: at }))
 }
 
 /// Whether the tag of an item is there, or all of what it includes, once what waits is.

@@ -5,49 +5,48 @@ ghost use Rattle.om_types.specs.Ty.{name_of, parts};
 ghost use Rattle.om_types.specs.Nodes.{type_at};
 ghost use Rattle.om_layout.specs.Plain.{root_of};
 
+use crate::lent::Stored;
 use om_model::Memory;
-use om_store::{TypeNode, Types};
+use om_store::TypeNode;
 use std::alloc::Global;
 
 /// The number of a type without its arguments or components.
-pub fn root(types: &Types, number: usize) -> usize
-    requires { number < length types.now }
-    ensures is { type_at types.now result ≡ root_of (type_at types.now number) }
-    ensures below { result ≤ number }
+pub fn root(t: &Stored<'_>) -> usize
+    ensures is { type_at t.now.types.now result ≡ root_of (type_at t.now.types.now t.now.number) }
+    ensures below { result ≤ t.now.number }
 {
-    let mut at = number;
-    while let TypeNode::Part(whole, _) = types.node(at) {
+    let mut at = t.number;
+    while let TypeNode::Part(whole, _) = t.types.node(at) {
         at = whole;
     }
     at
 }
 
 /// The name that the parts of a type are arguments of.
-pub fn name(types: &Types, number: usize) -> Option<&[u8]>
-    requires { number < length types.now }
-    ensures { option_copied result ≡ name_of (type_at types.now number) }
+pub fn name<'a>(t: &Stored<'a>) -> Option<&'a [u8]>
+    ensures { option_copied result ≡ name_of (type_at t.now.types.now t.now.number) }
 {
-    let mut at = number;
-    while let TypeNode::Part(whole, _) = types.node(at) {
+    let mut at = t.number;
+    while let TypeNode::Part(whole, _) = t.types.node(at) {
         at = whole;
     }
-    match types.node(at) {
+    match t.types.node(at) {
         TypeNode::Named(name) => Some(name),
         _ => None,
     }
 }
 
 /// The numbers of the arguments or components.
-pub fn parts(alloc: Global, types: &Types, number: usize) -> Result<Vec<usize>, Memory>
-    requires { number < length types.now }
+pub fn parts(alloc: Global, t: &Stored<'_>) -> Result<Vec<usize>, Memory>
     ensures are { IfOk result
-        (λ v. map (type_at types.now) v.items ≡ parts (type_at types.now number)) }
-    ensures below { IfOk result (λ v. All (λ i. i < length types.now) v.items) }
-    ensures less { IfOk result (λ v. All (λ i. i < number) v.items) }
+        (λ v. map (type_at t.now.types.now) v.items
+        ≡ parts (type_at t.now.types.now t.now.number)) }
+    ensures below { IfOk result (λ v. All (λ i. i < length t.now.types.now) v.items) }
+    ensures less { IfOk result (λ v. All (λ i. i < t.now.number) v.items) }
 {
     let mut found = Vec::new(alloc);
-    let mut at = number;
-    while let TypeNode::Part(whole, added) = types.node(at) {
+    let mut at = t.number;
+    while let TypeNode::Part(whole, added) = t.types.node(at) {
         found.push(added)?;
         at = whole;
     }

@@ -1,17 +1,14 @@
-use Rattle.std.proofs.Common.{◌≡◌, ◌∙◌, true, refl, sym, ap}
-use Rattle.std.proofs.lemmas.Option.{get_or_from_slice_get}
+use Rattle.std.proofs.Common.{◌≡◌, ◌∙◌, true, refl, sym}
 use Rattle.om_types.specs.declared.decl.Field.{Field}
-use Rattle.om_types.specs.Ty.{tuple}
 use Rattle.om_types.specs.Shape.{is_float}
 use Rattle.om_head_rules.proofs.LoopLemmas.{all_more, all_end}
 use Rattle.om_head_rules.proofs.flat.are_floats.Goals as goal
 
 pub loop-field-preserved : goal.loop-field-preserved
 loop-field-preserved c =
-    let at = get_or_from_slice_get c.add.new.self c.in_ok-number.number c.field-item.result.ty tuple c.in_ok-number.ensures.ok.there in
     all_more (λ (f : Field). is_float c.args.decls.now f.ty ≡ true) c.args.fields.now c.loop-field.field-index
     c.field-item.result c.loop-field-test.true c.field-item.is c.loop-field.invariant
-    (ap (is_float c.args.decls.now) (sym at) ∙ sym c.in_ok-is_float.ensures.ok ∙ c.if-not-branch.false)
+    (sym c.in_ok-is_float.ensures.ok ∙ c.if-not-branch.false)
 
 pub returns : goal.returns
 returns c = record {

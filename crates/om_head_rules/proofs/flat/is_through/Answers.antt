@@ -1,18 +1,25 @@
-use Rattle.std.proofs.Common.{Some, refl, sym, ◌∙◌}
+use Rattle.std.proofs.Common.{Some, refl, sym, subst, ◌∙◌}
 use Rattle.std.proofs.lemmas.Bool.{false≢true}
-use Rattle.std.proofs.lemmas.Option.{MatchOption-at_some, MatchOption-at_none}
+use Rattle.std.proofs.lemmas.Option.{MatchOption-at_some, MatchOption-at_none, slice_get_within, get_or_from_slice_get}
+use Rattle.om_types.specs.Ty.{Ty, tuple}
 use Rattle.om_types.specs.Nodes.{type_at}
-use Rattle.om_store.proofs.HeldLemmas.{Grows-none, Grows-then}
+use Rattle.om_types.specs.Scope.{IsThrough}
+use Rattle.om_store.proofs.HeldLemmas.{Grows-then, Holds-grows}
 use Rattle.om_layout.proofs.NearerLemmas.{nearer_work}
 use Rattle.om_head_rules.proofs.ThroughLemmas.{own_is_through, never_through, nearer_before, nearer_after}
 use Rattle.om_head_rules.proofs.flat.is_through.Goals as goal
 
 pub next-init : goal.next-init
 next-init c = record {
-  within = c.requires.number;
-  grown = Grows-none c.args.types.now;
+  within = slice_get_within c.add.new.self c.in_ok-at.at c.args.t.now c.in_ok-at.ensures.ok.there;
+  grown = Holds-grows c.args.types.now c.add.new.self c.args.t.now c.in_ok-at.at c.in_ok-at.ensures.ok;
   known = c.none_known-known.ensures c.args.decls.now (Some c.args.group);
-  same = (λ is. is, λ is. is);
+  same =
+      let at = get_or_from_slice_get c.add.new.self c.in_ok-at.at c.args.t.now tuple c.in_ok-at.ensures.ok.there in
+      let Through : Ty → Type 0 = λ t. IsThrough c.args.decls.now c.args.group t in (
+        subst Through at,
+        subst Through (sym at),
+      );
 }
 
 pub next-smaller : goal.next-smaller

@@ -10,9 +10,9 @@ use Rattle.om_head_rules.proofs.flat.is_through.Given as goal
 abbrev pub invariant-next : goal.invariant-next
 invariant-next l = record {
   within : l.at < length l.types;
-  grown : Grows l.initial.types l.types;
+  grown : Grows l.fn.types l.types;
   known : AreKnown l.decls (Some l.group) l.known;
-  same : IsThrough l.decls l.group (type_at l.types l.at) ↔ IsThrough l.decls l.group (type_at l.initial.types l.number);
+  same : IsThrough l.decls l.group (type_at l.types l.at) ↔ IsThrough l.decls l.group l.t;
 }
 
 abbrev pub decreases-next : goal.decreases-next

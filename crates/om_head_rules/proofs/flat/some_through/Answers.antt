@@ -1,19 +1,16 @@
-use Rattle.std.proofs.Common.{◌∙◌, sym, subst}
+use Rattle.std.proofs.Common.{◌∙◌, sym}
 use Rattle.std.proofs.lemmas.Bool.{false≢true}
-use Rattle.std.proofs.lemmas.Option.{get_or_from_slice_get}
 use Rattle.om_types.specs.declared.decl.Field.{Field}
-use Rattle.om_types.specs.Ty.{tuple}
 use Rattle.om_types.specs.Scope.{IsThrough}
 use Rattle.om_head_rules.proofs.LoopLemmas.{all_more, all_end}
 use Rattle.om_head_rules.proofs.flat.some_through.Goals as goal
 
 pub loop-field-preserved : goal.loop-field-preserved
 loop-field-preserved c =
-    let at = get_or_from_slice_get c.add.new.self c.in_ok-number.number c.field-item.result.ty tuple c.in_ok-number.ensures.ok.there in
     all_more (λ (f : Field). ¬ IsThrough c.args.decls.now c.args.group f.ty) c.args.fields.now c.loop-field.field-index
     c.field-item.result c.loop-field-test.true c.field-item.is c.loop-field.invariant
     (λ is. false≢true (sym c.if-branch.false
-    ∙ c.in_ok-is_through.ensures.ok.1 (subst (IsThrough c.args.decls.now c.args.group) (sym at) is)))
+    ∙ c.in_ok-is_through.ensures.ok.1 is))
 
 pub returns : goal.returns
 returns c = (

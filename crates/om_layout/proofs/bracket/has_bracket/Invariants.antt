@@ -5,7 +5,7 @@ use Rattle.om_layout.proofs.bracket.has_bracket.Given as goal
 
 abbrev pub invariant-loop-whole : goal.invariant-loop-whole
 invariant-loop-whole l =
-    (l.at < length l.types) × (has_bracket (type_at l.types l.at) ≡ has_bracket (type_at l.types l.number))
+    (l.at < length l.t.types.now) × (has_bracket (type_at l.t.types.now l.at) ≡ has_bracket (type_at l.t.types.now l.t.number))
 
 abbrev pub decreases-loop-whole : goal.decreases-loop-whole
 decreases-loop-whole l = l.at

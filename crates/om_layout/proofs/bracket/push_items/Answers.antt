@@ -12,14 +12,14 @@ use Rattle.om_layout.proofs.bracket.push_items.Goals as goal
 
 pub loop-whole-init : goal.loop-whole-init
 loop-whole-init c = record {
-  within = c.requires;
+  within = c.args.t.now.there;
   left = λ decls tags all left. left;
   work = λ decls. refl;
 }
 
 pub loop-whole-preserved : goal.loop-whole-preserved
 loop-whole-preserved c =
-    let types = c.args.types.now in
+    let types = c.args.t.now.types.now in
     let at = c.loop-whole.at in
     let whole = type_at types c.in-Some.whole in
     let before = sym c.in-Some.ensures.is in
@@ -39,7 +39,7 @@ loop-whole-preserved c =
 
 pub returns : goal.returns
 returns c =
-    let types = c.args.types.now in
+    let types = c.args.t.now.types.now in
     let none = sym c.in_default.ensures.is in
     record {
       left = λ decls tags all left.

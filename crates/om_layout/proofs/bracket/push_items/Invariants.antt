@@ -11,15 +11,15 @@ use Rattle.om_layout.proofs.bracket.push_items.Given as goal
 
 abbrev pub invariant-loop-whole : goal.invariant-loop-whole
 invariant-loop-whole l = record {
-  within : l.at < length l.types;
+  within : l.at < length l.t.types.now;
   left :
       (decls : List Decl) (tags all : List (TagOf Ty))
-      → AreLeft decls l.types (with_items (head decls) tags (items (type_at l.types l.number))) (reverse l.initial.waiting.items) all
-      → AreLeft decls l.types (with_items (head decls) tags (items (type_at l.types l.at))) (reverse l.waiting.items) all;
+      → AreLeft decls l.t.types.now (with_items (head decls) tags (items (type_at l.t.types.now l.t.number))) (reverse l.initial.waiting.items) all
+      → AreLeft decls l.t.types.now (with_items (head decls) tags (items (type_at l.t.types.now l.at))) (reverse l.waiting.items) all;
   work :
       (decls : List Decl)
-      → steps_work decls l.types (reverse l.waiting.items) + written_work (work decls) (type_at l.types l.at)
-      ≡ steps_work decls l.types (reverse l.initial.waiting.items) + written_work (work decls) (type_at l.types l.number);
+      → steps_work decls l.t.types.now (reverse l.waiting.items) + written_work (work decls) (type_at l.t.types.now l.at)
+      ≡ steps_work decls l.t.types.now (reverse l.initial.waiting.items) + written_work (work decls) (type_at l.t.types.now l.t.number);
 }
 
 abbrev pub decreases-loop-whole : goal.decreases-loop-whole

@@ -1,24 +1,21 @@
-use Rattle.std.proofs.Common.{ap, sym, ◌∙◌, refl}
-use Rattle.std.proofs.lemmas.Option.{slice_get_read, get_or_from_slice_get}
-use Rattle.om_types.specs.Ty.{tuple}
+use Rattle.std.proofs.Common.{sym, ◌∙◌, refl}
+use Rattle.std.proofs.lemmas.Option.{slice_get_read}
 use Rattle.om_types.specs.Shape.{is_float}
 use Rattle.om_types.specs.declared.decl.Field.{Field}
-use Rattle.om_store.proofs.HeldLemmas.{Grows-held, Grows-then}
+use Rattle.om_store.proofs.HeldLemmas.{Grows-then}
 use Rattle.om_layout.proofs.LoopLemmas.{all_passed, one_failed}
 use Rattle.om_layout.proofs.datatype.is_flat.Goals as goal
 
 pub returns-then-not-branch-clause-ok : goal.returns-then-not-branch-clause-ok
 returns-then-not-branch-clause-ok c =
     let at = slice_get_read _ _ _ _ refl c.loop-field-test.true c.field-item.is in
-    let of = get_or_from_slice_get c.add.new.self c.in_ok-number.number c.field-item.result.ty tuple c.in_ok-number.ensures.ok.there in
     sym (one_failed c.args.fields.now c.loop-field.field-index _ at (λ (field : Field). is_float c.args.decls.now field.ty)
-    (ap (is_float c.args.decls.now) (sym of) ∙ sym c.in_ok-is_float.ensures.ok ∙ c.if-not-branch.true)) ∙ c.loop-field.invariant.1
+    (sym c.in_ok-is_float.ensures.ok ∙ c.if-not-branch.true)) ∙ c.loop-field.invariant.1
 
 pub loop-field-preserved : goal.loop-field-preserved
 loop-field-preserved c =
-    let at = slice_get_read _ _ _ _ refl c.loop-field-test.true c.field-item.is in
-    let of = get_or_from_slice_get c.add.new.self c.in_ok-number.number c.field-item.result.ty tuple c.in_ok-number.ensures.ok.there in (
-      Grows-then _ _ _ (Grows-held _ _ _ _ _ c.loop-field.invariant.0 c.in_ok-number.ensures.ok) c.in_ok-is_float.ensures.grown,
+    let at = slice_get_read _ _ _ _ refl c.loop-field-test.true c.field-item.is in (
+      Grows-then _ _ _ c.loop-field.invariant.0 c.in_ok-is_float.ensures.grown,
       sym (all_passed c.args.fields.now c.loop-field.field-index _ at (λ (field : Field). is_float c.args.decls.now field.ty)
-          (ap (is_float c.args.decls.now) (sym of) ∙ sym c.in_ok-is_float.ensures.ok ∙ c.if-not-branch.false)) ∙ c.loop-field.invariant.1,
+          (sym c.in_ok-is_float.ensures.ok ∙ c.if-not-branch.false)) ∙ c.loop-field.invariant.1,
     )

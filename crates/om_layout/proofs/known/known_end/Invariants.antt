@@ -5,8 +5,8 @@ use Rattle.om_layout.proofs.known.known_end.Given as goal
 
 abbrev pub invariant-loop-next : goal.invariant-loop-next
 invariant-loop-next l =
-    (l.at < length l.types)
-    × ((group : Option ℕ) → AreKnown l.decls group l.known → EachLeads l.decls group (type_at l.types l.number) (type_at l.types l.at))
+    (l.at < length l.t.types.now)
+    × ((group : Option ℕ) → AreKnown l.decls group l.known → EachLeads l.decls group (type_at l.t.types.now l.t.number) (type_at l.t.types.now l.at))
 
 abbrev pub decreases-loop-next : goal.decreases-loop-next
 decreases-loop-next l = l.at

@@ -7,6 +7,6 @@ pub returns-in-Some-known_argument-clause-passes : goal.returns-in-Some-known_ar
 returns-in-Some-known_argument-clause-passes c =
     IfOk-weaker c.part.result _ _
     (λ part is group known.
-    part_passes c.args.decls.now group c.args.types.now (type_at c.args.types.now c.args.number) c.in-Some.decl
+    part_passes c.args.decls.now group c.args.t.now.types.now (type_at c.args.t.now.types.now c.args.t.now.number) c.in-Some.decl
     c.in-Some-known_argument.i c.args.known.now c.in-Some.ensures c.in-Some-known_argument.ensures known part is)
     c.part.ensures.is

@@ -5,5 +5,5 @@ use Rattle.om_layout.proofs.known.part.Goals as goal
 
 pub returns-clause-below : goal.returns-clause-below
 returns-clause-below c =
-    some_less c.args.number c.args.i c.in_ok-parts.parts.items c.nth.result c.in_ok-parts.ensures.less
+    some_less c.args.t.now.number c.args.i c.in_ok-parts.parts.items c.nth.result c.in_ok-parts.ensures.less
     (c.nth.ensures ∙ ap (λ (xs : List ℕ). slice_get xs c.args.i) c.as_slice.ensures.value)

@@ -3,7 +3,7 @@ use Rattle.std.proofs.lemmas.Result.{IfOk-weaker}
 use Rattle.om_types.specs.Nodes.{type_at}
 use Rattle.om_layout.specs.Way.{EachPasses}
 use Rattle.om_layout.proofs.KnownLemmas.{some_at}
-use Rattle.om_layout.proofs.NearerLemmas.{once_at, passed_is}
+use Rattle.om_layout.proofs.NearerLemmas.{once_is, passed_is}
 use Rattle.om_layout.proofs.replaced.passed.Goals as goal
 
 pub returns-in-Some-clause-ok : goal.returns-in-Some-clause-ok
@@ -16,6 +16,7 @@ returns-in-Some-clause-ok c group known =
 
 pub returns-in-None-clause-ok : goal.returns-in-None-clause-ok
 returns-in-None-clause-ok c =
-    IfOk-weaker c.once.result _ _
-    (λ next is group known. once_at c.args.decls.now group c.once.new.types (type_at c.args.types.now c.args.number) next is)
-    c.once.ensures.ok
+    IfOk-weaker c.unfolded.result _ _
+    (λ next is group known.
+    once_is c.args.decls.now group c.args.types.now c.unfolded.new.types (type_at c.args.types.now c.args.number) next is)
+    c.unfolded.ensures.ok

@@ -8,7 +8,7 @@ use Rattle.om_layout.proofs.settled.are_there.Goals as goal
 pub next-preserved : goal.next-preserved
 next-preserved c =
     let decls = c.args.decls.now in
-    let types = c.args.types.now in
+    let types = c.args.t.now.types.now in
     let there = tags_at types (tags_of_entries c.args.tags.now.entries) in
     record {
       within = c.in_ok-is_there.ensures.within;

@@ -6,12 +6,12 @@ use Rattle.om_layout.proofs.settled.are_there.Given as goal
 
 abbrev pub invariant-next : goal.invariant-next
 invariant-next l = record {
-  within : All (λ n. n < length l.types) l.waiting.items;
+  within : All (λ n. n < length l.t.types.now) l.waiting.items;
   there :
-      AreSettled l.decls (tags_at l.types (tags_of_entries l.tags.entries)) l.settled.keys
-      → AreEachThere l.decls l.types (tags_at l.types (tags_of_entries l.tags.entries)) l.waiting.items
-      → EachBringsNone l.decls (tags_at l.types (tags_of_entries l.tags.entries)) (type_at l.types l.number);
+      AreSettled l.decls (tags_at l.t.types.now (tags_of_entries l.tags.entries)) l.settled.keys
+      → AreEachThere l.decls l.t.types.now (tags_at l.t.types.now (tags_of_entries l.tags.entries)) l.waiting.items
+      → EachBringsNone l.decls (tags_at l.t.types.now (tags_of_entries l.tags.entries)) (type_at l.t.types.now l.t.number);
 }
 
 abbrev pub decreases-next : goal.decreases-next
-decreases-next l = numbers_work l.decls l.types l.waiting.items
+decreases-next l = numbers_work l.decls l.t.types.now l.waiting.items

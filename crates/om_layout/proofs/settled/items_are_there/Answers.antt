@@ -9,7 +9,7 @@ use Rattle.om_layout.proofs.settled.items_are_there.Goals as goal
 
 pub whole-preserved : goal.whole-preserved
 whole-preserved c =
-    let types = c.args.types.now in
+    let types = c.args.t.now.types.now in
     let there = tags_at types (tags_of_entries c.args.tags.now.entries) in
     let at = type_at types c.whole.at in
     let whole = type_at types c.in-Some.whole in
@@ -31,17 +31,17 @@ whole-preserved c =
 
 pub returns-clause-there : goal.returns-clause-there
 returns-clause-there c = λ is decls sound are.
-    let types = c.args.types.now in
+    let types = c.args.t.now.types.now in
     let there = tags_at types (tags_of_entries c.args.tags.now.entries) in
     let has = sym c.has_bracket.ensures ∙ is in
     let so_far = c.whole.invariant.there decls are in (
       so_far.0,
-      each_bracket decls there sound (type_at types c.args.number) (sym c.whole.invariant.same ∙ has)
+      each_bracket decls there sound (type_at types c.args.t.now.number) (sym c.whole.invariant.same ∙ has)
           (so_far.1 (no_items decls there (type_at types c.whole.at) (sym c.in_default.ensures.is) has)),
     )
 
 pub returns-clause-less : goal.returns-clause-less
 returns-clause-less c = λ is decls sound.
-    let least = written_least decls sound (type_at c.args.types.now c.args.number) in
+    let least = written_least decls sound (type_at c.args.t.now.types.now c.args.t.now.number) in
     let so_far = c.whole.invariant.work decls in
     omega (arith, least, so_far)

@@ -5,7 +5,7 @@ use Rattle.om_layout.proofs.spine.name.Given as goal
 
 abbrev pub invariant-loop-whole : goal.invariant-loop-whole
 invariant-loop-whole l =
-    (l.at < length l.types) × (name_of (type_at l.types l.at) ≡ name_of (type_at l.types l.number))
+    (l.at < length l.t.types.now) × (name_of (type_at l.t.types.now l.at) ≡ name_of (type_at l.t.types.now l.t.number))
 
 abbrev pub decreases-loop-whole : goal.decreases-loop-whole
 decreases-loop-whole l = l.at

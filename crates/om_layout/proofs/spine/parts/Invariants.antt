@@ -5,9 +5,9 @@ use Rattle.om_layout.proofs.spine.parts.Given as goal
 
 abbrev pub invariant-loop-whole : goal.invariant-loop-whole
 invariant-loop-whole l =
-    (l.at < length l.types) × All (λ i. i < length l.types) l.found.items
-    × (l.at ≤ l.number) × All (λ i. i < l.number) l.found.items
-    × (parts (type_at l.types l.at) ++ map (type_at l.types) (reverse l.found.items) ≡ parts (type_at l.types l.number))
+    (l.at < length l.t.types.now) × All (λ i. i < length l.t.types.now) l.found.items
+    × (l.at ≤ l.t.number) × All (λ i. i < l.t.number) l.found.items
+    × (parts (type_at l.t.types.now l.at) ++ map (type_at l.t.types.now) (reverse l.found.items) ≡ parts (type_at l.t.types.now l.t.number))
 
 abbrev pub decreases-loop-whole : goal.decreases-loop-whole
 decreases-loop-whole l = l.at
