@@ -1,3 +1,4 @@
+pub mod EndLemmas
 pub mod ItemLemmas
 pub mod LawfulLemmas
 pub mod IdleLemmas

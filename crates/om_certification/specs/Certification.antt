@@ -1,19 +1,17 @@
 -- The command that writes a certificate of the values of the input, in the general form: an item
 -- is a value, and its section is said of it, by its number.
 use Rattle.std.specs.Prelude.{ℕ, ◌≡◌, List, length, Option, None, Some, Result, Ok}
-use Rattle.om_model.specs.declared.refusal.ReadRefusal.{ReadRefusal}
-use Rattle.om_format.specs.Stream.{End, clean, refused, cut, IsTail}
+use Rattle.om_format.specs.Stream.{End}
 use Rattle.om_format.specs.Tree.{Tree}
 use Rattle.om_outcome.specs.CommandLine.{certify}
 use Rattle.om_outcome.specs.Outcome.{Request, AskedType, asked_type, own, Said, nothing_said, Reply}
-use Rattle.om_outcome.specs.Outcome.{says, stops, Language, Then, ReadsTypeOf}
-use Rattle.om_outcome.specs.RefusalText.{refusal_text, truncated_text}
+use Rattle.om_outcome.specs.Outcome.{says, Language, Then, ReadsTypeOf}
 use Rattle.om_outcome.specs.declared.stop.Stop.{Stop}
-use Rattle.om_outcome.specs.declared.stop.Stop.TheVariants.{Value as value}
 use Rattle.om_promises.specs.Commands.{Item, value as value_item, Fetches, Commands}
 use Rattle.om_promises.specs.Lawful.{IsOnce}
 use Rattle.om_promises.specs.LawfulLanguage.{IsGiven}
 use Rattle.om_commands.specs.Tasks.{IsFirstValue}
+use Rattle.om_certification.specs.Ends as ends
 
 -- what is to be done: the values at the type are certified
 pub record Certification (T : Type 0) : Type 0 where
@@ -34,20 +32,18 @@ module _ {T : Type 0} (SectionOf : SaysSections T) (a : Certification T) where
     pub section : SectionOf a.type (length items) tree said
 
   -- after these values what comes is refused
-  pub record StopsHere (items : List Item) (bytes : List ℕ) (stop : Stop) : Type 0 where
-    pub refusal : ReadRefusal
-    pub tail : IsTail a.limit bytes (refused refusal)
-    pub is : stop ≡ value (length items) (refusal_text refusal)
+  abbrev pub StopsHere : List Item → List ℕ → Stop → Type 0
+  StopsHere items bytes stop = ends.ComesRefused a.limit (length items) bytes stop
 
   -- the last reply, where the bytes end after so many values, or cut one more
+  abbrev pub EndsClean : ℕ → Reply → Type 0
+  EndsClean number last = last ≡ says nothing_said
+
   abbrev pub EndsBy : ℕ → End → Reply → Type 0
-  EndsBy number clean last = last ≡ says nothing_said
-  EndsBy number (refused refusal) last = ⊥
-  EndsBy number (cut n) last = last ≡ stops (value number (truncated_text n))
+  EndsBy number end last = ends.EndsBy a.limit EndsClean number end last
 
   abbrev pub EndsHere : List Item → List ℕ → Reply → Type 0
-  EndsHere items bytes last =
-      (end : End) × IsTail a.limit bytes end × EndsBy (length items) end last
+  EndsHere items bytes last = ends.EndsHere a.limit EndsClean items bytes last
 
 -- ---- the files
 

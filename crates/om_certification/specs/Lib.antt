@@ -1,3 +1,4 @@
+pub mod Ends
 pub mod Certification
 pub mod Laws
 pub mod Meanings

@@ -11,9 +11,7 @@
 --
 -- Neither the values nor the file cause another. What 6, 7, 9 and 10 mean of the input, of out and
 -- of memory is the same for all commands: it stands in om_promises.
-use Rattle.std.specs.Prelude.{ℕ, ◌≡◌, ◌≢◌, ◌⊎◌, Bool, true, false, List, [], Some, Err}
-use Rattle.om_model.specs.declared.refusal.ReadRefusal.{ReadRefusal}
-use Rattle.om_format.specs.Stream.{SpellAll, refused, cut, IsTail}
+use Rattle.std.specs.Prelude.{ℕ, ◌≡◌, ◌≢◌, Bool, true, false, List, Some, Err}
 use Rattle.om_format.specs.Tree.{Tree}
 use Rattle.om_outcome.specs.declared.status.Status.{Status}
 use Rattle.om_outcome.specs.declared.status.Status.TheVariants.{Well, No, Types, Value, Script}
@@ -28,6 +26,7 @@ use Rattle.om_meanings.specs.Numbered.{HoldsOfAll, HoldsOfSome}
 use Rattle.om_meanings.specs.Stages.{IsRefusedType}
 use Rattle.om_certification.specs.Certification.{Certification, SaysSections, Asked, certified_by}
 use Rattle.om_certification.specs.Certification.{Wants}
+use Rattle.om_certification.specs.Ends as ends
 
 module _ {T : Type 0} (SectionOf : SaysSections T) (a : Certification T) where
   -- the value has a section, which is of a yes or of a no
@@ -44,37 +43,13 @@ module _ {T : Type 0} (SectionOf : SaysSections T) (a : Certification T) where
   Finish trees No = HoldsOfAll HasSection 0 trees × HoldsOfSome (IsCertified false) 0 trees
   Finish trees status = ⊥
 
-  -- the bytes are values to their end, where this status comes
-  pub record AreFinished (bytes : List ℕ) (status : Status) : Type 0 where
-    pub trees : List Tree
-    pub spelled : SpellAll a.limit bytes trees []
-    pub finishes : Finish trees status
-
-  -- after values that have sections the bytes end within one more
-  pub record AreCut (bytes : List ℕ) : Type 0 where
-    pub trees : List Tree
-    pub rest : List ℕ
-    pub n : ℕ
-    pub spelled : SpellAll a.limit bytes trees rest
-    pub certified : HoldsOfAll HasSection 0 trees
-    pub tail : IsTail a.limit rest (cut n)
-
   -- where the input is these bytes this status comes, at its end; 4 where a value is cut
   abbrev pub EndWith : List ℕ → Status → Type 0
-  EndWith bytes status = AreFinished bytes status ⊎ ((status ≡ Value) × AreCut bytes)
-
-  -- after values that have sections the next bytes are refused
-  pub record HoldRefusal (bytes : List ℕ) : Type 0 where
-    pub trees : List Tree
-    pub rest : List ℕ
-    pub refusal : ReadRefusal
-    pub spelled : SpellAll a.limit bytes trees rest
-    pub certified : HoldsOfAll HasSection 0 trees
-    pub tail : IsTail a.limit rest (refused refusal)
+  EndWith bytes status = ends.EndWith a.limit HasSection Finish bytes status
 
   -- the bytes stop the run with this status, whatever follows them
   abbrev pub StopWith : List ℕ → Status → Type 0
-  StopWith bytes status = (status ≡ Value) × HoldRefusal bytes
+  StopWith bytes status = (status ≡ Value) × ends.HoldRefusal a.limit HasSection bytes
 
 module _ {D T E : Type 0} (language : Language D T E) (SectionOf : SaysSections T) where
   -- FILE is read, and what it holds is refused, or TYPE

@@ -3,19 +3,19 @@ use Rattle.std.proofs.Common.{◌≡◌, ℕ, Bool, true, false, List, [], ◌�
 use Rattle.std.specs.Prelude.{if◌then◌else◌, nat_lt, codes}
 use Rattle.om_model.specs.Bytes.{AreBytes}
 use Rattle.om_model.specs.declared.refusal.ReadRefusal.{ReadRefusal}
-use Rattle.om_format.specs.Stream.{End, clean, refused, cut, IsTail}
+use Rattle.om_format.specs.Stream.{End, refused, IsTail}
 use Rattle.om_format.specs.Tree.{Tree}
 use Rattle.om_outcome.specs.Outcome.{Said, nothing_said, says, stops, line, Language}
-use Rattle.om_outcome.specs.RefusalText.{refusal_text, truncated_text}
 use Rattle.om_outcome.specs.declared.stop.Stop.{Stop}
-use Rattle.om_outcome.specs.declared.stop.Stop.TheVariants.{Value as value, Uncertified as uncertified_value, SectionsLeft as sections_left}
+use Rattle.om_outcome.specs.declared.stop.Stop.TheVariants.{Uncertified as uncertified_value, SectionsLeft as sections_left}
 use Rattle.om_promises.specs.Commands.{Item, GoesOn}
 use Rattle.om_promises.specs.Lawful.{IsOnce, IsInner, AreLawfulAt}
 use Rattle.om_promises.proofs.ValueLemmas.{spell_after}
 use Rattle.om_commands.specs.Tasks.{IsFirstValue}
 use Rattle.om_commands.proofs.ItemLemmas.{tree_once, value_once, end_once, no_tail, first_once, first_front, first_stays, both_same}
-use Rattle.om_commands.proofs.StayLemmas.{tail_after}
-use Rattle.om_verification.specs.Verification.{Shown, shows, rejects, Verification, IsShown, SaysOf, IsUncertified, ComesUncertified, ComesRefused, StopsHere, EndsBy, EndsHere, ReadsSections, verifying}
+use Rattle.om_verification.specs.Verification.{Shown, shows, rejects, Verification, IsShown, SaysOf, IsUncertified, ComesUncertified, StopsHere, EndsClean, EndsHere, ReadsSections, verifying}
+use Rattle.om_certification.specs.Ends.{ComesRefused}
+use Rattle.om_certification.proofs.EndLemmas.{refused_stays, refused_once, end_reply_once, end_inner}
 
 sections_inner :
     (left : Bool) (stop : Stop)
@@ -37,11 +37,8 @@ module _ {T S : Type 0} (ShownBy : T → S → Tree → Shown → Type 0) (a : V
     uncertified = h.uncertified;
     is = h.is;
   })
-  stop_stays items bytes later stop (inr h) = inr (record {
-    refusal = h.refusal;
-    tail = tail_after a.limit bytes later h.refusal h.tail;
-    is = h.is;
-  })
+  stop_stays items bytes later stop (inr h) =
+      inr (refused_stays a.limit (length items) bytes later stop h)
 
   module _ {D E : Type 0} (language : Language D T E) (Reads : ReadsSections S) where
     pub item_stays :
@@ -117,15 +114,9 @@ module _ {T S : Type 0} (ShownBy : T → S → Tree → Shown → Type 0) (a : V
         (subst (λ t. IsUncertified ShownBy a number t h.reason) same h.uncertified) k.uncertified in
         h.is ∙ (ap (uncertified_value number) one ∙ sym k.is)
 
-    refused_once : IsOnce (ComesRefused ShownBy a number bytes)
-    refused_once stop other h k =
-        let one = end_once a.limit bytes are_bytes (refused h.refusal) (refused k.refusal) h.tail k.tail in
-        let same : h.refusal ≡ k.refusal = cc one in
-        h.is ∙ (ap (λ r. value number (refusal_text r)) same ∙ sym k.is)
-
     never_both :
         (stop other : Stop) → ComesUncertified ShownBy a number bytes stop
-        → ComesRefused ShownBy a number bytes other → ⊥
+        → ComesRefused a.limit number bytes other → ⊥
     never_both stop other h k =
         no_tail a.limit bytes are_bytes h.tree h.more (refused k.refusal) h.spelled k.tail
 
@@ -139,7 +130,7 @@ module _ {T S : Type 0} (ShownBy : T → S → Tree → Shown → Type 0) (a : V
   stop_once items bytes are_bytes stop other (inr h) (inl k) =
       absurd (never_both bytes are_bytes (length items) other stop k h)
   stop_once items bytes are_bytes stop other (inr h) (inr k) =
-      refused_once bytes are_bytes (length items) stop other h k
+      refused_once a.limit (length items) bytes are_bytes stop other h k
 
   stop_inner :
       (items : List Item) (bytes : List ℕ) (stop : Stop) → StopsHere ShownBy a items bytes stop
@@ -147,28 +138,13 @@ module _ {T S : Type 0} (ShownBy : T → S → Tree → Shown → Type 0) (a : V
   stop_inner items bytes stop (inl h) = subst IsInner (sym h.is) tt
   stop_inner items bytes stop (inr h) = subst IsInner (sym h.is) tt
 
-  -- ---- how the input ends
-
-  ends_once : (number : ℕ) (end : End) → IsOnce (EndsBy ShownBy a number end)
-  ends_once number clean last other h k = h ∙ sym k
-  ends_once number (refused refusal) last other h k = absurd h
-  ends_once number (cut n) last other h k = h ∙ sym k
-
-  end_reply_once :
-      (items : List Item) (bytes : List ℕ) → AreBytes bytes
-      → IsOnce (EndsHere ShownBy a items bytes)
-  end_reply_once items bytes are_bytes last other (end, tail, ends) (end', tail', ends') =
-      let same = end_once a.limit bytes are_bytes end end' tail tail' in
-      ends_once (length items) end' last other
-      (subst (λ e. EndsBy ShownBy a (length items) e last) same ends) ends'
-
-  end_inner :
-      (number : ℕ) (end : End) (stop : Stop) → EndsBy ShownBy a number end (stops stop)
-      → IsInner stop
-  end_inner number clean stop h = sections_inner (nat_lt number (length a.sections)) stop h
-  end_inner number (refused refusal) stop h = absurd h
-  end_inner number (cut n) stop h =
-      let is : stop ≡ value number (truncated_text n) = cc h in subst IsInner (sym is) tt
+  ends_inner :
+      (items : List Item) (bytes : List ℕ) (stop : Stop)
+      → EndsHere ShownBy a items bytes (stops stop) → IsInner stop
+  ends_inner items bytes stop (end, tail, ends) =
+      end_inner a.limit (EndsClean ShownBy a)
+      (λ number stop h. sections_inner (nat_lt number (length a.sections)) stop h) (length items)
+      end stop ends
 
   -- ---- the laws
 
@@ -193,11 +169,11 @@ module _ {T S : Type 0} (ShownBy : T → S → Tree → Shown → Type 0) (a : V
       first_once = λ items. first_once language a.limit;
       says_once = said_once;
       stops_once = stop_once;
-      ends_once = end_reply_once;
+      ends_once = end_reply_once a.limit (EndsClean ShownBy a) (λ number last other h k. h ∙ sym k);
       front = λ items. first_front language a.limit;
       item_stays = λ items. first_stays language a.limit;
       stop_stays = stop_stays ShownBy a;
       stops_inside = stop_inner;
-      ends_inside = λ items bytes stop h. end_inner (length items) h.0 stop h.2;
+      ends_inside = ends_inner;
       apart = said_apart;
     }

@@ -1,27 +1,25 @@
 -- The tables of the command are exact.
 use Rattle.std.proofs.Common.{◌≡◌, ◌⊎◌, ℕ, List, [], ◌∷◌, length, Some, Ok, Err, inl, inr, refl, sym, ap, ◌∙◌, subst}
-use Rattle.om_model.specs.Bytes.{AreBytes}
-use Rattle.om_model.specs.declared.refusal.ReadRefusal.{ReadRefusal}
-use Rattle.om_format.specs.Stream.{SpellAll, End, clean, refused, cut, IsTail}
+use Rattle.om_format.specs.Stream.{SpellAll}
 use Rattle.om_format.specs.Tree.{Tree}
 use Rattle.om_outcome.specs.declared.status.Status.{Status}
 use Rattle.om_outcome.specs.declared.status.Status.TheVariants.{Types, ReadFault, OpenFault, TooLong, Certificate}
-use Rattle.om_outcome.specs.Outcome.{Request, status_of, ending_of, Said, Reply, stops, Replies, replies, Language, ReadsFile, ReadsTypeOf}
-use Rattle.om_outcome.specs.RefusalText.{refusal_text, truncated_text}
+use Rattle.om_outcome.specs.Outcome.{Request, status_of, Language, ReadsFile, ReadsTypeOf}
+use Rattle.om_outcome.specs.RefusalText.{refusal_text}
 use Rattle.om_outcome.specs.declared.stop.Stop.{Stop}
 use Rattle.om_outcome.specs.declared.stop.Stop.TheVariants.{Value as value, Certificate as certificate_line, Uncertified as uncertified_value}
 use Rattle.om_promises.specs.Commands.{Fetches, HoldStop}
-use Rattle.om_promises.specs.Promises.{HoldEnd}
-use Rattle.om_promises.proofs.StreamLemmas.{spell_bytes, spell_append}
+use Rattle.om_promises.proofs.StreamLemmas.{spell_append}
 use Rattle.om_causes.specs.Causes.{HaveStops, HaveEnds, HaveBars, AreExact}
 use Rattle.om_commands.specs.Tasks.{items_of}
 use Rattle.om_commands.proofs.ItemLemmas.{items_length}
-use Rattle.om_meanings.proofs.SaidLemmas.{stop_status}
 use Rattle.om_meanings.proofs.StageLemmas.{file_bar, type_stop, refused_stop}
 use Rattle.om_meanings.specs.Numbered.{HoldsOfAll}
 use Rattle.om_meanings.proofs.StopLemmas.{spell_before}
-use Rattle.om_verification.specs.Verification.{Shown, Verification, IsUncertified, ComesUncertified, ComesRefused, StopsHere, EndsBy, Asked, typed_of, verified_by, ReadsSections, Wants, Finds, verifying}
-use Rattle.om_verification.specs.Meanings.{HasSection, EndWith, StopWith, RefusesTypes, RefusesCertificate, IsUnread, Bar, certificate_tables}
+use Rattle.om_verification.specs.Verification.{Shown, Verification, IsUncertified, ComesUncertified, StopsHere, EndsClean, Asked, typed_of, verified_by, ReadsSections, Wants, Finds, verifying}
+use Rattle.om_verification.specs.Meanings.{HasSection, Finish, StopWith, RefusesTypes, RefusesCertificate, IsUnread, Bar, certificate_tables}
+use Rattle.om_certification.specs.Ends.{ComesRefused}
+use Rattle.om_certification.proofs.EndLemmas.{AreTold, have_end}
 use Rattle.om_verification.proofs.ItemLemmas.{goes_on}
 use Rattle.om_verification.proofs.SaidLemmas.{AreSaid, all_have, finish_of, say_some, finish_said, says_first, say_first}
 
@@ -81,7 +79,7 @@ module _ {D T E S : Type 0} (language : Language D T E) (Reads : ReadsSections S
       (a : Verification T S) (bytes : List ℕ) (trees : List Tree) (rest : List ℕ) (stop : Stop)
       → SpellAll a.limit bytes trees rest → HoldsOfAll (HasSection ShownBy a) 0 trees
       → ComesUncertified ShownBy a (length trees) rest stop
-      ⊎ ComesRefused ShownBy a (length trees) rest stop → Stopping a bytes stop
+      ⊎ ComesRefused a.limit (length trees) rest stop → Stopping a bytes stop
   here a bytes trees rest stop spelled have why =
       let s = say_some ShownBy a 0 trees have in record {
         items = items_of trees;
@@ -89,7 +87,7 @@ module _ {D T E S : Type 0} (language : Language D T E) (Reads : ReadsSections S
         rest = rest;
         first = says_first ShownBy a language Reads bytes trees s.0 rest spelled s.1;
         at = subst
-            (λ n. ComesUncertified ShownBy a n rest stop ⊎ ComesRefused ShownBy a n rest stop)
+            (λ n. ComesUncertified ShownBy a n rest stop ⊎ ComesRefused a.limit n rest stop)
             (sym (items_length trees)) why;
       }
 
@@ -124,100 +122,28 @@ module _ {D T E S : Type 0} (language : Language D T E) (Reads : ReadsSections S
     stop_held a bytes status,
   )
 
-  -- ---- an end is one of the table
+  -- ---- the end
 
-  abbrev Ending : Verification T S → List ℕ → Replies → Type 0
-  Ending a bytes all = HoldEnd (verifying language Reads ShownBy) a bytes all.said all.last
-
-  end_row :
-      (a : Verification T S) (bytes : List ℕ) (trees : List Tree) (said : List Said)
-      (rest : List ℕ) (last : Reply) → SpellAll a.limit bytes trees rest
-      → AreSaid ShownBy a 0 trees said → (end : End) → IsTail a.limit rest end
-      → EndsBy ShownBy a (length trees) end last
-      → EndWith ShownBy a bytes (ending_of (replies said last)).status
-  end_row a bytes trees said rest last spelled told clean tail ends = inl (record {
-    trees = trees;
-    spelled = subst (SpellAll a.limit bytes trees) tail spelled;
-    finishes = finish_of ShownBy a trees said last told ends;
-  })
-  end_row a bytes trees said rest last spelled told (refused refusal) tail ends = absurd ends
-  end_row a bytes trees said rest last spelled told (cut n) tail ends = inr (
-    stop_status said last (value (length trees) (truncated_text n)) ends,
-    record {
-      trees = trees;
-      rest = rest;
-      n = n;
-      spelled = spelled;
-      certified = all_have ShownBy a 0 trees said told;
-      tail = tail;
-    },
-  )
-
-  end_with :
-      (a : Verification T S) (bytes : List ℕ) (all : Replies) → Ending a bytes all
-      → EndWith ShownBy a bytes (ending_of all).status
-  end_with a bytes all h =
-      end_row a bytes values.0 all.said h.rest all.last values.2 values.3 h.ends.0 h.ends.1
-      (subst (λ n. EndsBy ShownBy a n h.ends.0 all.last) number h.ends.2) where
-        values : (trees : List Tree) × (h.items ≡ items_of trees)
-            × SpellAll a.limit bytes trees h.rest × AreSaid ShownBy a 0 trees all.said
-        values = say_first ShownBy a language Reads bytes h.items all.said h.rest h.first
-
-        number : length h.items ≡ length values.0
-        number = ap length values.1 ∙ items_length values.0
-
-  -- ---- and one of the table is an end
-
-  module _ (a : Verification T S) (trees : List Tree) (rest : List ℕ) (are_bytes : AreBytes rest)
-      (end : End) (tail : IsTail a.limit rest end)
-      (fine : (refusal : ReadRefusal) → end ≡ refused refusal → ⊥) where
-    ended :
-        (bytes : List ℕ) (all : Replies) → SpellAll a.limit bytes trees rest
-        → AreSaid ShownBy a 0 trees all.said → EndsBy ShownBy a (length trees) end all.last
-        → Ending a bytes all
-    ended bytes all spelled told ends = record {
-      items = items_of trees;
-      rest = rest;
-      first = says_first ShownBy a language Reads bytes trees all.said rest spelled told;
-      goes_on = goes_on ShownBy a language Reads (items_of trees) rest are_bytes end tail fine;
-      ends = (
-        end,
-        tail,
-        subst (λ n. EndsBy ShownBy a n end all.last) (sym (items_length trees)) ends,
-      );
-    }
-
-  -- an end of this status is held
-  abbrev HasEnd : Verification T S → List ℕ → Status → Type 0
-  HasEnd a bytes status =
-      (all : Replies) × ((ending_of all).status ≡ status) × Ending a bytes all
-
-  end_held :
-      (a : Verification T S) (bytes : List ℕ) (status : Status) → AreBytes bytes
-      → EndWith ShownBy a bytes status → HasEnd a bytes status
-  end_held a bytes status are_bytes (inl h) =
-      let r = finish_said ShownBy a h.trees status h.finishes in
-      let rest = spell_bytes a.limit bytes [] h.trees h.spelled are_bytes in (
-        r.0,
-        r.1,
-        ended a h.trees [] rest clean refl (λ r e. cc e) bytes r.0 h.spelled r.2 r.3,
-      )
-  end_held a bytes status are_bytes (inr (is, h)) =
-      let s = say_some ShownBy a 0 h.trees h.certified in
-      let last : Reply = stops (value (length h.trees) (truncated_text h.n)) in
-      let rest = spell_bytes a.limit bytes h.rest h.trees h.spelled are_bytes in (
-        replies s.0 last,
-        sym is,
-        ended a h.trees h.rest rest (cut h.n) h.tail (λ r e. cc e) bytes (replies s.0 last)
-            h.spelled s.1 refl,
-      )
+  told :
+      (a : Verification T S)
+      → AreTold (verifying language Reads ShownBy) a a.limit (EndsClean ShownBy a)
+      (HasSection ShownBy a) (Finish ShownBy a) (AreSaid ShownBy a 0)
+  told a = record {
+    all_have = all_have ShownBy a 0;
+    say_some = say_some ShownBy a 0;
+    finish_of = finish_of ShownBy a;
+    finish_said = finish_said ShownBy a;
+    says_first = says_first ShownBy a language Reads;
+    say_first = say_first ShownBy a language Reads;
+    goes_on = goes_on ShownBy a language Reads;
+    ends = λ items bytes last. (λ h. h, λ h. h);
+  }
 
   have_ends :
       HaveEnds (verifying language Reads ShownBy) (certificate_tables language Reads ShownBy)
-  have_ends a bytes status are_bytes = (
-    λ h. subst (EndWith ShownBy a bytes) h.1 (end_with a bytes h.0 h.2),
-    end_held a bytes status are_bytes,
-  )
+  have_ends a =
+      have_end (verifying language Reads ShownBy) a a.limit (EndsClean ShownBy a)
+      (HasSection ShownBy a) (Finish ShownBy a) (AreSaid ShownBy a 0) (told a)
 
   -- ---- the files
 

@@ -17,8 +17,7 @@
 -- of memory is the same for all commands: it stands in om_promises.
 use Rattle.std.specs.Prelude.{ℕ, ◌<◌, ◌≡◌, ◌≢◌, ◌⊎◌, Bool, true, false, List, [], ◌∷◌, ◌++◌, length}
 use Rattle.std.specs.Prelude.{Some, Ok, Err}
-use Rattle.om_model.specs.declared.refusal.ReadRefusal.{ReadRefusal}
-use Rattle.om_format.specs.Stream.{SpellAll, refused, cut, IsTail}
+use Rattle.om_format.specs.Stream.{SpellAll}
 use Rattle.om_format.specs.Tree.{Tree}
 use Rattle.om_outcome.specs.declared.status.Status.{Status}
 use Rattle.om_outcome.specs.declared.status.Status.TheVariants.{Well, No, Types, Value, Script}
@@ -34,6 +33,7 @@ use Rattle.om_meanings.specs.Numbered.{HoldsOfAll, HoldsOfSome}
 use Rattle.om_meanings.specs.Stages.{IsRefusedType}
 use Rattle.om_verification.specs.Verification.{Shown, shows, Verification, IsShown, IsUncertified}
 use Rattle.om_verification.specs.Verification.{Asked, typed_of, verified_by, ReadsSections, Wants}
+use Rattle.om_certification.specs.Ends as ends
 
 module _ {T S : Type 0} (ShownBy : T → S → Tree → Shown → Type 0) (a : Verification T S) where
   -- the value has a section that is accepted, and shows whether nothing is wrong with it
@@ -53,24 +53,9 @@ module _ {T S : Type 0} (ShownBy : T → S → Tree → Shown → Type 0) (a : V
   Finish trees Certificate = HoldsOfAll HasSection 0 trees × (length trees < length a.sections)
   Finish trees status = ⊥
 
-  -- the bytes are values to their end, where this status comes
-  pub record AreFinished (bytes : List ℕ) (status : Status) : Type 0 where
-    pub trees : List Tree
-    pub spelled : SpellAll a.limit bytes trees []
-    pub finishes : Finish trees status
-
-  -- after values that have their sections the bytes end within one more
-  pub record AreCut (bytes : List ℕ) : Type 0 where
-    pub trees : List Tree
-    pub rest : List ℕ
-    pub n : ℕ
-    pub spelled : SpellAll a.limit bytes trees rest
-    pub certified : HoldsOfAll HasSection 0 trees
-    pub tail : IsTail a.limit rest (cut n)
-
   -- where the input is these bytes this status comes, at its end; 4 where a value is cut
   abbrev pub EndWith : List ℕ → Status → Type 0
-  EndWith bytes status = AreFinished bytes status ⊎ ((status ≡ Value) × AreCut bytes)
+  EndWith bytes status = ends.EndWith a.limit HasSection Finish bytes status
 
   -- the bytes begin with values that have their sections, and one more that is not certified
   pub record HoldBreak (bytes : List ℕ) : Type 0 where
@@ -82,19 +67,11 @@ module _ {T S : Type 0} (ShownBy : T → S → Tree → Shown → Type 0) (a : V
     pub reason : List ℕ
     pub breaks : IsUncertified ShownBy a (length trees) tree reason
 
-  -- after values that have their sections the next bytes are refused
-  pub record HoldRefusal (bytes : List ℕ) : Type 0 where
-    pub trees : List Tree
-    pub rest : List ℕ
-    pub refusal : ReadRefusal
-    pub spelled : SpellAll a.limit bytes trees rest
-    pub certified : HoldsOfAll HasSection 0 trees
-    pub tail : IsTail a.limit rest (refused refusal)
-
   -- the bytes stop the run with this status, whatever follows them
   abbrev pub StopWith : List ℕ → Status → Type 0
   StopWith bytes status =
-      ((status ≡ Certificate) × HoldBreak bytes) ⊎ ((status ≡ Value) × HoldRefusal bytes)
+      ((status ≡ Certificate) × HoldBreak bytes)
+      ⊎ ((status ≡ Value) × ends.HoldRefusal a.limit HasSection bytes)
 
 module _ {D T E S : Type 0} (language : Language D T E) (Reads : ReadsSections S)
     (ShownBy : T → S → Tree → Shown → Type 0) where

@@ -2,15 +2,12 @@
 -- is a value, and the section with its number shows something of it.
 use Rattle.std.specs.Prelude.{ℕ, ◌≡◌, ◌⊎◌, Bool, if◌then◌else◌, nat_lt, List, [], ◌∷◌, ◌++◌, length}
 use Rattle.std.specs.Prelude.{slice_get, Option, Some, None, Result, Ok, codes}
-use Rattle.om_model.specs.declared.refusal.ReadRefusal.{ReadRefusal}
-use Rattle.om_format.specs.Stream.{SpellAll, End, clean, refused, cut, IsTail}
+use Rattle.om_format.specs.Stream.{SpellAll, End}
 use Rattle.om_format.specs.Tree.{Tree}
 use Rattle.om_outcome.specs.Outcome.{Found, Request, AskedType, asked_type, own, verify, Said}
 use Rattle.om_outcome.specs.Outcome.{nothing_said, Reply, says, stops, line, Language, Then}
 use Rattle.om_outcome.specs.Outcome.{OrRefusal, ReadsFile, ReadsTypeOf}
-use Rattle.om_outcome.specs.RefusalText.{refusal_text, truncated_text}
 use Rattle.om_outcome.specs.declared.stop.Stop.{Stop}
-use Rattle.om_outcome.specs.declared.stop.Stop.TheVariants.{Value as value}
 use Rattle.om_outcome.specs.declared.stop.Stop.TheVariants.{Certificate as certificate_line}
 use Rattle.om_outcome.specs.declared.stop.Stop.TheVariants.{Uncertified as uncertified_value}
 use Rattle.om_outcome.specs.declared.stop.Stop.TheVariants.{SectionsLeft as sections_left}
@@ -18,6 +15,7 @@ use Rattle.om_promises.specs.Commands.{Item, value as value_item, Fetches, Comma
 use Rattle.om_promises.specs.Lawful.{IsOnce}
 use Rattle.om_promises.specs.LawfulLanguage.{IsGiven}
 use Rattle.om_commands.specs.Tasks.{IsFirstValue}
+use Rattle.om_certification.specs.Ends as ends
 
 -- What a section shows of a value at a type: the line that is said of the value, which tells
 -- whether nothing is wrong with it; or the section is rejected, for a reason.
@@ -64,16 +62,11 @@ module _ {T S : Type 0} (ShownBy : T → S → Tree → Shown → Type 0) (a : V
     pub uncertified : IsUncertified number tree reason
     pub is : stop ≡ uncertified_value number reason
 
-  -- what comes is refused
-  pub record ComesRefused (number : ℕ) (bytes : List ℕ) (stop : Stop) : Type 0 where
-    pub refusal : ReadRefusal
-    pub tail : IsTail a.limit bytes (refused refusal)
-    pub is : stop ≡ value number (refusal_text refusal)
-
   -- after these values the run stops at these bytes
   abbrev pub StopsHere : List Item → List ℕ → Stop → Type 0
   StopsHere items bytes stop =
-      ComesUncertified (length items) bytes stop ⊎ ComesRefused (length items) bytes stop
+      ComesUncertified (length items) bytes stop
+      ⊎ ends.ComesRefused a.limit (length items) bytes stop
 
   -- after so many values sections may be left
   abbrev pub ends_sections : ℕ → Reply
@@ -81,14 +74,14 @@ module _ {T S : Type 0} (ShownBy : T → S → Tree → Shown → Type 0) (a : V
       if nat_lt number (length a.sections) then stops sections_left else says nothing_said
 
   -- the last reply, where the bytes end after so many values, or cut one more
+  abbrev pub EndsClean : ℕ → Reply → Type 0
+  EndsClean number last = last ≡ ends_sections number
+
   abbrev pub EndsBy : ℕ → End → Reply → Type 0
-  EndsBy number clean last = last ≡ ends_sections number
-  EndsBy number (refused refusal) last = ⊥
-  EndsBy number (cut n) last = last ≡ stops (value number (truncated_text n))
+  EndsBy number end last = ends.EndsBy a.limit EndsClean number end last
 
   abbrev pub EndsHere : List Item → List ℕ → Reply → Type 0
-  EndsHere items bytes last =
-      (end : End) × IsTail a.limit bytes end × EndsBy (length items) end last
+  EndsHere items bytes last = ends.EndsHere a.limit EndsClean items bytes last
 
 -- ---- the files
 
