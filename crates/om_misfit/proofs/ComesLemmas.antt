@@ -1,0 +1,490 @@
+-- What one token more leads to, by what it changes.
+use Rattle.std.proofs.Common.{ℕ, zero, suc, ◌-◌, ◌<◌, ◌≤◌, ◌≡◌, ◌∙◌, ◌⊎◌, ⊎_elim, inl, inr, List, [], ◌∷◌, ◌++◌, length, map, set, Bool, true, false, Option, Some, None, refl, sym, ap, subst, arith}
+use Rattle.std.specs.Prelude.{slice_get, replicate, Contains, ℤ, is_some}
+use Rattle.std.specs.Global.{Vec}
+use Rattle.std.specs.Borrow.{Bor}
+use Rattle.std.proofs.lemmas.List.{append-nil, length-append, length-replicate, length-set, map-append}
+use Rattle.std.proofs.lemmas.List.Elements.{Contains-append_right, Contains-append_cases}
+use Rattle.std.proofs.lemmas.Option.{same_Some, none-some, slice_get_within}
+use Rattle.om_model.proofs.Lists.{slice_get-append_left}
+use Rattle.om_model.proofs.Options.{Contains-first, Contains-none, Contains-cases}
+use Rattle.om_model.specs.declared.code.Measure.{Measure}
+use Rattle.om_types.specs.declared.shape.PolyTag.{PolyTag}
+use Rattle.om_types.specs.Fitting.{tag_with}
+use Rattle.om_types.specs.Table.{Table, table_shapes}
+use Rattle.om_format.specs.Words.{of_object, words32, words64}
+use Rattle.om_format.specs.Token.{Token, integer, atom, shared, block, leaf, IsToken, measure_of}
+use Rattle.om_format.specs.Tree.{RefersBack, made_by}
+use Rattle.om_format.specs.Spelled.{IsNoReference}
+use Rattle.om_pass_law.specs.Asked.{of_type, hash_of, IsHidden}
+use Rattle.om_pass_law.proofs.PassLemmas.{leaf_made}
+use Rattle.om_misfit_law.specs.PassedBut.{Place, Made, Missed, field_after, unasked, made_in, IsLedBack, IsTaggedBut, Takes, Misses, PassedBut, fitting, missing, below}
+use Rattle.om_misfit_law.proofs.UnaskedLemmas.{before_or_not, made_long, made_there}
+use Rattle.om_misfit_law.proofs.StatedLemmas.{back_more}
+use Rattle.om_pass.specs.declared.words.Words.{Words}
+use Rattle.om_pass.specs.State.{Spends}
+use Rattle.om_misfit.specs.declared.again.Again.{Again}
+use Rattle.om_misfit.specs.declared.misfit.Found.{Found}
+use Rattle.om_misfit.specs.declared.misfit.Finding.{Finding}
+use Rattle.om_misfit.specs.declared.said.Said.{Said}
+use Rattle.om_misfit.specs.declared.said.Said.TheVariants as sayings
+use Rattle.om_misfit.specs.declared.way.Asked.TheVariants as asks
+use Rattle.om_misfit.specs.declared.way.Left.{Left}
+use Rattle.om_misfit.specs.declared.way.Left.TheVariants as lefts
+use Rattle.om_misfit.specs.declared.way.Way.{Way}
+use Rattle.om_misfit.specs.Judge.{IsSaid, IsNoBack, said_fields}
+use Rattle.om_misfit.specs.Way.{trail_of, trail_in, place_of, left_values, way_places, opened_places, unasked_place, IsWay}
+use Rattle.om_misfit.specs.Find.{no_type, type_or_none, AreTypes, AreMarked, IsMissedAt, AreMissedAt, IsHeld, HasRoom, Adds, LeadsTo, Comes, unasked_in}
+use Rattle.om_misfit.proofs.WayLemmas.{none_opened}
+use Rattle.om_misfit.proofs.SaidLemmas.{some_token}
+
+abbrev held_type : Made → ℕ
+held_type object = type_or_none object.type
+
+-- the numbers that are held for what a token makes
+types_made : (type : Option ℕ) (trail : List (ℕ × ℕ)) (token : Token) → IsToken token → map held_type (made_in type trail token) ≡ replicate (made_by token) (type_or_none type)
+types_made type trail (integer z) is = refl
+types_made type trail (atom tag) is = refl
+types_made type trail (shared offset) is = refl
+types_made type trail (block tag size) is = refl
+types_made type trail (leaf object) is = ap (λ n. replicate n (type_or_none type)) (sym (leaf_made object is))
+
+module _ (made : List Made) (type : Option ℕ) (trail : List (ℕ × ℕ)) (token : Token) (is : IsToken token) where
+  abbrev after : List Made
+  after = made ++ made_in type trail token
+
+  -- an object that is there was there, or is the token's
+  there : (o : ℕ) (object : Made) → slice_get after o ≡ Some object → (slice_get made o ≡ Some object) ⊎ (object ≡ record { type = type; trail = trail })
+  there o object at = ⊎_elim
+      (λ before. inl (kept o object before at))
+      (λ later.
+      let short = slice_get_within after o object at in
+      let long = made_long type trail made token is in
+      inr (same_Some object record { type = type; trail = trail } (sym at ∙ made_there type trail made token is o later (omega (arith, short, long)))))
+      (before_or_not o (length made)) where
+        kept : (o : ℕ) (object : Made) → o < length made → slice_get (made ++ made_in type trail token) o ≡ Some object → slice_get made o ≡ Some object
+        kept o object short at = by made o short at where
+          by : (xs : List Made) (o : ℕ) → o < length xs → slice_get (xs ++ made_in type trail token) o ≡ Some object → slice_get xs o ≡ Some object
+          by [] o short at = absurd (omega (arith, short))
+          by (x ∷ xs) zero short at = at
+          by (x ∷ xs) (suc o) short at = by xs o (omega (arith, short)) at
+
+  pub types_after : (types new : List ℕ) → AreTypes types made → new ≡ types ++ replicate (made_by token) (type_or_none type) → ((t : ℕ) → type ≡ Some t → t < no_type) → AreTypes new after
+  types_after types new are its some = (
+    its ∙ ap (λ xs. xs ++ replicate (made_by token) (type_or_none type)) are.0
+        ∙ ap (λ ys. map held_type made ++ ys) (sym (types_made type trail token is))
+        ∙ sym (map-append held_type made (made_in type trail token)),
+    (λ o t way at. ⊎_elim
+        (λ before. are.1 o t way before)
+        (λ own. some t (sym (ap (λ (x : Made). x.type) own)))
+        (there o record { type = Some t; trail = way } at)),
+  )
+
+  pub marked_after : (back : List ℕ) (marks new : List Bool) → AreMarked back made marks → new ≡ marks ++ replicate (made_by token) false → AreMarked (back ++ []) after new
+  marked_after back marks new are its = (
+    (let long = made_long type trail made token is in
+        let first = are.0 in
+        let both = length-append marks (replicate (made_by token) false) in
+        let one = length-replicate (made_by token) false in
+        let same = ap length its in
+        omega (arith, long, first, both, one, same)),
+    (λ o among.
+        let before = are.1 o (subst (λ xs. Contains xs o) (append-nil back) among) in
+        subst (λ xs. slice_get xs o ≡ Some true) (sym its) (slice_get-append_left marks (replicate (made_by token) false) o true before)),
+  )
+
+many_types : (made : List Made) → length (map held_type made) ≡ length made
+many_types [] = refl
+many_types (object ∷ made) = ap suc (many_types made)
+
+-- as many types are held as objects were made
+pub many_held : (types : List ℕ) (made : List Made) → AreTypes types made → length types ≡ length made
+many_held types made are = ap length are.0 ∙ many_types made
+
+module _ (table : Table) (back : List ℕ) (tokens : List Token) (made : List Made) (missed : List Missed) (token : Token) (is : IsToken token)
+    (old new : Finding) (said : Said) (left : Left) (its : IsSaid said token) (held : IsHeld back made missed old) where
+  -- what is held after an object, or none, was added
+  held_after : (n : ℕ) (type : Option ℕ) (trail : List (ℕ × ℕ)) (later : List Missed) → Adds old n said left new → n ≡ type_or_none type → ((t : ℕ) → type ≡ Some t → t < no_type) → AreMissedAt new.found later → IsHeld (back ++ []) (made ++ made_in type trail token) later new
+  held_after n type trail later adds same some found = record {
+    is_way = adds.is_way;
+    types = types_after made type trail token is old.types.items new.types.items held.types (adds.types token its ∙ ap (λ k. old.types.items ++ replicate (made_by token) k) same) some;
+    marked = marked_after made type trail token is back old.again.marks.items new.again.marks.items held.marked (adds.marks token its);
+    found = found;
+  }
+
+  -- the next object's number
+  many_made : length old.types.items ≡ length made
+  many_made = many_held old.types.items made held.types
+
+  passed_after : (type : Option ℕ) (trail : List (ℕ × ℕ)) (places : List Place) (later : List Missed) → PassedBut back table (tokens ++ token ∷ []) (made ++ made_in type trail token) places later → way_places new.way ≡ places → PassedBut (back ++ []) table (tokens ++ token ∷ []) (made ++ made_in type trail token) (way_places new.way) later
+  passed_after type trail places later passed same =
+      subst (λ (ps : List Place). PassedBut (back ++ []) table (tokens ++ token ∷ []) (made ++ made_in type trail token) ps later) (sym same)
+      (subst (λ bs. PassedBut bs table (tokens ++ token ∷ []) (made ++ made_in type trail token) places later) (sym (append-nil back)) passed)
+
+  -- it has what is asked for
+  pub fits_leads : (t : ℕ) → t < no_type → Adds old t said left new → Takes back table made (trail_in old.way) (of_type t) token (opened_places (length made) (trail_in old.way) left)
+      → PassedBut back table tokens made (record { asks = Some (of_type t); trail = trail_in old.way } ∷ way_places old.way) missed → LeadsTo back table tokens made token new
+  fits_leads t some adds takes passed =
+      let trail = trail_in old.way in
+      let next = opened_places (length made) trail left in
+      let places : way_places new.way ≡ next ++ way_places old.way = adds.places ∙ ap (λ n. opened_places n trail left ++ way_places old.way) many_made in
+      record {
+        more = [];
+        type = Some t;
+        trail = trail;
+        missed = missed;
+        passed = passed_after (Some t) trail (next ++ way_places old.way) missed (fitting tokens made (of_type t) trail (way_places old.way) next missed token passed takes) places;
+        held = held_after t (Some t) trail missed adds refl (λ u same. subst (λ v. v < no_type) (same_Some t u same) some) (subst (λ (found : Option Found). AreMissedAt found missed) (sym adds.found) held.found);
+      }
+
+  -- nothing is asked of it
+  pub below_leads : Adds old no_type said left new → unasked_in left token → PassedBut back table tokens made (unasked_place ∷ way_places old.way) missed → LeadsTo back table tokens made token new
+  below_leads adds fields passed =
+      let places : way_places new.way ≡ unasked token ++ way_places old.way = adds.places ∙ ap (λ ps. ps ++ way_places old.way) (fields (length old.types.items) (trail_in old.way)) in
+      record {
+        more = [];
+        type = None;
+        trail = [];
+        missed = missed;
+        passed = passed_after None [] (unasked token ++ way_places old.way) missed (below tokens made [] (way_places old.way) missed token passed) places;
+        held = held_after no_type None [] missed adds refl (λ u same. absurd (none-some u same)) (subst (λ (found : Option Found). AreMissedAt found missed) (sym adds.found) held.found);
+      }
+
+-- it does not have what is asked for, and is the first that does not
+pub miss_leads :
+    (table : Table) (back : List ℕ) (tokens : List Token) (made : List Made) (missed : List Missed) (token : Token) → IsToken token → (old middle new : Finding) (said : Said) (left : Left) → IsSaid said token → IsHeld back made missed old
+    → (t : ℕ) (found : Found) → old.found ≡ None → middle.found ≡ Some found → found.links.items ≡ old.way.links.items → found.ty ≡ t → found.said ≡ said
+    → middle.way ≡ old.way → middle.types ≡ old.types → middle.again ≡ old.again → Adds middle no_type said left new → unasked_in left token → Misses table t token
+    → PassedBut back table tokens made (record { asks = Some (of_type t); trail = trail_in old.way } ∷ way_places old.way) missed → LeadsTo back table tokens made token new
+miss_leads table back tokens made missed token is old middle new said left its held t found none' some links type says way types again adds fields misses passed =
+    let trail = trail_in old.way in
+    let one : Missed = record { trail = trail; type = t; token = token } in
+    let first : missed ≡ [] = subst (λ (f : Option Found). AreMissedAt f missed) none' held.found in
+    let at : IsMissedAt found one = record { trail = sym (ap trail_of links); type = sym type; said = subst (λ s. IsSaid s token) (sym says) its } in
+    let later : missed ++ one ∷ [] ≡ one ∷ [] = ap (λ ms. ms ++ one ∷ []) first in
+    let found_after : AreMissedAt new.found (missed ++ one ∷ []) = subst (λ (f : Option Found). AreMissedAt f (missed ++ one ∷ [])) (sym (adds.found ∙ some)) (one, later, at) in
+    let types_held : AreTypes middle.types.items made = subst (λ (v : Vec ℕ). AreTypes v.items made) (sym types) held.types in
+    let marks_held : AreMarked back made middle.again.marks.items = subst (λ (a : Again). AreMarked back made a.marks.items) (sym again) held.marked in
+    let places : way_places new.way ≡ unasked token ++ way_places old.way =
+    adds.places ∙ ap (λ ps. ps ++ way_places middle.way) (fields (length middle.types.items) (trail_in middle.way)) ∙ ap (λ (w : Way). unasked token ++ way_places w) way in
+    record {
+      more = [];
+      type = None;
+      trail = trail;
+      missed = missed ++ one ∷ [];
+      passed = subst (λ (ps : List Place). PassedBut (back ++ []) table (tokens ++ token ∷ []) (made ++ made_in None trail token) ps (missed ++ one ∷ [])) (sym places)
+          (subst (λ bs. PassedBut bs table (tokens ++ token ∷ []) (made ++ made_in None trail token) (unasked token ++ way_places old.way) (missed ++ one ∷ [])) (sym (append-nil back))
+          (missing tokens made t trail (way_places old.way) missed token passed misses));
+      held = record {
+        is_way = adds.is_way;
+        types = types_after made None trail token is middle.types.items new.types.items types_held (adds.types token its) (λ u same. absurd (none-some u same));
+        marked = marked_after made None trail token is back middle.again.marks.items new.again.marks.items marks_held (adds.marks token its);
+        found = found_after;
+      };
+    }
+
+-- ---- what is added
+
+-- no object is made
+pub adds_none : (old : Finding) (type : ℕ) (said : Said) (left : Left) → IsWay old.way → HasRoom said left → ((token : Token) → IsSaid said token → measure_of token ≡ None) → Adds old type said left old
+adds_none old type said left is room none =
+    let some = some_token said in
+    let no_object : (token : Token) → IsSaid said token → made_by token ≡ 0 = λ token its. ap (of_object (λ _. 1)) (none token its) in
+    let no_left : left_values left ≡ 0 = room some.0 some.1 (no_object some.0 some.1) in
+    record {
+      is_way = is;
+      places = sym (ap (λ ps. ps ++ way_places old.way) (none_opened (length old.types.items) (trail_in old.way) left no_left));
+      found = refl;
+      types = λ token its. sym (ap (λ n. old.types.items ++ replicate n type) (no_object token its) ∙ append-nil old.types.items);
+      marks = λ token its. sym (ap (λ n. old.again.marks.items ++ replicate n false) (no_object token its) ∙ append-nil old.again.marks.items);
+      w32 = λ token its. let plain : of_object words32 (measure_of token) ≡ 0 = ap (of_object words32) (none token its) in omega (arith, plain);
+      w64 = λ token its. let plain : of_object words64 (measure_of token) ≡ 0 = ap (of_object words64) (none token its) in omega (arith, plain);
+    }
+
+-- one object is made
+pub adds_one :
+    (old new : Finding) (type : ℕ) (said : Said) (left : Left) (measure : Measure) → ((token : Token) → IsSaid said token → measure_of token ≡ Some measure)
+    → IsWay new.way → way_places new.way ≡ opened_places (length old.types.items) (trail_in old.way) left ++ way_places old.way
+    → new.found ≡ old.found → new.types.items ≡ old.types.items ++ type ∷ [] → new.again.marks.items ≡ old.again.marks.items ++ false ∷ [] → Spends old.words measure new.words → Adds old type said left new
+adds_one old new type said left measure is way places found types marks spends =
+    let one : (token : Token) → IsSaid said token → made_by token ≡ 1 = λ token its. ap (of_object (λ _. 1)) (is token its) in
+    record {
+      is_way = way;
+      places = places;
+      found = found;
+      types = λ token its. types ∙ ap (λ n. old.types.items ++ replicate n type) (sym (one token its));
+      marks = λ token its. marks ∙ ap (λ n. old.again.marks.items ++ replicate n false) (sym (one token its));
+      w32 = λ token its. let own : of_object words32 (measure_of token) ≡ words32 measure = ap (of_object words32) (is token its) in let left' = spends.w32 in omega (arith, own, left');
+      w64 = λ token its. let own : of_object words64 (measure_of token) ≡ words64 measure = ap (of_object words64) (is token its) in let left' = spends.w64 in omega (arith, own, left');
+    }
+
+-- the fields of which nothing is asked
+fields_unasked : (said : Said) (token : Token) → IsSaid said token → unasked_in (lefts.Unasked (said_fields said)) token
+fields_unasked (sayings.Integer z) token its object trail = ap unasked (sym its)
+fields_unasked (sayings.Atom tag) token its object trail = ap unasked (sym its)
+fields_unasked (sayings.Shared offset) token its object trail = ap unasked (sym its)
+fields_unasked (sayings.Block tag size) token its object trail = ap unasked (sym its)
+fields_unasked (sayings.Bytes m) token its object trail = ap unasked (sym its.2)
+fields_unasked sayings.Double token its object trail = ap unasked (sym its.1)
+fields_unasked (sayings.Doubles m) token its object trail = ap unasked (sym its.2)
+fields_unasked (sayings.Custom kind) token its object trail = ap unasked (sym its.1)
+
+pub unasked_fields : (said : Said) (n : ℕ) → n ≡ said_fields said → (token : Token) → IsSaid said token → unasked_in (lefts.Unasked n) token
+unasked_fields said n is token its object trail = ap (λ k. replicate k unasked_place) is ∙ fields_unasked said token its object trail
+
+fields_none : (said : Said) (token : Token) → IsSaid said token → made_by token ≡ 0 → said_fields said ≡ 0
+fields_none (sayings.Integer z) token its none = refl
+fields_none (sayings.Atom tag) token its none = refl
+fields_none (sayings.Shared offset) token its none = refl
+fields_none (sayings.Block tag size) token its none = let one : made_by token ≡ 1 = ap made_by its in absurd (omega (arith, one, none))
+fields_none (sayings.Bytes m) token its none = refl
+fields_none sayings.Double token its none = refl
+fields_none (sayings.Doubles m) token its none = refl
+fields_none (sayings.Custom kind) token its none = refl
+
+pub unasked_room : (said : Said) (n : ℕ) → n ≡ said_fields said → HasRoom said (lefts.Unasked n)
+unasked_room said n is token its none = is ∙ fields_none said token its none
+
+-- ---- a token in each place
+
+abbrev May : ℕ → ℕ → Token → Type 0
+May n stated token = RefersBack token n × (stated ≡ 0 → IsNoReference token)
+
+-- what is no reference may come anywhere
+refers_by : (said : Said) (n stated : ℕ) → IsNoBack said → (token : Token) → IsSaid said token → May n stated token
+refers_by (sayings.Integer z) n stated plain token its = subst (May n stated) (sym its) (tt, λ _. tt)
+refers_by (sayings.Atom tag) n stated plain token its = subst (May n stated) (sym its) (tt, λ _. tt)
+refers_by (sayings.Shared offset) n stated plain token its = absurd plain
+refers_by (sayings.Block tag size) n stated plain token its = subst (May n stated) (sym its) (tt, λ _. tt)
+refers_by (sayings.Bytes m) n stated plain token its = subst (May n stated) (sym its.2) (tt, λ _. tt)
+refers_by sayings.Double n stated plain token its = subst (May n stated) (sym its.1) (tt, λ _. tt)
+refers_by (sayings.Doubles m) n stated plain token its = subst (May n stated) (sym its.2) (tt, λ _. tt)
+refers_by (sayings.Custom kind) n stated plain token its = subst (May n stated) (sym its.1) (tt, λ _. tt)
+
+-- what is not said to be a reference is none
+pub no_back_said : (said : Said) → ((offset : ℕ) → said ≡ sayings.Shared offset → ⊥) → IsNoBack said
+no_back_said (sayings.Integer z) plain = tt
+no_back_said (sayings.Atom tag) plain = tt
+no_back_said (sayings.Shared offset) plain = plain offset refl
+no_back_said (sayings.Block tag size) plain = tt
+no_back_said (sayings.Bytes m) plain = tt
+no_back_said sayings.Double plain = tt
+no_back_said (sayings.Doubles m) plain = tt
+no_back_said (sayings.Custom kind) plain = tt
+
+pub none_found : (found : Option Found) → is_some found ≡ false → found ≡ None
+none_found None none = refl
+none_found (Some found) none = absurd (cc)
+
+pub comes_fits :
+    (table : Table) (stated : ℕ) (old new : Finding) (t : ℕ) (said : Said) (left : Left) → t < no_type → IsNoBack said
+    → ((token : Token) → IsSaid said token → (back : List ℕ) (made : List Made) (trail : List (ℕ × ℕ)) → Takes back table made trail (of_type t) token (opened_places (length made) trail left))
+    → Adds old t said left new → Comes table stated old (asks.Type t) said new
+comes_fits table stated old new t said left some plain takes adds = record {
+  leads = λ back tokens made missed token is its held passed.
+      fits_leads table back tokens made missed token is old new said left its held t some adds (takes token its back made (trail_in old.way)) passed;
+  refers = λ token its. refers_by said (length old.types.items) stated plain token its;
+  w32 = adds.w32;
+  w64 = adds.w64;
+}
+
+pub comes_below :
+    (table : Table) (stated : ℕ) (old new : Finding) (said : Said) (left : Left) → ((token : Token) → IsSaid said token → May (length old.types.items) stated token) → ((token : Token) → IsSaid said token → unasked_in left token)
+    → Adds old no_type said left new → Comes table stated old asks.Nothing said new
+comes_below table stated old new said left refers fields adds = record {
+  leads = λ back tokens made missed token is its held passed.
+      below_leads table back tokens made missed token is old new said left its held adds (fields token its) passed;
+  refers = refers;
+  w32 = adds.w32;
+  w64 = adds.w64;
+}
+
+-- a reference in a place of which nothing is asked
+pub comes_below_back :
+    (table : Table) (stated : ℕ) (old : Finding) (said : Said) (offset : ℕ) → IsWay old.way → said ≡ sayings.Shared offset → 0 < stated → 1 ≤ offset → offset ≤ length old.types.items → Comes table stated old asks.Nothing said old
+comes_below_back table stated old said offset is same some first few =
+    subst (λ s. Comes table stated old asks.Nothing s old) (sym same)
+    (comes_below table stated old old (sayings.Shared offset) (lefts.Unasked 0)
+    (λ token its. subst (May (length old.types.items) stated) (sym its) ((first, few), λ none. absurd (omega (arith, some, none))))
+    (λ token its object trail. ap unasked (sym its))
+    (adds_none old no_type (sayings.Shared offset) (lefts.Unasked 0) is (λ token its none. refl) (λ token its. ap measure_of its)))
+
+pub comes_below_other :
+    (table : Table) (stated : ℕ) (old new : Finding) (said : Said) (left : Left) → IsNoBack said → ((token : Token) → IsSaid said token → unasked_in left token)
+    → Adds old no_type said left new → Comes table stated old asks.Nothing said new
+comes_below_other table stated old new said left plain fields adds =
+    comes_below table stated old new said left (refers_by said (length old.types.items) stated plain) fields adds
+
+pub comes_miss :
+    (table : Table) (stated : ℕ) (old middle new : Finding) (t : ℕ) (said : Said) (left : Left) (found : Found) → ((token : Token) → IsSaid said token → Misses table t token) → old.found ≡ None → middle.found ≡ Some found
+    → found.links.items ≡ old.way.links.items → found.ty ≡ t → found.said ≡ said → middle.way ≡ old.way → middle.types ≡ old.types → middle.again ≡ old.again → middle.words ≡ old.words
+    → ((token : Token) → IsSaid said token → unasked_in left token) → Adds middle no_type said left new → Comes table stated old (asks.Type t) said new
+comes_miss table stated old middle new t said left found misses none some links type says way types again words fields adds = record {
+  leads = λ back tokens made missed token is its held passed.
+      miss_leads table back tokens made missed token is old middle new said left its held t found none some links type says way types again adds (fields token its) (misses token its) passed;
+  refers = refers_by said (length old.types.items) stated (no_back said misses);
+  w32 = λ token its. adds.w32 token its ∙ ap (λ (w : Words). w.w32) words;
+  w64 = λ token its. adds.w64 token its ∙ ap (λ (w : Words). w.w64) words;
+} where
+  -- a reference is no misfit
+  no_back : (s : Said) → ((token : Token) → IsSaid s token → Misses table t token) → IsNoBack s
+  no_back (sayings.Integer z) each = tt
+  no_back (sayings.Atom tag) each = tt
+  no_back (sayings.Shared offset) each = each (shared offset) refl
+  no_back (sayings.Block tag size) each = tt
+  no_back (sayings.Bytes m) each = tt
+  no_back sayings.Double each = tt
+  no_back (sayings.Doubles m) each = tt
+  no_back (sayings.Custom kind) each = tt
+
+-- ---- no object is made, and no place is opened but what is asked for next
+
+held_kept : (back : List ℕ) (made : List Made) (missed : List Missed) (old new : Finding) → IsHeld back made missed old → IsWay new.way → new.types ≡ old.types → new.again ≡ old.again → new.found ≡ old.found → IsHeld (back ++ []) (made ++ []) missed new
+held_kept back made missed old new held is types again found =
+    let same_back : back ≡ back ++ [] = sym (append-nil back) in
+    let same_made : made ≡ made ++ [] = sym (append-nil made) in
+    let marked : AreMarked back made new.again.marks.items = subst (λ (a : Again). AreMarked back made a.marks.items) (sym again) held.marked in
+    record {
+      is_way = is;
+      types = subst (AreTypes new.types.items) same_made (subst (λ (v : Vec ℕ). AreTypes v.items made) (sym types) held.types);
+      marked = subst (λ bs. AreMarked bs (made ++ []) new.again.marks.items) same_back (subst (λ ms. AreMarked back ms new.again.marks.items) same_made marked);
+      found = subst (λ f. AreMissedAt f missed) (sym found) held.found;
+    }
+
+-- the hash of a tag
+pub comes_hash :
+    (table : Table) (stated : ℕ) (old new : Finding) (tags : Bor (List (PolyTag ℕ))) (said : Said) (z : ℤ) (tag : PolyTag ℕ) (t : ℕ) → said ≡ sayings.Integer z → tag_with tags.now z ≡ Some tag → tag.arg ≡ Some t
+    → IsWay new.way → way_places new.way ≡ place_of (asks.Type t) (field_after (trail_in old.way)) ∷ way_places old.way → new.types ≡ old.types → new.again ≡ old.again → new.words ≡ old.words → new.found ≡ old.found
+    → Comes table stated old (asks.Hash tags) said new
+comes_hash table stated old new tags said z tag t same has_hash has_argument is places types again words found =
+    subst (λ s. Comes table stated old (asks.Hash tags) s new) (sym same) record {
+      leads = λ back tokens made missed token is_token its held passed.
+          subst (λ u. LeadsTo back table tokens made u new) (sym its) (leads back tokens made missed held passed);
+      refers = refers_by (sayings.Integer z) (length old.types.items) stated tt;
+      w32 = λ token its. let none : of_object words32 (measure_of token) ≡ 0 = ap (λ u. of_object words32 (measure_of u)) its in let kept = ap (λ (w : Words). w.w32) words in omega (arith, none, kept);
+      w64 = λ token its. let none : of_object words64 (measure_of token) ≡ 0 = ap (λ u. of_object words64 (measure_of u)) its in let kept = ap (λ (w : Words). w.w64) words in omega (arith, none, kept);
+    } where
+      leads : (back : List ℕ) (tokens : List Token) (made : List Made) (missed : List Missed) → IsHeld back made missed old → PassedBut back table tokens made (record { asks = Some (hash_of tags.now); trail = trail_in old.way } ∷ way_places old.way) missed → LeadsTo back table tokens made (integer z) new
+      leads back tokens made missed held passed =
+          let next : List Place = record { asks = Some (of_type t); trail = field_after (trail_in old.way) } ∷ [] in
+          let tagged : IsTaggedBut tags.now z (trail_in old.way) next = record { tag = tag; has_hash = has_hash; type = t; has_argument = has_argument; argument = refl } in
+          let further = fitting tokens made (hash_of tags.now) (trail_in old.way) (way_places old.way) next missed (integer z) passed tagged in
+          record {
+            more = [];
+            type = None;
+            trail = [];
+            missed = missed;
+            passed = subst (λ ps. PassedBut (back ++ []) table (tokens ++ integer z ∷ []) (made ++ []) ps missed) (sym places)
+                (subst (λ bs. PassedBut bs table (tokens ++ integer z ∷ []) (made ++ []) (next ++ way_places old.way) missed) (sym (append-nil back)) further);
+            held = held_kept back made missed old new held is types again found;
+          }
+
+-- ---- a reference
+
+module _ (table : Table) (stated : ℕ) (old : Finding) (t offset : ℕ) (is : IsWay old.way) (some : 0 < stated) (first : 1 ≤ offset) (few : offset ≤ length old.types.items) where
+  refers_back : (token : Token) → IsSaid (sayings.Shared offset) token → May (length old.types.items) stated token
+  refers_back token its = subst (May (length old.types.items) stated) (sym its) ((first, few), λ none. absurd (omega (arith, some, none)))
+
+  -- where nothing is asked of what it leads to
+  pub comes_hidden : IsHidden table t → Comes table stated old (asks.Type t) (sayings.Shared offset) old
+  comes_hidden hidden = record {
+    leads = λ back tokens made missed token is_token its held passed.
+        subst (λ u. LeadsTo back table tokens made u old) (sym its) (leads back tokens made missed held passed);
+    refers = refers_back;
+    w32 = λ token its. let none : of_object words32 (measure_of token) ≡ 0 = ap (λ u. of_object words32 (measure_of u)) its in omega (arith, none);
+    w64 = λ token its. let none : of_object words64 (measure_of token) ≡ 0 = ap (λ u. of_object words64 (measure_of u)) its in omega (arith, none);
+  } where
+    leads : (back : List ℕ) (tokens : List Token) (made : List Made) (missed : List Missed) → IsHeld back made missed old → PassedBut back table tokens made (record { asks = Some (of_type t); trail = trail_in old.way } ∷ way_places old.way) missed → LeadsTo back table tokens made (shared offset) old
+    leads back tokens made missed held passed =
+        let further = fitting tokens made (of_type t) (trail_in old.way) (way_places old.way) [] missed (shared offset) passed (inl hidden, refl) in
+        record {
+          more = [];
+          type = None;
+          trail = [];
+          missed = missed;
+          passed = subst (λ bs. PassedBut bs table (tokens ++ shared offset ∷ []) (made ++ []) (way_places old.way) missed) (sym (append-nil back)) further;
+          held = held_kept back made missed old old held is refl refl refl;
+        }
+
+-- the type of an object that has one
+type_there : (made : List Made) (o n : ℕ) → slice_get (map held_type made) o ≡ Some n → (n ≡ no_type → ⊥) → (trail : List (ℕ × ℕ)) × (slice_get made o ≡ Some record { type = Some n; trail = trail })
+type_there [] o n at some = absurd (none-some n at)
+type_there (object ∷ made) zero n at some = (object.trail, by object.type refl) where
+  by : (type : Option ℕ) → object.type ≡ type → Some object ≡ Some record { type = Some n; trail = object.trail }
+  by None none = absurd (some (sym (same_Some (held_type object) n at) ∙ ap type_or_none none))
+  by (Some u) is =
+      let same : u ≡ n = sym (ap type_or_none is) ∙ same_Some (held_type object) n at in
+      ap (λ type. Some record { type = type; trail = object.trail }) (is ∙ ap Some same)
+type_there (object ∷ made) (suc o) n at some = type_there made o n at some
+
+marks_kept : (marks : List Bool) (o p : ℕ) → slice_get marks p ≡ Some true → slice_get (set marks o true) p ≡ Some true
+marks_kept [] o p at = at
+marks_kept (mark ∷ marks) zero zero at = refl
+marks_kept (mark ∷ marks) zero (suc p) at = at
+marks_kept (mark ∷ marks) (suc o) zero at = at
+marks_kept (mark ∷ marks) (suc o) (suc p) at = marks_kept marks o p at
+
+mark_there : (marks : List Bool) (o : ℕ) → o < length marks → slice_get (set marks o true) o ≡ Some true
+mark_there [] o short = absurd (omega (arith, short))
+mark_there (mark ∷ marks) zero short = refl
+mark_there (mark ∷ marks) (suc o) short = mark_there marks o (omega (arith, short))
+
+-- one object more is led back to
+marked_more : (back : List ℕ) (made : List Made) (marks new : List Bool) (o : ℕ) → AreMarked back made marks → o < length marks → new ≡ set marks o true → AreMarked (back ++ o ∷ []) made new
+marked_more back made marks new o are short is = (
+  (let long = are.0 in let same = ap length is in let kept = length-set marks o true in omega (arith, long, same, kept)),
+  (λ p among.
+      subst (λ ms. slice_get ms p ≡ Some true) (sym is)
+      (⊎_elim
+      (λ before. marks_kept marks o p (are.1 p before))
+      (λ last.
+      let own : o ≡ p = ⊎_elim (λ same. same) (λ none. absurd (Contains-none {X = ℕ} p none)) (Contains-cases {X = ℕ} o [] p last) in
+      subst (λ q. slice_get (set marks o true) q ≡ Some true) own (mark_there marks o short))
+      (Contains-append_cases back (o ∷ []) p among))),
+)
+
+-- where it leads to an object of an equal type, which is marked
+pub comes_led :
+    (table : Table) (stated : ℕ) (old new : Finding) (t offset object own : ℕ) → IsWay old.way → 0 < stated → 1 ≤ offset → offset ≤ length old.types.items
+    → object ≡ length old.types.items - offset → slice_get old.types.items object ≡ Some own → (own ≡ no_type → ⊥) → (table_shapes table).equal own t
+    → length old.again.marks.items ≡ length old.types.items → new.again.marks.items ≡ set old.again.marks.items object true
+    → new.way ≡ old.way → new.types ≡ old.types → new.words ≡ old.words → new.found ≡ old.found → Comes table stated old (asks.Type t) (sayings.Shared offset) new
+comes_led table stated old new t offset object own is some first few its_object at typed equal many marks way types words found = record {
+  leads = λ back tokens made missed token is_token its held passed.
+      subst (λ u. LeadsTo back table tokens made u new) (sym its) (leads back tokens made missed held passed);
+  refers = refers_back table stated old t offset is some first few;
+  w32 = λ token its. let none : of_object words32 (measure_of token) ≡ 0 = ap (λ u. of_object words32 (measure_of u)) its in let kept = ap (λ (w : Words). w.w32) words in omega (arith, none, kept);
+  w64 = λ token its. let none : of_object words64 (measure_of token) ≡ 0 = ap (λ u. of_object words64 (measure_of u)) its in let kept = ap (λ (w : Words). w.w64) words in omega (arith, none, kept);
+} where
+  leads : (back : List ℕ) (tokens : List Token) (made : List Made) (missed : List Missed) → IsHeld back made missed old → PassedBut back table tokens made (record { asks = Some (of_type t); trail = trail_in old.way } ∷ way_places old.way) missed → LeadsTo back table tokens made (shared offset) new
+  leads back tokens made missed held passed =
+      let same_many : length old.types.items ≡ length made = many_held old.types.items made held.types in
+      let there = type_there made object own (ap (λ ts. slice_get ts object) (sym held.types.0) ∙ at) typed in
+      let from : object ≡ length made - offset = its_object ∙ ap (λ n. n - offset) same_many in
+      let noted : Contains (back ++ object ∷ []) object = Contains-append_right back (object ∷ []) object (Contains-first {X = ℕ} object []) in
+      let led : IsLedBack (back ++ object ∷ []) table made t offset = record {
+        some = first;
+        few = omega (arith, few, same_many);
+        type = own;
+        trail = there.0;
+        at = subst (λ o. slice_get made o ≡ Some record { type = Some own; trail = there.0 }) from there.1;
+        equal = equal;
+        noted = subst (Contains (back ++ object ∷ [])) from noted;
+      } in
+      let before = back_more table back (object ∷ []) tokens made (record { asks = Some (of_type t); trail = trail_in old.way } ∷ way_places old.way) missed passed in
+      let further = fitting tokens made (of_type t) (trail_in old.way) (way_places old.way) [] missed (shared offset) before (inr led, refl) in
+      let marked : AreMarked (back ++ object ∷ []) made new.again.marks.items =
+      marked_more back made old.again.marks.items new.again.marks.items object held.marked (omega (arith, first, few, many, its_object)) marks in
+      record {
+        more = object ∷ [];
+        type = None;
+        trail = [];
+        missed = missed;
+        passed = subst (λ (w : Way). PassedBut (back ++ object ∷ []) table (tokens ++ shared offset ∷ []) (made ++ []) (way_places w) missed) (sym way) further;
+        held = record {
+          is_way = subst IsWay (sym way) is;
+          types = subst (AreTypes new.types.items) (sym (append-nil made)) (subst (λ (v : Vec ℕ). AreTypes v.items made) (sym types) held.types);
+          marked = subst (λ ms. AreMarked (back ++ object ∷ []) ms new.again.marks.items) (sym (append-nil made)) marked;
+          found = subst (λ f. AreMissedAt f missed) (sym found) held.found;
+        };
+      }

@@ -1,0 +1,198 @@
+-- From the header through the tokens to the misfit.
+use Rattle.std.proofs.Common.{ℕ, ◌+◌, ◌<◌, ◌≤◌, ◌≡◌, ◌∙◌, ◌⊎◌, Bool, true, false, List, [], ◌∷◌, ◌++◌, length, take, drop, map, Option, Some, refl, sym, ap, subst, subst₂, arith}
+use Rattle.std.specs.Prelude.{slice_get, Contains, All}
+use Rattle.std.specs.Global.{Vec}
+use Rattle.std.specs.List.{concat}
+use Rattle.std.proofs.lemmas.List.{length-take-le, length-append, length-drop, take-append-le}
+use Rattle.std.proofs.lemmas.List.Elements.{All-nil, All-head, All-tail, All-push}
+use Rattle.std.proofs.lemmas.Option.{none-some}
+use Rattle.om_model.proofs.Options.{Contains-none}
+use Rattle.om_model.specs.declared.header.Head.{Head}
+use Rattle.om_types.specs.Table.{Table, table_shapes}
+use Rattle.om_types.specs.Lawful.{AreLawful, Everything}
+use Rattle.om_format.specs.Words.{all_words32, all_words64}
+use Rattle.om_format.specs.Header.{magic, small_magic, big_magic, header_length, head_of}
+use Rattle.om_format.specs.Token.{measure_of}
+use Rattle.om_format.specs.Tree.{RefersBack}
+use Rattle.om_format.proofs.TokenStepLemmas.{magic-take, header_length-take, header_length-from, head_of-take}
+use Rattle.om_misfit_law.specs.PassedBut.{Place, Made, Missed, made_in, values_at}
+use Rattle.om_misfit_law.specs.MissedFront.{IsPassingBut}
+use Rattle.om_misfit_law.proofs.StatedLemmas.{one_missed_fronts, but_start, but_further}
+use Rattle.om_pass.specs.declared.words.Words.{Words}
+use Rattle.om_pass.specs.State.{BeginsAs, stated32}
+use Rattle.om_pass.proofs.RunLemmas.{words32_push, words64_push, words32_stated, start_from}
+use Rattle.om_misfit.specs.declared.again.Again.{Again}
+use Rattle.om_misfit.specs.declared.misfit.Found.{Found}
+use Rattle.om_misfit.specs.declared.misfit.Finding.{Finding}
+use Rattle.om_misfit.specs.declared.said.Said.{Said}
+use Rattle.om_misfit.specs.declared.way.Asked.{Asked}
+use Rattle.om_misfit.specs.declared.way.Link.{Link}
+use Rattle.om_misfit.specs.Judge.{IsSaidBy}
+use Rattle.om_misfit.specs.declared.way.Way.{Way}
+use Rattle.om_misfit.specs.Way.{trail_of, trail_in, place_of, way_places, left_values, IsWay}
+use Rattle.om_misfit.specs.Find.{AreTypes, AreMarked, IsAlone, IsMissedAt, AreMissedAt, Finds, Begins, Comes, Ends, IsFound}
+use Rattle.om_misfit.proofs.ComesLemmas.{many_held}
+use Rattle.om_misfit.proofs.WayLemmas.{way_many}
+
+-- ---- the header
+
+pub finds_start :
+    (table : Table) (limit : ℕ) (bytes : List ℕ) (head : Head) (start : ℕ) (finding : Finding) → BeginsAs limit bytes head → ((head.big ≡ true) × (start ≡ 32)) ⊎ ((head.big ≡ false) × (start ≡ 20)) → Begins head finding
+    → Finds table limit bytes head start start [] finding
+finds_start table limit bytes head start finding b by begins =
+    let start' : start ≡ header_length bytes = start_from limit bytes head start b by in
+    let from = header_length-from bytes in
+    let within' : start ≤ length bytes = let whole = b.whole in omega (arith, start', whole) in
+    let long : length (take start bytes) ≡ start = length-take-le start bytes within' in
+    let same_magic : magic (take start bytes) ≡ magic bytes = magic-take start bytes (let least = from.0 in omega (arith, least, start')) in
+    let same_length : header_length (take start bytes) ≡ header_length bytes = header_length-take start bytes (let least = from.0 in omega (arith, least, start')) in
+    let same_head : head_of (take start bytes) ≡ head = head_of-take start bytes (omega (arith, start')) ∙ sym b.head_is in
+    let w32' = begins.w32 in
+    let w64' = begins.w64 in
+    record {
+      tokens = [];
+      back = [];
+      made = [];
+      missed = [];
+      passing = subst (λ ps. IsPassingBut [] table limit bytes head start start [] [] ps []) (sym begins.places)
+          (but_start table limit bytes head start within' (record { magic_is = subst (λ m. (m ≡ small_magic) ⊎ (m ≡ big_magic)) (sym same_magic) b.magic_is; whole = long ∙ start' ∙ sym same_length }) same_head long b.words b.small);
+      held = record {
+        is_way = begins.is_way;
+        types = (begins.types, λ o t trail at. let object : Made = record { type = Some t; trail = trail } in absurd (none-some object at));
+        marked = (ap length begins.marks, λ o among. absurd (Contains-none {X = ℕ} o among));
+        found = subst (λ f. AreMissedAt f []) (sym begins.found) refl;
+      };
+      w32 = omega (arith, w32');
+      w64 = omega (arith, w64');
+    }
+
+-- the header comes first
+pub finds_from : (table : Table) (limit : ℕ) (bytes : List ℕ) (head : Head) (start n : ℕ) (taken : List Place) (finding : Finding) → Finds table limit bytes head start n taken finding → start ≤ n
+finds_from table limit bytes head start n taken finding f =
+    let p = f.passing in
+    let front = length-take-le n bytes p.within in
+    let both = length-append p.header (concat p.pieces) in
+    let same = ap length p.taken in
+    let begins = p.begins in
+    omega (arith, front, both, same, begins)
+
+-- ---- the way goes on
+
+-- what is taken and what is open are the same places, and nothing else has changed
+pub finds_moved :
+    (table : Table) (limit : ℕ) (bytes : List ℕ) (head : Head) (start n : ℕ) (taken taken' : List Place) (old new : Finding) → Finds table limit bytes head start n taken old → IsWay new.way → taken ++ way_places old.way ≡ taken' ++ way_places new.way
+    → new.types ≡ old.types → new.again ≡ old.again → new.words ≡ old.words → new.found ≡ old.found → Finds table limit bytes head start n taken' new
+finds_moved table limit bytes head start n taken taken' old new f is places types again words found = record {
+  tokens = f.tokens;
+  back = f.back;
+  made = f.made;
+  missed = f.missed;
+  passing = subst (λ ps. IsPassingBut f.back table limit bytes head start n f.tokens f.made ps f.missed) places f.passing;
+  held = record {
+    is_way = is;
+    types = subst (λ (v : Vec ℕ). AreTypes v.items f.made) (sym types) f.held.types;
+    marked = subst (λ (a : Again). AreMarked f.back f.made a.marks.items) (sym again) f.held.marked;
+    found = subst (λ o. AreMissedAt o f.missed) (sym found) f.held.found;
+  };
+  w32 = subst (λ (w : Words). w.w32 + all_words32 (map measure_of f.tokens) ≡ stated32 head) (sym words) f.w32;
+  w64 = subst (λ (w : Words). w.w64 + all_words64 (map measure_of f.tokens) ≡ head.w64) (sym words) f.w64;
+}
+
+-- more bytes change nothing
+pub finds_longer :
+    (table : Table) (limit : ℕ) (bytes more : List ℕ) (head : Head) (start n : ℕ) (taken : List Place) (finding : Finding) → Finds table limit bytes head start n taken finding → Finds table limit (bytes ++ more) head start n taken finding
+finds_longer table limit bytes more head start n taken finding f =
+    let p = f.passing in
+    let within' = p.within in
+    let long = length-append bytes more in
+    let same : take n bytes ≡ take n (bytes ++ more) = sym (take-append-le n bytes more within') in
+    record {
+      tokens = f.tokens;
+      back = f.back;
+      made = f.made;
+      missed = f.missed;
+      passing = record {
+        header = p.header;
+        pieces = p.pieces;
+        within = omega (arith, within', long);
+        is_header = p.is_header;
+        head_is = p.head_is;
+        begins = p.begins;
+        taken = sym same ∙ p.taken;
+        spells = p.spells;
+        refer_back = p.refer_back;
+        many = p.many;
+        unshared = p.unshared;
+        passed = p.passed;
+        words = p.words;
+        small = p.small;
+      };
+      held = f.held;
+      w32 = f.w32;
+      w64 = f.w64;
+    }
+
+-- a place is open where its block has one
+pub some_open : (way : Way) → 0 < left_values way.now.left → 0 < values_at (way_places way)
+some_open way some = let many = way_many way in omega (arith, many, some)
+
+pub marks_many : (table : Table) (limit : ℕ) (bytes : List ℕ) (head : Head) (start n : ℕ) (taken : List Place) (finding : Finding) → Finds table limit bytes head start n taken finding → length finding.again.marks.items ≡ length finding.types.items
+marks_many table limit bytes head start n taken finding f =
+    let types = many_held finding.types.items f.made f.held.types in f.held.marked.0 ∙ sym types
+
+-- ---- one token more
+
+pub finds_further :
+    (table : Table) (limit : ℕ) (bytes : List ℕ) (head : Head) (start n m : ℕ) (old new : Finding) (asked : Asked) (said : Said) → Finds table limit bytes head start n (place_of asked (trail_in old.way) ∷ []) old → IsSaidBy (drop n bytes) said m
+    → Comes table head.objects old asked said new → Finds table limit bytes head start (n + m) [] new
+finds_further table limit bytes head start n m old new asked said f by c =
+    let l = c.leads f.back f.tokens f.made f.missed by.token by.is_token by.is_said f.held f.passing.passed in
+    let within' : n + m ≤ length bytes = let here = f.passing.within in let there = by.within in let left = length-drop n bytes in omega (arith, here, there, left) in
+    let refers = c.refers by.token by.is_said in
+    let many : length old.types.items ≡ length f.made = many_held old.types.items f.made f.held.types in
+    record {
+      tokens = f.tokens ++ by.token ∷ [];
+      back = f.back ++ l.more;
+      made = f.made ++ made_in l.type l.trail by.token;
+      missed = l.missed;
+      passing = but_further f.back l.more table limit bytes head start n f.tokens f.made (place_of asked (trail_in old.way) ∷ way_places old.way) f.missed f.passing by.token m within' by.spells
+          (subst (RefersBack by.token) many refers.0) refers.1 l.type l.trail (way_places new.way) l.missed l.passed;
+      held = l.held;
+      w32 = let one = c.w32 by.token by.is_said in let before = f.w32 in let both = words32_push f.tokens by.token in omega (arith, one, before, both);
+      w64 = let one = c.w64 by.token by.is_said in let before = f.w64 in let both = words64_push f.tokens by.token in omega (arith, one, before, both);
+    }
+
+-- ---- the end
+
+-- nothing leads back to the blocks of links that are alone
+alone_links : (back : List ℕ) (marks : List Bool) → ((o : ℕ) → Contains back o → slice_get marks o ≡ Some true) → (links : List Link) → All (IsAlone marks) links → All (λ (link : ℕ × ℕ). ¬ Contains back link.0) (trail_of links)
+alone_links back marks each [] alone = All-nil (λ (link : ℕ × ℕ). ¬ Contains back link.0)
+alone_links back marks each (link ∷ links) alone =
+    All-push (λ (link : ℕ × ℕ). ¬ Contains back link.0) (trail_of links) (link.object, link.field)
+    (alone_links back marks each links (All-tail (IsAlone marks) link links alone))
+    (λ among. let marked = each link.object among in let lone = All-head (IsAlone marks) link links alone in absurd (cc))
+
+-- the one misfit
+one_missed : (found : Option Found) (its : Found) (missed : List Missed) → found ≡ Some its → AreMissedAt found missed → (one : Missed) × (missed ≡ one ∷ []) × IsMissedAt its one
+one_missed found its missed is are = subst (λ f. AreMissedAt f missed) is are
+
+pub found_end :
+    (table : Table) (limit : ℕ) (bytes : List ℕ) (head : Head) (start n : ℕ) (finding : Finding) (found : Found) → AreLawful (table_shapes table) Everything → Finds table limit bytes head start n [] finding → way_places finding.way ≡ []
+    → Ends head start n finding found → IsFound table limit n bytes found
+found_end table limit bytes head start n finding found lawful f none ends =
+    let one = one_missed finding.found found f.missed ends.its f.held.found in
+    let missed = one.0 in
+    let many : length finding.types.items ≡ length f.made = many_held finding.types.items f.made f.held.types in
+    record {
+      missed = missed;
+      front = one_missed_fronts table limit bytes head start n f.tokens f.back f.made missed lawful
+          (subst₂ (IsPassingBut f.back table limit bytes head start n f.tokens f.made) none one.1 f.passing)
+          (record {
+            whole = ends.spent.whole;
+            w32 = words32_stated head f.tokens finding.words.w32 head.big refl f.w32 ends.spent.w32;
+            w64 = let sum = f.w64 in let zero' = ends.spent.w64 in omega (arith, sum, zero');
+            count = subst (λ k. (head.objects ≡ 0) ⊎ (head.objects ≡ k)) many ends.spent.count;
+          })
+          (subst (All (λ (link : ℕ × ℕ). ¬ Contains f.back link.0)) (sym one.2.trail) (alone_links f.back finding.again.marks.items f.held.marked.1 found.links.items ends.alone));
+      at = one.2;
+    }

@@ -1,0 +1,27 @@
+use Rattle.std.proofs.Common.{sym, subst}
+use Rattle.om_type_table.specs.Made.{table_of}
+use Rattle.om_pass.proofs.Weaker.{taken_weaker, on_true_weaker}
+use Rattle.om_misfit.specs.Way.{IsAfterHash, OnHash}
+use Rattle.om_misfit.specs.Find.{Comes}
+use Rattle.om_misfit.proofs.misfit.Finding.come.Goals as goal
+
+pub hash-requires-clause-hash : goal.hash-requires-clause-hash
+hash-requires-clause-hash c = subst (λ asked. OnHash asked (IsAfterHash c.args.self.now.way)) c.in-Hash.is c.requires.hash
+
+pub returns-in-Type : goal.returns-in-Type
+returns-in-Type c =
+    taken_weaker c.typed.result
+    (λ comes. subst (λ asked. Comes (table_of c.args.table.now) c.args.stated c.args.self.now asked c.args.said c.typed.new.self) (sym c.in-Type.is) comes)
+    c.typed.ensures
+
+pub returns-in-Hash : goal.returns-in-Hash
+returns-in-Hash c =
+    on_true_weaker c.hash.result
+    (λ comes. subst (λ asked. Comes (table_of c.args.table.now) c.args.stated c.args.self.now asked c.args.said c.hash.new.self) (sym c.in-Hash.is) (comes (table_of c.args.table.now) c.args.stated))
+    c.hash.ensures
+
+pub returns-in-Nothing : goal.returns-in-Nothing
+returns-in-Nothing c =
+    taken_weaker c.below.result
+    (λ comes. subst (λ asked. Comes (table_of c.args.table.now) c.args.stated c.args.self.now asked c.args.said c.below.new.self) (sym c.in-Nothing.is) (comes (table_of c.args.table.now)))
+    c.below.ensures

@@ -1,0 +1,7 @@
+use Rattle.om_type_table.specs.Made.{table_of}
+use Rattle.om_misfit.specs.Find.{IsSought}
+use Rattle.om_misfit.proofs.misfit.Seeking.go.Given as goal
+
+-- the bytes up to here lead to what is held
+abbrev pub invariant-tokens : goal.invariant-tokens
+invariant-tokens l = IsSought (table_of l.table) l.limit l.bytes l.self

@@ -1,0 +1,9 @@
+use Rattle.std.proofs.Common.{◌∙◌, sym, refl}
+use Rattle.om_misfit.proofs.WayLemmas.{kept_none, kept_some}
+use Rattle.om_misfit.proofs.way.Way.keep.Goals as goal
+
+pub returns-then-left-eq0 : goal.returns-then-left-eq0
+returns-then-left-eq0 c = kept_none c.args.self.now c.requires (sym c.values_left-left.ensures ∙ c.if-left-eq0.true)
+
+pub returns : goal.returns
+returns c = kept_some c.args.self.now _ c.requires refl c.in_ok-push.ensures.items

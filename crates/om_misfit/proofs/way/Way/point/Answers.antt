@@ -1,0 +1,32 @@
+use Rattle.std.proofs.Common.{ℕ, suc, ◌-◌, ◌<◌, ◌≡◌, ◌∙◌, Some, length, refl, ap, arith}
+use Rattle.std.specs.Prelude.{slice_get}
+use Rattle.std.proofs.lemmas.List.{length-take-le}
+use Rattle.std.proofs.lemmas.Option.{slice_get_read}
+use Rattle.om_misfit.specs.declared.way.Link.{Link}
+use Rattle.om_misfit.proofs.WayLemmas.{points_root, points_at}
+use Rattle.om_misfit.proofs.way.Way.point.Goals as goal
+
+pub returns-then-depth-eq0 : goal.returns-then-depth-eq0
+returns-then-depth-eq0 c = record {
+  now = refl;
+  waiting = refl;
+  links = points_root c.args.self.now.links.items c.truncate.new.self.items c.args.self.now.now.depth c.args.field c.truncate.ensures.items c.if-depth-eq0.true;
+}
+
+pub returns : goal.returns
+returns c =
+    let old = c.args.self.now.links.items in
+    let depth : ℕ = c.args.self.now.now.depth in
+    let cut = c.truncate.new.self.items in
+    let one : Link = c.index.result.now in
+    let two : Link = record { object = c.index.result.now.object; field = c.args.field } in
+    let some : 0 < depth = omega (arith, c.if-depth-eq0.false) in
+    let long : length cut ≡ depth = ap length c.truncate.ensures.items ∙ length-take-le depth old c.requires.deep in
+    let short : depth - 1 < length cut = omega (arith, some, long) in
+    let next : suc (depth - 1) ≡ depth = omega (arith, some) in
+    let at : slice_get cut (depth - 1) ≡ Some one = slice_get_read cut (length cut) (depth - 1) one refl short c.index.ensures in
+    record {
+      now = refl;
+      waiting = refl;
+      links = points_at old cut _ (depth - 1) depth c.args.field one two c.truncate.ensures.items next at refl refl refl;
+    }

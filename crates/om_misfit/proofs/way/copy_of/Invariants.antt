@@ -1,0 +1,6 @@
+use Rattle.std.proofs.Common.{◌≡◌, take}
+use Rattle.om_misfit.proofs.way.copy_of.Given as goal
+
+-- the links so far
+abbrev pub invariant-links : goal.invariant-links
+invariant-links l = l.copy.items ≡ take l.link-index l.links

@@ -1,0 +1,203 @@
+-- What is known on the way to the one misfit of a value, and what is found.
+use Rattle.std.specs.Prelude.{ℕ, ◌+◌, ◌-◌, ◌^◌, ◌<◌, ◌≡◌, ◌⊎◌, List, [], ◌∷◌, ◌++◌, length}
+use Rattle.std.specs.Prelude.{map, slice_get, Option, Some, None, All, Contains, Bool}
+use Rattle.std.specs.Prelude.{true, false, replicate}
+use Rattle.om_model.specs.declared.header.Head.{Head}
+use Rattle.om_types.specs.Table.{Table}
+use Rattle.om_format.specs.Words.{of_object, words32, words64, all_words32, all_words64}
+use Rattle.om_format.specs.Token.{Token, IsToken, measure_of}
+use Rattle.om_format.specs.Tree.{RefersBack, made_by}
+use Rattle.om_format.specs.Spelled.{IsNoReference}
+use Rattle.om_misfit_law.specs.PassedBut.{Place, Made, Missed, PassedBut, made_in, unasked}
+use Rattle.om_misfit_law.specs.PassedBut.{values_at}
+use Rattle.om_misfit_law.specs.MissedFront.{IsPassingBut, IsMissedFront}
+use Rattle.om_pass.specs.State.{stated32}
+use Rattle.om_misfit.specs.declared.misfit.End.{End}
+use Rattle.om_misfit.specs.declared.misfit.End.TheVariants as ends
+use Rattle.om_misfit.specs.declared.misfit.Found.{Found}
+use Rattle.om_misfit.specs.declared.misfit.Finding.{Finding}
+use Rattle.om_misfit.specs.declared.misfit.Seeking.{Seeking}
+use Rattle.om_misfit.specs.declared.said.Said.{Said}
+use Rattle.om_misfit.specs.declared.way.Asked.{Asked}
+use Rattle.om_misfit.specs.declared.way.Link.{Link}
+use Rattle.om_misfit.specs.Judge.{IsSaid}
+use Rattle.om_misfit.specs.declared.way.Left.{Left}
+use Rattle.om_misfit.specs.Way.{trail_of, trail_in, place_of, root_place, way_places, IsWay}
+use Rattle.om_misfit.specs.Way.{left_values, opened_places}
+
+-- ---- what is held
+
+-- no type has this number
+abbrev pub no_type : ℕ
+no_type = 2 ^ 16 - 1
+
+-- the number that is held for a type: that of no type at the misfit and below
+abbrev pub type_or_none : Option ℕ → ℕ
+type_or_none None = no_type
+type_or_none (Some t) = t
+
+-- a type that an object has is not mistaken for none
+abbrev pub AreTypes : List ℕ → List Made → Type 0
+AreTypes types made =
+    (types ≡ map (λ (object : Made). type_or_none object.type) made)
+    × ((o t : ℕ) (trail : List (ℕ × ℕ))
+    → slice_get made o ≡ Some record { type = Some t; trail = trail } → t < no_type)
+
+-- each object that is led back to has its mark
+abbrev pub AreMarked : List ℕ → List Made → List Bool → Type 0
+AreMarked back made marks =
+    (length marks ≡ length made)
+    × ((o : ℕ) → Contains back o → slice_get marks o ≡ Some true)
+
+-- no reference leads back to the block of the link
+abbrev pub IsAlone : List Bool → Link → Type 0
+IsAlone marks link = slice_get marks link.object ≡ Some false
+
+-- the misfit: its links, the type that is asked for, and what its token says
+pub record IsMissedAt (found : Found) (missed : Missed) : Type 0 where
+  pub trail : missed.trail ≡ trail_of found.links.items
+  pub type : missed.type ≡ found.ty
+  pub said : IsSaid found.said missed.token
+
+-- none as yet, or the one
+abbrev pub AreMissedAt : Option Found → List Missed → Type 0
+AreMissedAt None missed = missed ≡ []
+AreMissedAt (Some found) missed = (one : Missed) × (missed ≡ one ∷ []) × IsMissedAt found one
+
+-- what tokens that lead to these objects, places and misfits left
+pub record IsHeld
+    (back : List ℕ) (made : List Made) (missed : List Missed) (finding : Finding)
+    : Type 0 where
+  pub is_way : IsWay finding.way
+  pub types : AreTypes finding.types.items made
+  pub marked : AreMarked back made finding.again.marks.items
+  pub found : AreMissedAt finding.found missed
+
+-- so many bytes lead to here; the taken places come before those that are open
+pub record Finds
+    (table : Table) (limit : ℕ) (bytes : List ℕ) (head : Head) (start n : ℕ) (taken : List Place)
+    (finding : Finding)
+    : Type 0 where
+  pub tokens : List Token
+  pub back : List ℕ
+  pub made : List Made
+  pub missed : List Missed
+  pub passing :
+      IsPassingBut back table limit bytes head start n tokens made (taken ++ way_places finding.way)
+      missed
+  pub held : IsHeld back made missed finding
+  pub w32 : finding.words.w32 + all_words32 (map measure_of tokens) ≡ stated32 head
+  pub w64 : finding.words.w64 + all_words64 (map measure_of tokens) ≡ head.w64
+
+-- before the first token
+pub record Begins (head : Head) (finding : Finding) : Type 0 where
+  pub is_way : IsWay finding.way
+  pub places : way_places finding.way ≡ root_place ∷ []
+  pub types : finding.types.items ≡ []
+  pub marks : finding.again.marks.items ≡ []
+  pub found : finding.found ≡ None
+  pub w32 : finding.words.w32 ≡ stated32 head
+  pub w64 : finding.words.w64 ≡ head.w64
+
+-- ---- one token
+
+-- the places are those of the token's fields, of which nothing is asked
+abbrev pub unasked_in : Left → Token → Type 0
+unasked_in left token =
+    (object : ℕ) (trail : List (ℕ × ℕ)) → opened_places object trail left ≡ unasked token
+
+-- only an object has places
+abbrev pub HasRoom : Said → Left → Type 0
+HasRoom said left =
+    (token : Token) → IsSaid said token → made_by token ≡ 0 → left_values left ≡ 0
+
+-- the object that the token makes, if it makes one, has the type, and these places are open
+pub record Adds (old : Finding) (type : ℕ) (said : Said) (left : Left) (new : Finding)
+    : Type 0 where
+  pub is_way : IsWay new.way
+  pub places :
+      way_places new.way
+      ≡ opened_places (length old.types.items) (trail_in old.way) left ++ way_places old.way
+  pub found : new.found ≡ old.found
+  pub types :
+      (token : Token) → IsSaid said token
+      → new.types.items ≡ old.types.items ++ replicate (made_by token) type
+  pub marks :
+      (token : Token) → IsSaid said token
+      → new.again.marks.items ≡ old.again.marks.items ++ replicate (made_by token) false
+  pub w32 :
+      (token : Token) → IsSaid said token
+      → new.words.w32 + of_object words32 (measure_of token) ≡ old.words.w32
+  pub w64 :
+      (token : Token) → IsSaid said token
+      → new.words.w64 + of_object words64 (measure_of token) ≡ old.words.w64
+
+-- what the token leads to, from these
+pub record LeadsTo
+    (back : List ℕ) (table : Table) (tokens : List Token) (made : List Made) (token : Token)
+    (new : Finding)
+    : Type 0 where
+  pub more : List ℕ
+  pub type : Option ℕ
+  pub trail : List (ℕ × ℕ)
+  pub missed : List Missed
+  pub passed :
+      PassedBut (back ++ more) table (tokens ++ token ∷ []) (made ++ made_in type trail token)
+      (way_places new.way) missed
+  pub held : IsHeld (back ++ more) (made ++ made_in type trail token) missed new
+
+-- a token that is what was said came in the place that was taken last
+pub record Comes
+    (table : Table) (stated : ℕ) (old : Finding) (asked : Asked) (said : Said) (new : Finding)
+    : Type 0 where
+  pub leads :
+      (back : List ℕ) (tokens : List Token) (made : List Made) (missed : List Missed)
+      (token : Token) → IsToken token → IsSaid said token → IsHeld back made missed old
+      → PassedBut back table tokens made
+      (place_of asked (trail_in old.way) ∷ way_places old.way) missed
+      → LeadsTo back table tokens made token new
+  pub refers :
+      (token : Token) → IsSaid said token
+      → RefersBack token (length old.types.items) × (stated ≡ 0 → IsNoReference token)
+  pub w32 :
+      (token : Token) → IsSaid said token
+      → new.words.w32 + of_object words32 (measure_of token) ≡ old.words.w32
+  pub w64 :
+      (token : Token) → IsSaid said token
+      → new.words.w64 + of_object words64 (measure_of token) ≡ old.words.w64
+
+-- ---- the end
+
+-- all came that the header states
+pub record IsSpent (head : Head) (start n : ℕ) (finding : Finding) : Type 0 where
+  pub whole : n ≡ start + head.length
+  pub w32 : head.big ≡ false → finding.words.w32 ≡ 0
+  pub w64 : finding.words.w64 ≡ 0
+  pub count : (head.objects ≡ 0) ⊎ (head.objects ≡ length finding.types.items)
+
+-- all came, and the misfit is this one, alone on its way
+pub record Ends (head : Head) (start n : ℕ) (finding : Finding) (found : Found) : Type 0 where
+  pub its : finding.found ≡ Some found
+  pub alone : All (IsAlone finding.again.marks.items) found.links.items
+  pub spent : IsSpent head start n finding
+
+-- the first n bytes are a value under the limit whose least fault is this misfit
+pub record IsFound (table : Table) (limit n : ℕ) (bytes : List ℕ) (found : Found) : Type 0 where
+  pub missed : Missed
+  pub front : IsMissedFront table limit n bytes missed
+  pub at : IsMissedAt found missed
+
+-- ---- bytes in pieces
+
+-- the bytes lead to what was looked at
+abbrev pub IsSought : Table → ℕ → List ℕ → Seeking → Type 0
+IsSought table limit bytes s = Finds table limit bytes s.head s.start s.at [] s.finding
+
+-- where the search stopped: at the end of a value whose least fault was found; or where a value is
+-- to come
+abbrev pub Seeks : Table → ℕ → List ℕ → Seeking → End → Type 0
+Seeks table limit bytes s (ends.Found n) =
+    (found : Found) × (s.finding.found ≡ Some found) × IsFound table limit n bytes found
+Seeks table limit bytes s ends.Cut =
+    IsSought table limit bytes s × (0 < values_at (way_places s.finding.way))
+Seeks table limit bytes s ends.Untold = Unit {0}

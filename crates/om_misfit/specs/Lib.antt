@@ -1,0 +1,4 @@
+pub mod Way
+pub mod Judge
+pub mod Find
+pub mod Line

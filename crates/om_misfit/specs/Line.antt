@@ -1,0 +1,28 @@
+-- The line of a value whose least fault was found.
+use Rattle.std.specs.Prelude.{ℕ, List, ◌++◌, map, codes}
+use Rattle.om_model.specs.PathText.{path_text}
+use Rattle.om_types.specs.Table.{Table, table_shapes}
+use Rattle.om_types.specs.VerdictText.{IsNoLine}
+use Rattle.om_format.specs.Tree.{root, objects_of}
+use Rattle.om_misfit.specs.declared.misfit.Found.{Found}
+use Rattle.om_misfit.specs.declared.way.Link.{Link}
+use Rattle.om_misfit.specs.Judge.{said_text}
+use Rattle.om_misfit.specs.Find.{IsFound}
+
+-- the steps to the misfit
+abbrev pub path_in : Found → List ℕ
+path_in found = map (λ (link : Link). link.field) found.links.items
+
+-- where it is, which type was asked for, and what was found
+abbrev pub found_text : (ℕ → List ℕ) → Found → List ℕ
+found_text type_text found =
+    path_text (path_in found) ++ codes ": expected " ++ type_text found.ty ++ codes ", found "
+    ++ said_text found.said
+
+-- what was found tells the line, with no look at the value
+abbrev pub FoundHasLine : Type 0
+FoundHasLine =
+    (table : Table) (limit n : ℕ) (bytes : List ℕ) (found : Found) (type_text : ℕ → List ℕ)
+    (f : IsFound table limit n bytes found)
+    → IsNoLine (table_shapes table) type_text (objects_of f.front.tree 0) (root f.front.tree 0) 0
+    (codes "no " ++ found_text type_text found)

@@ -1,0 +1,140 @@
+-- The open places of a value, each with its trail.
+use Rattle.std.specs.Prelude.{ℕ, zero, suc, ◌+◌, ◌-◌, ◌<◌, ◌≤◌, ◌^◌, ◌≡◌, List, [], ◌∷◌, ◌++◌}
+use Rattle.std.specs.Prelude.{length, take, replicate, slice_get, Option, Some, None, All}
+use Rattle.om_pass_law.specs.Asked.{Need, of_type, hash_of, values_in}
+use Rattle.om_misfit_law.specs.PassedBut.{Place, places_of, field_after}
+use Rattle.om_pass.specs.Places.{open_needs}
+use Rattle.om_misfit.specs.declared.way.Asked.{Asked}
+use Rattle.om_misfit.specs.declared.way.Asked.TheVariants as asks
+use Rattle.om_misfit.specs.declared.way.Left.{Left}
+use Rattle.om_misfit.specs.declared.way.Left.TheVariants as lefts
+use Rattle.om_misfit.specs.declared.way.Link.{Link}
+use Rattle.om_misfit.specs.declared.way.Wait.{Wait}
+use Rattle.om_misfit.specs.declared.way.Way.{Way}
+
+-- the links, which go from the root on, as a trail
+abbrev pub trail_of : List Link → List (ℕ × ℕ)
+trail_of [] = []
+trail_of (link ∷ links) = trail_of links ++ (link.object, link.field) ∷ []
+
+abbrev pub own_field : Option Link → ℕ → List (ℕ × ℕ)
+own_field None k = []
+own_field (Some link) k = (link.object, k) ∷ []
+
+-- the trail of field k of the block to which so many links lead; none leads to the root
+abbrev pub place_trail : List Link → ℕ → ℕ → List (ℕ × ℕ)
+place_trail links zero k = []
+place_trail links (suc d) k = own_field (slice_get links d) k ++ trail_of (take d links)
+
+-- where nothing is asked no trail is kept
+abbrev pub unasked_place : Place
+unasked_place = record { asks = None; trail = [] }
+
+abbrev pub root_place : Place
+root_place = record { asks = Some (of_type 0); trail = [] }
+
+abbrev pub place_of : Asked → List (ℕ × ℕ) → Place
+place_of (asks.Type t) trail = record { asks = Some (of_type t); trail = trail }
+place_of (asks.Hash tags) trail = record { asks = Some (hash_of tags.now); trail = trail }
+place_of asks.Nothing trail = unasked_place
+
+-- the places of a block from number k on
+abbrev pub places_asked : List Link → ℕ → ℕ → List Need → List Place
+places_asked links depth k [] = []
+places_asked links depth k (need ∷ needs) =
+    record { asks = Some need; trail = place_trail links depth k }
+    ∷ places_asked links depth (k + values_in (need ∷ [])) needs
+
+abbrev pub places_left : List Link → ℕ → ℕ → Left → List Place
+places_left links depth k (lefts.Asked open') = places_asked links depth k (open_needs open')
+places_left links depth k (lefts.Unasked count) = replicate count unasked_place
+
+abbrev pub left_values : Left → ℕ
+left_values (lefts.Asked open') = values_in (open_needs open')
+left_values (lefts.Unasked count) = count
+
+-- the places of all blocks, the last one's first
+abbrev pub wait_places : List Link → Wait → List Place
+wait_places links wait = places_left links wait.depth wait.next wait.left
+
+abbrev pub waiting_places : List Link → List Wait → List Place
+waiting_places links [] = []
+waiting_places links (wait ∷ waits) = waiting_places links waits ++ wait_places links wait
+
+abbrev pub way_places : Way → List Place
+way_places way =
+    wait_places way.links.items way.now ++ waiting_places way.links.items way.waiting.items
+
+abbrev pub trail_in : Way → List (ℕ × ℕ)
+trail_in way = trail_of way.links.items
+
+-- the numbers of fields have 32 bits
+abbrev pub IsSmall : Wait → Type 0
+IsSmall wait = wait.next + left_values wait.left < 2 ^ 32
+
+-- each block that waits is around those after it, and around the one of this depth
+abbrev pub AreAround : List Wait → ℕ → Type 0
+AreAround [] depth = Unit {0}
+AreAround (wait ∷ waits) depth =
+    (wait.depth < depth) × All (λ (inside : Wait). wait.depth < inside.depth) waits
+    × AreAround waits depth
+
+pub record IsWay (way : Way) : Type 0 where
+  pub deep : way.now.depth ≤ length way.links.items
+  pub small : IsSmall way.now
+  pub around : AreAround way.waiting.items way.now.depth
+  pub all_small : All IsSmall way.waiting.items
+
+-- links that lead to the field of the block of this depth, as the others led to the block
+pub record ArePointed (old new : List Link) (depth field : ℕ) : Type 0 where
+  pub deep : length new ≡ depth
+  pub trail : trail_of new ≡ place_trail old depth field
+  pub alike : (d k : ℕ) → d ≤ depth → place_trail new d k ≡ place_trail old d k
+
+-- the links lead to the field of the innermost block, and nothing else has changed
+pub record PointsTo (old : Way) (field : ℕ) (new : Way) : Type 0 where
+  pub now : new.now ≡ old.now
+  pub waiting : new.waiting ≡ old.waiting
+  pub links : ArePointed old.links.items new.links.items old.now.depth field
+
+-- the open places of the innermost block are among those that wait, if there are any
+pub record Keeps (old new : Way) : Type 0 where
+  pub links : new.links ≡ old.links
+  pub places :
+      (links : List Link)
+      → waiting_places links new.waiting.items
+      ≡ wait_places links old.now ++ waiting_places links old.waiting.items
+  pub around : AreAround new.waiting.items (old.now.depth + 1)
+  pub all_small : All IsSmall new.waiting.items
+
+-- the place that was taken last is that of a hash, and the field after it is free
+pub record IsAfterHash (way : Way) : Type 0 where
+  pub none : left_values way.now.left ≡ 0
+  pub some : 1 ≤ way.now.next
+  pub after :
+      place_trail way.links.items way.now.depth (way.now.next - 1) ≡ field_after (trail_in way)
+
+-- where the hash of a tag is asked for
+abbrev pub OnHash : Asked → Type 0 → Type 0
+OnHash (asks.Type t) P = Unit {0}
+OnHash (asks.Hash tags) P = P
+OnHash asks.Nothing P = Unit {0}
+
+-- what the first place asks for, and what is left after so many values
+pub record IsSplit (left : Left) (asked : Asked) (others : Left) (many : ℕ) : Type 0 where
+  pub values : left_values left ≡ many + left_values others
+  pub places :
+      (links : List Link) (depth next : ℕ)
+      → places_left links depth next left
+      ≡ place_of asked (place_trail links depth next)
+      ∷ places_left links depth (next + many) others
+  pub hash : OnHash asked ((many ≡ 2) × (left_values others ≡ 0))
+
+-- the places of an object that is opened at the end of the trail
+abbrev pub opened_places : ℕ → List (ℕ × ℕ) → Left → List Place
+opened_places object trail (lefts.Asked open') = places_of object trail 0 (open_needs open')
+opened_places object trail (lefts.Unasked count) = replicate count unasked_place
+
+abbrev pub OpensAt : Way → ℕ → Left → Way → Type 0
+OpensAt old object left new =
+    way_places new ≡ opened_places object (trail_in old) left ++ way_places old

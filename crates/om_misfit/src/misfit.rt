@@ -1,0 +1,408 @@
+//! The one misfit of a value: token after token, to its end.
+
+ghost use Rattle.std.specs.Prelude.{◌≡◌, ◌≤◌, ℕ, length, IfOk, IfSome};
+ghost use Rattle.std.specs.Bool.{OnTrue};
+ghost use Rattle.om_type_table.specs.Made.{table_of};
+ghost use Rattle.om_types.specs.Table.{Table};
+ghost use Rattle.om_format.specs.Token.{Token};
+ghost use Rattle.om_misfit_law.specs.PassedBut.{Misses, values_at};
+ghost use Rattle.om_misfit.specs.declared.said.Said.TheVariants as sayings;
+ghost use Rattle.om_misfit.specs.declared.way.Asked.TheVariants as asks;
+ghost use Rattle.om_misfit.specs.Judge.{IsSaid, IsFair};
+ghost use Rattle.om_misfit.specs.Way.{IsWay, IsAfterHash, OnHash, way_places};
+ghost use Rattle.om_misfit.specs.Find.{Begins, HasRoom, Adds, Comes, IsFound, IsSpent, Ends};
+ghost use Rattle.om_misfit.specs.Find.{unasked_in, IsSought, Seeks};
+
+use crate::again::Again;
+use crate::judge::{Judged, judge};
+use crate::said::{Said, fields_of, first_token, measure_of};
+use crate::way::{Asked, Left, Link, Way, copy_of, values_left};
+use om_model::Memory;
+use om_model::header::Head;
+use om_pass::Words;
+use om_pass::fits::{is_equal, is_hidden, tag_of_hash, type_at};
+use om_pass::whole::head_of;
+use om_type_table::TypeTable;
+use om_types::shape::PolyTag;
+use std::alloc::Global;
+
+/// No type has this number.
+const NO_TYPE: usize = 65535;
+
+/// The misfit: the links that lead to it, the type that is asked for there, and what its token
+/// says.
+#[derive(Drop)]
+pub struct Found {
+    pub links: Vec<Link>,
+    pub ty: usize,
+    pub said: Said,
+}
+
+/// The open places, the types of the objects met and which of them are met again, the words still
+/// to come, and the misfit, if it was met.
+#[derive(Drop)]
+pub struct Finding<'a> {
+    pub way: Way<'a>,
+    pub types: Vec<u16>,
+    pub again: Again,
+    pub words: Words,
+    pub found: Option<Found>,
+}
+
+/// The fields of a token of which nothing is asked.
+fn unasked<'a>(said: Said) -> Left<'a>
+    ensures fields { (token : Token) → IsSaid said token → unasked_in result token }
+    ensures none { HasRoom said result }
+{
+    Left::Unasked(fields_of(said))
+}
+
+impl<'a> Finding<'a> {
+    /// Before the first token.
+    fn new(alloc: Global, head: &Head) -> Finding<'a>
+        ensures { Begins head.now result }
+    {
+        Finding {
+            way: Way::root(alloc),
+            types: Vec::new(alloc),
+            again: Again::new(alloc),
+            words: Words::stated(head),
+            found: None,
+        }
+    }
+
+    /// Before the first token of another value, in the same memory.
+    fn restart(&mut self, head: &Head)
+        ensures { Begins head.now self.new }
+    {
+        self.way.restart();
+        self.types.clear();
+        self.again.restart();
+        self.words = Words::stated(head);
+        self.found = None;
+    }
+
+    /// The object that the token makes, if it makes one, has this type, and its places are open.
+    fn add(&mut self, ty: usize, said: Said, left: Left<'a>) -> Result<bool, Memory>
+        requires is_way { IsWay self.old.way }
+        requires room { HasRoom said left }
+        requires fair { IsFair said }
+        ensures { IfOk result
+            (λ added. OnTrue added (Adds self.old ty said left.entry self.new)) }
+    {
+        let Some(measure) = measure_of(said) else {
+            return Ok(true);
+        };
+        if ty > NO_TYPE {
+            return Ok(false);
+        }
+        if !self.words.spend(measure) {
+            return Ok(false);
+        }
+        let object = self.types.len();
+        self.types.push(ty as u16)?;
+        self.again.make()?;
+        if values_left(left) == 0 {
+            return Ok(true);
+        }
+        self.way.open(object, left)
+    }
+
+    /// A reference comes where the type is asked for.
+    fn back(&mut self, table: &TypeTable, stated: u64, ty: usize, offset: u64) -> bool
+        requires is_way { IsWay self.old.way }
+        requires marked { length self.old.again.marks.items ≡ length self.old.types.items }
+        ensures { OnTrue result
+            (Comes (table_of table.now) stated self.old (asks.Type ty) (sayings.Shared offset)
+            self.new) }
+    {
+        let made = self.types.len();
+        if stated == 0 || offset == 0 || offset > made as u64 {
+            return false;
+        }
+        if is_hidden(table, ty) {
+            return true;
+        }
+        let object = made - offset as usize;
+        let own = type_at(self.types.as_slice(), object);
+        if own == NO_TYPE {
+            return false;
+        }
+        if !is_equal(table, own, ty) {
+            return false;
+        }
+        self.again.mark(object);
+        true
+    }
+
+    /// A token comes of which nothing is asked.
+    fn below(&mut self, stated: u64, said: Said) -> Result<bool, Memory>
+        requires is_way { IsWay self.old.way }
+        requires fair { IsFair said }
+        ensures { IfOk result
+            (λ came. OnTrue came
+            ((table : Table) → Comes table stated self.old asks.Nothing said self.new)) }
+    {
+        if let Said::Shared(offset) = said {
+            let made = self.types.len() as u64;
+            if stated == 0 || offset == 0 || offset > made {
+                return Ok(false);
+            }
+            return Ok(true);
+        }
+        self.add(NO_TYPE, said, unasked(said))
+    }
+
+    /// The token does not have the type that is asked for. It is the misfit, if it is the first.
+    fn miss(&mut self, alloc: Global, ty: usize, said: Said) -> Result<bool, Memory>
+        requires is_way { IsWay self.old.way }
+        requires fair { IsFair said }
+        ensures { IfOk result
+            (λ came. OnTrue came
+            ((table : Table) (stated : ℕ)
+            → ((token : Token) → IsSaid said token → Misses table ty token)
+            → Comes table stated self.old (asks.Type ty) said self.new)) }
+    {
+        if self.found.is_some() {
+            return Ok(false);
+        }
+        let links = copy_of(alloc, self.way.links.as_slice())?;
+        self.found = Some(Found { links, ty, said });
+        self.add(NO_TYPE, said, unasked(said))
+    }
+
+    /// The hash of a tag comes, after which its argument is asked for.
+    fn hash(&mut self, tags: &'a [PolyTag<usize>], said: Said) -> bool
+        requires is_way { IsWay self.old.way }
+        requires hash { IsAfterHash self.old.way }
+        ensures { OnTrue result
+            ((table : Table) (stated : ℕ)
+            → Comes table stated self.old (asks.Hash tags.entry) said self.new) }
+    {
+        let Said::Integer(z) = said else {
+            return false;
+        };
+        let Some(tag) = tag_of_hash(tags, z) else {
+            return false;
+        };
+        let Some(ty) = tag.arg else {
+            return false;
+        };
+        self.way.argument(ty);
+        true
+    }
+
+    /// The token comes where the type is asked for.
+    fn typed(
+        &mut self,
+        alloc: Global,
+        table: &'a TypeTable,
+        stated: u64,
+        ty: usize,
+        said: Said,
+    ) -> Result<bool, Memory>
+        requires is_way { IsWay self.old.way }
+        requires marked { length self.old.again.marks.items ≡ length self.old.types.items }
+        requires fair { IsFair said }
+        ensures { IfOk result
+            (λ came. OnTrue came
+            (Comes (table_of table.now) stated self.old (asks.Type ty) said self.new)) }
+    {
+        if ty >= NO_TYPE {
+            return Ok(false);
+        }
+        match judge(table, ty, said) {
+            Judged::Fits => self.add(ty, said, Left::Unasked(0)),
+            Judged::Opens(places) => self.add(ty, said, Left::Asked(places)),
+            Judged::Back(offset) => Ok(self.back(table, stated, ty, offset)),
+            Judged::Misses => self.miss(alloc, ty, said),
+            Judged::Unknown => Ok(false),
+        }
+    }
+
+    /// The token comes in the place that was taken last, if what it is there is known.
+    fn come(
+        &mut self,
+        alloc: Global,
+        table: &'a TypeTable,
+        stated: u64,
+        asked: Asked<'a>,
+        said: Said,
+    ) -> Result<bool, Memory>
+        requires is_way { IsWay self.old.way }
+        requires marked { length self.old.again.marks.items ≡ length self.old.types.items }
+        requires hash { OnHash asked (IsAfterHash self.old.way) }
+        requires fair { IsFair said }
+        ensures { IfOk result
+            (λ came. OnTrue came
+            (Comes (table_of table.now) stated self.old asked.entry said self.new)) }
+    {
+        match asked {
+            Asked::Type(ty) => self.typed(alloc, table, stated, ty, said),
+            Asked::Hash(tags) => Ok(self.hash(tags, said)),
+            Asked::Nothing => self.below(stated, said),
+        }
+    }
+
+    /// Nothing is open any more: whether there is a misfit, all came that the header states, and no
+    /// reference leads back to a block on the way to it.
+    fn end(&self, head: &Head, start: usize, at: usize) -> bool
+        requires { start ≤ at }
+        ensures { OnTrue result ((found : Found) × Ends head.now start at self.now found) }
+    {
+        if !self.is_spent(head, start, at) {
+            return false;
+        }
+        let Some(found) = &self.found else {
+            return false;
+        };
+        self.again.are_alone(found.links.as_slice())
+    }
+
+    /// Whether all came that the header states.
+    fn is_spent(&self, head: &Head, start: usize, at: usize) -> bool
+        requires { start ≤ at }
+        ensures { OnTrue result (IsSpent head.now start at self.now) }
+    {
+        (at - start) as u64 == head.length
+            && (head.big || self.words.w32 == 0)
+            && self.words.w64 == 0
+            && (head.objects == 0 || head.objects == self.types.len() as u64)
+    }
+}
+
+/// A search for the one misfit of a value whose bytes come in pieces: what the header states, where
+/// the tokens begin, and how far they were looked at.
+#[derive(Drop)]
+pub struct Seeking<'a> {
+    pub head: Head,
+    pub start: usize,
+    pub at: usize,
+    pub finding: Finding<'a>,
+    /// How many bytes came.
+    pub seen: usize,
+    /// So many open blocks may be looked at again: as many as bytes came.
+    pub left: u64,
+}
+
+/// Where a search stopped.
+#[derive(Clone, Copy)]
+pub enum End {
+    /// The value has so many bytes, and its one misfit was found.
+    Found(usize),
+    /// Before a token that is not whole, or is none.
+    Cut,
+    /// Nothing is said.
+    Untold,
+}
+
+impl<'a> Seeking<'a> {
+    /// Nothing is looked at. It takes no memory.
+    pub fn new(alloc: Global) -> Seeking<'a> {
+        let head = Head {
+            big: false,
+            length: 0,
+            objects: 0,
+            w32: 0,
+            w64: 0,
+        };
+        Seeking {
+            start: 20,
+            at: 20,
+            finding: Finding::new(alloc, &head),
+            seen: 0,
+            left: 0,
+            head,
+        }
+    }
+
+    /// Begins with the value whose header begins the bytes, in the same memory, if the header is
+    /// whole and states no more than may be.
+    pub fn begin(&mut self, bytes: &[u8], limit: u64) -> bool
+        ensures { OnTrue result ((table : Table) → IsSought table limit bytes.now self.new) }
+    {
+        let Some(head) = head_of(bytes, limit) else {
+            return false;
+        };
+        let start = if head.big { 32 } else { 20 };
+        self.finding.restart(&head);
+        self.start = start;
+        self.at = start;
+        self.seen = 0;
+        self.left = 0;
+        self.head = head;
+        true
+    }
+
+    /// Goes on, with the bytes that were looked at and those that came since.
+    pub fn go(
+        &mut self,
+        alloc: Global,
+        table: &'a TypeTable,
+        limit: u64,
+        bytes: &[u8],
+    ) -> Result<End, Memory>
+        requires sought { IsSought (table_of table.now) limit bytes.now self.old }
+        ensures { IfOk result (Seeks (table_of table.now) limit bytes.now self.new) }
+    {
+        table.holds();
+        let more = bytes.len().saturating_sub(self.seen) as u64;
+        self.left = self.left.saturating_add(more.min(self.head.length));
+        self.seen = bytes.len();
+        // Each turn takes a byte, so this ends long before.
+        'tokens: for _turn in 0..u64::MAX {
+            if !self.finding.way.ready() {
+                if self.finding.end(&self.head, self.start, self.at) {
+                    return Ok(End::Found(self.at));
+                }
+                return Ok(End::Untold);
+            }
+            let Some((first, len)) = first_token(&bytes[self.at..]) else {
+                return Ok(End::Cut);
+            };
+            let asked = self.finding.way.take();
+            let came = self
+                .finding
+                .come(alloc, table, self.head.objects, asked, first)?;
+            if !came {
+                return Ok(End::Untold);
+            }
+            self.at += len;
+        }
+        Ok(End::Untold)
+    }
+
+    /// Whether no more values are to come than so many. It gives up where more blocks would be
+    /// looked at than may be, and counts these down.
+    pub fn are_within(&self, most: u64, left: &mut u64) -> bool
+        ensures { OnTrue result (values_at (way_places self.now.finding.way) ≤ most) }
+    {
+        self.finding.way.are_within(most, left)
+    }
+}
+
+/// How many bytes the value has that begins the bytes, and its one misfit, if it is whole, is under
+/// the limit, has what is asked for everywhere else, and no reference leads back to a block on the
+/// way to the misfit. That is then its least fault. Of any other value nothing is said.
+pub fn find(
+    alloc: Global,
+    table: &TypeTable,
+    bytes: &[u8],
+    limit: u64,
+) -> Result<Option<(usize, Found)>, Memory>
+    ensures { IfOk result
+        (λ answer. IfSome answer
+        (λ first. IsFound (table_of table.now) limit first.0 bytes.now first.1)) }
+{
+    let mut seeking = Seeking::new(alloc);
+    if !seeking.begin(bytes, limit) {
+        return Ok(None);
+    }
+    match seeking.go(alloc, table, limit, bytes)? {
+        End::Found(n) => match seeking.finding.found.take() {
+            Some(found) => Ok(Some((n, found))),
+            None => Ok(None),
+        },
+        _ => Ok(None),
+    }
+}

@@ -1,0 +1,292 @@
+//! The open places of a value, and the way to each.
+
+ghost use Rattle.std.specs.Prelude.{◌≡◌, ◌<◌, ◌≤◌, ◌∷◌, [], MatchBool, MatchOption, IfOk, OnOk};
+ghost use Rattle.std.specs.Bool.{OnTrue};
+ghost use Rattle.om_pass_law.specs.Asked.{values_in};
+ghost use Rattle.om_pass.specs.Places.{open_needs};
+ghost use Rattle.om_misfit_law.specs.PassedBut.{field_after, values_at};
+ghost use Rattle.om_misfit.specs.declared.way.Asked.TheVariants as asks;
+ghost use Rattle.om_misfit.specs.declared.way.Left.TheVariants as lefts;
+ghost use Rattle.om_misfit.specs.Way.{place_of, left_values, root_place, way_places, trail_in};
+ghost use Rattle.om_misfit.specs.Way.{IsWay, IsSplit, PointsTo, IsAfterHash, OpensAt, Keeps};
+ghost use Rattle.om_misfit.specs.Way.{OnHash};
+
+use om_model::Memory;
+use om_pass::Open;
+use om_types::shape::PolyTag;
+use std::alloc::Global;
+
+/// What a place asks for: nothing, where it is below a misfit.
+#[derive(Clone, Copy)]
+pub enum Asked<'a> {
+    Type(usize),
+    Hash(&'a [PolyTag<usize>]),
+    Nothing,
+}
+
+/// What is asked in the open places of a block.
+#[derive(Clone, Copy)]
+pub enum Left<'a> {
+    Asked(Open<'a>),
+    /// Nothing, in so many: the block is the misfit, or below it.
+    Unasked(u64),
+}
+
+/// An open block, and the number of its field that is in work.
+#[derive(Clone, Copy)]
+pub struct Link {
+    pub object: u32,
+    pub field: u32,
+}
+
+/// The open places of one block: how many links lead to them, of which its own is the last; the
+/// number of the first one; and what is asked there.
+#[derive(Clone, Copy)]
+pub struct Wait<'a> {
+    pub depth: usize,
+    pub next: u32,
+    pub left: Left<'a>,
+}
+
+/// The open places of all blocks, those of the innermost at hand, and the links from the root on to
+/// the place that was taken last. A link stays where its block has no open place any more, as long
+/// as one inside it has.
+#[derive(Drop)]
+pub struct Way<'a> {
+    pub now: Wait<'a>,
+    pub waiting: Vec<Wait<'a>>,
+    pub links: Vec<Link>,
+}
+
+/// The first of the places that are left, the others, and how many values they come after.
+fn split<'a>(left: Left<'a>) -> Option<(Asked<'a>, Left<'a>, u32)>
+    ensures { MatchOption result
+        (left_values left.entry ≡ 0)
+        (λ first. IsSplit left.entry first.0 first.1 first.2) }
+{
+    match left {
+        Left::Asked(places) => split_asked(places),
+        Left::Unasked(count) => {
+            if count == 0 {
+                return None;
+            }
+            Some((Asked::Nothing, Left::Unasked(count - 1), 1))
+        }
+    }
+}
+
+/// The same where something is asked.
+fn split_asked<'a>(places: Open<'a>) -> Option<(Asked<'a>, Left<'a>, u32)>
+    ensures { MatchOption result
+        (left_values (lefts.Asked places.entry) ≡ 0)
+        (λ first. IsSplit (lefts.Asked places.entry) first.0 first.1 first.2) }
+{
+    match places {
+        Open::Listed(types) => {
+            if types.is_empty() {
+                return None;
+            }
+            let others = Left::Asked(Open::Listed(&types[1..]));
+            Some((Asked::Type(types[0]), others, 1))
+        }
+        Open::Each(count, ty) => {
+            if count == 0 {
+                return None;
+            }
+            let others = Left::Asked(Open::Each(count - 1, ty));
+            Some((Asked::Type(ty), others, 1))
+        }
+        Open::Tagged(tags) => Some((Asked::Hash(tags), Left::Asked(Open::Each(0, 0)), 2)),
+    }
+}
+
+/// How many values are to come in the places that are left.
+pub fn values_left(left: Left<'_>) -> u64
+    ensures { result ≡ left_values left.entry }
+{
+    match left {
+        Left::Asked(places) => values_asked(places),
+        Left::Unasked(count) => count,
+    }
+}
+
+/// The same where something is asked.
+fn values_asked(places: Open<'_>) -> u64
+    ensures { result ≡ values_in (open_needs places.entry) }
+{
+    match places {
+        Open::Listed(types) => types.len() as u64,
+        Open::Each(count, _) => count,
+        Open::Tagged(_) => 2,
+    }
+}
+
+/// The links once more.
+pub fn copy_of(alloc: Global, links: &[Link]) -> Result<Vec<Link>, Memory>
+    ensures { IfOk result (λ copy. copy.items ≡ links.now) }
+{
+    let mut copy = Vec::new(alloc);
+    'links: for link in links {
+        copy.push(*link)?;
+    }
+    Ok(copy)
+}
+
+impl<'a> Way<'a> {
+    /// The place of the value, which asks for the first type; no link leads to it.
+    pub fn root(alloc: Global) -> Way<'a>
+        ensures is_way { IsWay result }
+        ensures places { way_places result ≡ root_place ∷ [] }
+    {
+        Way {
+            now: Wait {
+                depth: 0,
+                next: 0,
+                left: Left::Asked(Open::Each(1, 0)),
+            },
+            waiting: Vec::new(alloc),
+            links: Vec::new(alloc),
+        }
+    }
+
+    /// The links lead to the place of this number in the innermost block.
+    fn point(&mut self, field: u32)
+        requires { IsWay self.old }
+        ensures { PointsTo self.old field self.new }
+    {
+        let depth = self.now.depth;
+        self.links.truncate(depth);
+        if depth == 0 {
+            return;
+        }
+        let object = self.links[depth - 1].object;
+        self.links[depth - 1] = Link { object, field };
+    }
+
+    /// The place of another value, in the same memory.
+    pub fn restart(&mut self)
+        ensures is_way { IsWay self.new }
+        ensures places { way_places self.new ≡ root_place ∷ [] }
+    {
+        self.now = Wait {
+            depth: 0,
+            next: 0,
+            left: Left::Asked(Open::Each(1, 0)),
+        };
+        self.waiting.clear();
+        self.links.clear();
+    }
+
+    /// Whether a place is open. Blocks that have none any more are left behind.
+    pub fn ready(&mut self) -> bool
+        requires { IsWay self.old }
+        ensures is_way { IsWay self.new }
+        ensures same { way_places self.new ≡ way_places self.old }
+        ensures ready { MatchBool result
+            (0 < left_values self.new.now.left)
+            (way_places self.new ≡ []) }
+    {
+        'waiting: loop {
+            if values_left(self.now.left) > 0 {
+                return true;
+            }
+            match self.waiting.pop() {
+                Some(block) => self.now = block,
+                None => return false,
+            }
+        }
+    }
+
+    /// What the first open place asks for. It is taken, and the links lead to it.
+    pub fn take(&mut self) -> Asked<'a>
+        requires is_way { IsWay self.old }
+        requires some { 0 < left_values self.old.now.left }
+        ensures is_way { IsWay self.new }
+        ensures first { way_places self.old
+            ≡ place_of result (trail_in self.new) ∷ way_places self.new }
+        ensures hash { OnHash result (IsAfterHash self.new) }
+    {
+        let Some((asked, others, values)) = split(self.now.left) else {
+            unreachable!()
+        };
+        let next = self.now.next;
+        self.point(next);
+        self.now = Wait {
+            depth: self.now.depth,
+            next: next + values,
+            left: others,
+        };
+        asked
+    }
+
+    /// Whether no more values are to come in the open places than so many. It gives up where more
+    /// blocks would be looked at than may be, and counts these down.
+    pub fn are_within(&self, most: u64, left: &mut u64) -> bool
+        ensures { OnTrue result (values_at (way_places self.entry.now) ≤ most) }
+    {
+        let blocks = self.waiting.len() as u64;
+        if *left < blocks {
+            return false;
+        }
+        *left -= blocks;
+        let Some(mut room) = most.checked_sub(values_left(self.now.left)) else {
+            return false;
+        };
+        'waiting: for block in self.waiting.as_slice() {
+            let Some(less) = room.checked_sub(values_left(block.left)) else {
+                return false;
+            };
+            room = less;
+        }
+        true
+    }
+
+    /// The open places of the innermost block wait, if it has any.
+    fn keep(&mut self) -> Result<(), Memory>
+        requires { IsWay self.old }
+        ensures { OnOk result (Keeps self.old self.new) }
+    {
+        let left = values_left(self.now.left);
+        if left == 0 {
+            return Ok(());
+        }
+        self.waiting.push(self.now)?;
+        Ok(())
+    }
+
+    /// The object of this number comes in the place that was taken last, and its places come before
+    /// all others, if the numbers have room.
+    pub fn open(&mut self, object: usize, left: Left<'a>) -> Result<bool, Memory>
+        requires { IsWay self.old }
+        ensures { IfOk result
+            (λ opened. OnTrue opened
+            (IsWay self.new × OpensAt self.old object left.entry self.new)) }
+    {
+        if object >= 1 << 32 || values_left(left) >= 1 << 32 {
+            return Ok(false);
+        }
+        self.keep()?;
+        self.links.push(Link {
+            object: object as u32,
+            field: 0,
+        })?;
+        self.now = Wait {
+            depth: self.links.len(),
+            next: 0,
+            left,
+        };
+        Ok(true)
+    }
+
+    /// The argument of a tag comes next, in the field after the hash, which was taken last.
+    pub fn argument(&mut self, ty: usize)
+        requires is_way { IsWay self.old }
+        requires hash { IsAfterHash self.old }
+        ensures is_way { IsWay self.new }
+        ensures argument { way_places self.new
+            ≡ place_of (asks.Type ty) (field_after (trail_in self.old)) ∷ way_places self.old }
+    {
+        self.now.next -= 1;
+        self.now.left = Left::Asked(Open::Each(1, ty));
+    }
+}

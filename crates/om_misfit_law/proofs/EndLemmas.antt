@@ -1,0 +1,60 @@
+-- The last step: the one misfit, whose place was met, is the least fault.
+use Rattle.std.proofs.Common.{ℕ, ◌≡◌, List, [], ◌∷◌, Some, sym, ap, subst}
+use Rattle.std.specs.Prelude.{Contains, IsTrue, All}
+use Rattle.std.proofs.lemmas.List.Elements.{All-head, All-tail}
+use Rattle.om_model.specs.declared.value.Val.{Val}
+use Rattle.om_model.specs.declared.value.Val.TheVariants as vals
+use Rattle.om_model.specs.declared.value.Obj.{Obj}
+use Rattle.om_types.specs.declared.fault.Fault.TheVariants.{Misfit}
+use Rattle.om_types.specs.Fault.{step, value_at}
+use Rattle.om_types.specs.LeastFault.{IsLeastFault}
+use Rattle.om_types.specs.Lawful.{Everything, AreLawful}
+use Rattle.om_types.specs.Table.{Table, table_shapes, is_asked_in}
+use Rattle.om_misfit_law.specs.OnlyWay.{path_of}
+use Rattle.om_misfit_law.specs.PassedBut.{Made, Missed, Misses}
+use Rattle.om_misfit_law.specs.MissedLaw.{IsSpelledBy, IsLeastMissed}
+use Rattle.om_misfit_law.proofs.WayLemmas.{root_misfit, hole_at, only_misfit}
+use Rattle.om_misfit_law.proofs.BridgeLemmas.{IsMadeAt, typed_of, AreMade, held_but, way_of, only_of}
+use Rattle.om_misfit_law.proofs.MissLemmas.{misses_do_not_fit}
+
+module _ (table : Table) (graph : List Obj) (root : Val) (missed : Missed) where
+  -- the misfit is a field of an object that was made
+  pub record IsMet (made : List Made) (o i : ℕ) (trail : List (ℕ × ℕ)) : Type 0 where
+    pub is : missed.trail ≡ (o, i) ∷ trail
+    pub type : ℕ
+    pub at : IsMadeAt made o type trail
+    pub asked : IsTrue (is_asked_in table type)
+    pub value : Val
+    pub stepped : step (table_shapes table) graph (vals.Ref o) type i ≡ Some (value, missed.type)
+    pub spelled : IsSpelledBy graph value missed.token
+
+  pub field_least : (made : List Made) (back : List ℕ) (o i : ℕ) (trail : List (ℕ × ℕ)) → AreLawful (table_shapes table) Everything → AreMade table graph made back root missed.trail → Misses table missed.type missed.token → IsMet made o i trail → All (λ (link : ℕ × ℕ). Contains back link.0 → ⊥) missed.trail → IsLeastMissed table graph root missed
+  field_least made back o i trail lawful are misses met others =
+      let shapes = table_shapes table in
+      let others' = subst (λ τ. All (λ (link : ℕ × ℕ). Contains back link.0 → ⊥) τ) met.is others in
+      let held = held_but table graph made back root missed.trail lawful are o i trail met.is in
+      let way = way_of table graph made back root missed.trail lawful are trail o met.type met.at met.asked in
+      let only = only_of table graph made back root missed.trail lawful are trail o met.type met.at met.asked
+      (All-head (λ (link : ℕ × ℕ). Contains back link.0 → ⊥) (o, i) trail others')
+      (All-tail (λ (link : ℕ × ℕ). Contains back link.0 → ⊥) (o, i) trail others') in
+      let not = misses_do_not_fit table graph met.value missed.type missed.token misses met.spelled in
+      record {
+        value = met.value;
+        at = subst (λ τ. value_at shapes graph root 0 (path_of τ) ≡ Some (met.value, missed.type)) (sym met.is)
+            (hole_at shapes lawful graph (typed_of made) root 0 trail o i met.type missed.type met.value held way only met.stepped);
+        spelled = met.spelled;
+        least = subst (λ τ. IsLeastFault shapes graph root 0 (Misfit (path_of τ))) (sym met.is)
+            (only_misfit shapes lawful graph (typed_of made) root 0 trail o i met.type missed.type met.value held way only met.stepped not);
+      }
+
+  -- the misfit is the root
+  pub root_least : missed.trail ≡ [] → missed.type ≡ 0 → Misses table missed.type missed.token → IsSpelledBy graph root missed.token → IsLeastMissed table graph root missed
+  root_least is type misses spelled =
+      let shapes = table_shapes table in
+      let not = subst (λ t. shapes.fits graph root t → ⊥) type (misses_do_not_fit table graph root missed.type missed.token misses spelled) in
+      record {
+        value = root;
+        at = subst (λ τ. value_at shapes graph root 0 (path_of τ) ≡ Some (root, missed.type)) (sym is) (ap (λ t. Some (root, t)) (sym type));
+        spelled = spelled;
+        least = subst (λ τ. IsLeastFault shapes graph root 0 (Misfit (path_of τ))) (sym is) (root_misfit shapes graph root 0 not);
+      }

@@ -1,0 +1,98 @@
+-- What is known of an object that was made: it fits, its fields are placed, and its trail is real.
+use Rattle.std.proofs.Common.{ℕ, ◌≡◌, ◌∙◌, List, [], ◌∷◌, length, Bool, true, false, Option, Some, refl, sym, ap, subst}
+use Rattle.std.specs.Prelude.{slice_get, IsSome, IsTrue, Contains, map, replicate, option_and_then, if◌then◌else◌}
+use Rattle.std.proofs.lemmas.Bool.{false≢true}
+use Rattle.om_model.proofs.Options.{Contains-none}
+use Rattle.om_model.specs.declared.value.Val.{Val}
+use Rattle.om_model.specs.declared.value.Val.TheVariants as vals
+use Rattle.om_model.specs.declared.value.Obj.{Obj}
+use Rattle.om_model.specs.declared.value.Obj.TheVariants as objects
+use Rattle.om_types.specs.declared.shape.PolyTag.{PolyTag}
+use Rattle.om_types.specs.declared.shape.ShapeOf.{ShapeOf}
+use Rattle.om_types.specs.declared.shape.ShapeOf.TheVariants as shapes
+use Rattle.om_types.specs.Fitting.{none_if, or_none, object_fields, block_fields, tag_fields, argument_field, is_asked, is_bytes, is_double, has_doubles, is_int32, is_int64, is_native}
+use Rattle.om_types.specs.Table.{Table, table_shapes, is_asked_in}
+use Rattle.om_types.specs.Typing.{values_of}
+use Rattle.om_types.proofs.AskedLemmas.{need_typed}
+use Rattle.om_format.specs.Token.{IsLeaf}
+use Rattle.om_pass_law.specs.Asked.{Need, of_type, hash_of, shape_at, block_needs, fields_ask}
+use Rattle.om_misfit_law.specs.PassedBut.{Made}
+use Rattle.om_misfit_law.proofs.BridgeLemmas.{IsFrom, IsField}
+use Rattle.om_misfit_law.proofs.FieldLemmas.{AreFields, numbered, tagged, fields_are}
+use Rattle.om_misfit_law.proofs.PlacedLemmas.{ArePlaced, fields_placed}
+use Rattle.om_misfit_law.proofs.RealLemmas.{IsRealIf, real_from}
+
+-- a leaf has no fields
+nothing_needed : (test : Bool) (i a : ℕ) → Contains (or_none (none_if {T = ℕ} test)) (i, a) → ⊥
+nothing_needed true i a needed = Contains-none (i, a) needed
+nothing_needed false i a needed = Contains-none (i, a) needed
+
+leaf_needs : (shape : ShapeOf ℕ) (object : Obj) (i a : ℕ) → IsLeaf object → Contains (or_none (object_fields shape object)) (i, a) → ⊥
+leaf_needs shape (objects.Block tag values) i a is needed = is
+leaf_needs shape (objects.Bytes bytes) i a is needed = nothing_needed (is_bytes shape) i a needed
+leaf_needs shape (objects.Double bits) i a is needed = nothing_needed (is_double shape) i a needed
+leaf_needs shape (objects.Doubles all) i a is needed = nothing_needed (has_doubles shape (length all)) i a needed
+leaf_needs shape (objects.I32 z) i a is needed = nothing_needed (is_int32 shape) i a needed
+leaf_needs shape (objects.I64 z) i a is needed = nothing_needed (is_int64 shape) i a needed
+leaf_needs shape (objects.Native z) i a is needed = nothing_needed (is_native shape) i a needed
+
+-- a block of which nothing is asked has no fields that are needed
+hidden_fields : (shape : ShapeOf ℕ) (tag : ℕ) (values : List Val) → is_asked shape ≡ false → block_fields shape tag values ≡ Some []
+hidden_fields shapes.Anything tag values hidden = refl
+hidden_fields shape tag values hidden = absurd (false≢true (sym hidden))
+
+module _ (table : Table) (graph : List Obj) (all : List Made) (back : List ℕ) (whole : Val) (missed : List (ℕ × ℕ)) where
+  pub record IsGoodBut (o t : ℕ) (trail : List (ℕ × ℕ)) : Type 0 where
+    pub fits : (table_shapes table).fits graph (vals.Ref o) t
+    pub fields : (i a : ℕ) → Contains ((table_shapes table).needs graph (vals.Ref o) t) (i, a) → IsField table graph all back whole missed o i trail a
+    pub way : IsTrue (is_asked_in table t) → IsFrom table graph all back whole missed trail o t
+
+  module _ (o t : ℕ) (trail : List (ℕ × ℕ)) (real : IsRealIf table graph all whole trail (vals.Ref o) t) where
+    -- an object, from what it is
+    object_good : (object : Obj) → slice_get graph o ≡ Some object → IsSome (object_fields (shape_at table t) object) → ((i a : ℕ) → Contains (or_none (object_fields (shape_at table t) object)) (i, a) → IsTrue (is_asked_in table a) → IsField table graph all back whole missed o i trail a) → IsGoodBut o t trail
+    object_good object at some each = record {
+      fits = subst (λ x. IsSome (option_and_then (object_fields (shape_at table t)) x)) (sym at) some;
+      fields = λ i a needed.
+          let typed = need_typed table graph (vals.Ref o) t i a needed in
+          each i a (subst (λ x. Contains (or_none (option_and_then (object_fields (shape_at table t)) x)) (i, a)) at typed.0) typed.1;
+      way = λ asked. real_from table graph all whole back missed trail o t (real asked);
+    }
+
+    pub leaf_good : (object : Obj) → slice_get graph o ≡ Some object → IsLeaf object → IsSome (object_fields (shape_at table t) object) → IsGoodBut o t trail
+    leaf_good object at is some = object_good object at some (λ i a typed asked. absurd (leaf_needs (shape_at table t) object i a is typed))
+
+    module _ (tag : ℕ) (values : List Val) (needs : List Need) (placed : ArePlaced table graph all back whole missed o trail 0 values needs) where
+      -- the fields of a tag that has an argument
+      tag_some : (tags : List (PolyTag ℕ)) (vs : List Val) → ArePlaced table graph all back whole missed o trail 0 vs (hash_of tags ∷ []) → IsSome (tag_fields tags vs)
+      tag_some tags [] are = absurd are
+      tag_some tags (v ∷ []) are = absurd are.2
+      tag_some tags (v ∷ w ∷ x ∷ vs) are = absurd are.2.1
+      tag_some tags (v ∷ w ∷ []) are =
+          let h = are.1 in
+          let same : tag_fields tags (vals.Int h.hash ∷ w ∷ []) ≡ Some ((1, are.0) ∷ []) =
+          ap (option_and_then (λ (tag : PolyTag ℕ). argument_field tag.arg)) h.has_hash ∙ ap argument_field h.has_argument in
+          subst IsSome (sym (ap (λ u. tag_fields tags (u ∷ w ∷ [])) h.is_hash ∙ same)) refl
+
+      fields_some : (fields : Option (List (ℕ × ℕ))) → AreFields values needs fields → IsSome fields
+      fields_some fields (numbered ts asks its) = subst IsSome (sym its) refl
+      fields_some fields (tagged tags asks its two) =
+          subst IsSome (sym its) (tag_some tags values (subst (ArePlaced table graph all back whole missed o trail 0 values) asks placed))
+
+      -- a block, hidden or not
+      pub block_good : slice_get graph o ≡ Some (objects.Block tag values) → fields_ask table t tag (length values) ≡ Some needs → IsGoodBut o t trail
+      block_good at is = by (is_asked_in table t) refl is where
+        by : (asked : Bool) → is_asked_in table t ≡ asked → (if asked then block_needs (shape_at table t) tag (length values) else Some (map of_type (replicate (length values) t))) ≡ Some needs → IsGoodBut o t trail
+        by true asked is =
+            object_good (objects.Block tag values) at
+            (fields_some (block_fields (shape_at table t) tag values) (fields_are (shape_at table t) tag values needs is))
+            (λ i a typed asked_a.
+            let f = fields_placed table graph all back whole missed o trail (shape_at table t) tag values needs i a is placed typed in
+            record {
+              value = f.value;
+              field = ap (option_and_then (λ object. slice_get (values_of object) i)) at ∙ f.at;
+              placed = f.placed asked_a;
+            })
+        by false hidden is =
+            let none' = hidden_fields (shape_at table t) tag values hidden in
+            object_good (objects.Block tag values) at (subst IsSome (sym none') refl)
+            (λ i a typed asked_a. absurd (Contains-none (i, a) (subst (λ x. Contains (or_none x) (i, a)) none' typed)))

@@ -1,0 +1,78 @@
+-- The one misfit that was met is the least fault.
+use Rattle.std.proofs.Common.{ℕ, ◌≡◌, ◌∙◌, ⊎_elim, List, [], ◌∷◌, ◌++◌, length, Some, refl, sym, ap, subst, arith}
+use Rattle.std.specs.Prelude.{Contains, IsTrue, All}
+use Rattle.std.proofs.lemmas.List.{append-nil}
+use Rattle.std.proofs.lemmas.Option.{slice_get_within}
+use Rattle.om_model.specs.declared.value.Val.{Val}
+use Rattle.om_model.specs.declared.value.Obj.{Obj}
+use Rattle.om_types.specs.Lawful.{Everything, AreLawful}
+use Rattle.om_types.specs.Table.{Table, table_shapes, is_asked_in}
+use Rattle.om_format.specs.Tree.{Tree, IsTree, tokens, root, objects_of}
+use Rattle.om_pass_law.specs.Asked.{of_type}
+use Rattle.om_misfit_law.specs.MissedLaw.{IsSpelledBy, IsLeastMissed}
+use Rattle.om_misfit_law.specs.PassedBut.{Place, Made, Missed, PassedBut}
+use Rattle.om_misfit_law.proofs.BridgeLemmas.{IsMadeAt, AreMade}
+use Rattle.om_misfit_law.proofs.EndLemmas.{IsMet, field_least, root_least}
+use Rattle.om_misfit_law.proofs.FrontLemmas.{PassesBut, passes_from_start}
+use Rattle.om_misfit_law.proofs.ReadLemmas.{Good, IsMetAs, IsReadBut, all_in, tree_read}
+use Rattle.om_misfit_law.proofs.RealLemmas.{IsReal}
+
+no_list : {X : Type 0} (x : X) (xs : List X) → x ∷ xs ≡ [] → ⊥
+no_list {X} x xs same = subst IsSome same tt where
+  IsSome : List X → Type 0
+  IsSome [] = ⊥
+  IsSome (x ∷ xs) = Unit {0}
+
+module _ (table : Table) (lawful : AreLawful (table_shapes table) Everything) (back : List ℕ) (tree : Tree) (made : List Made) (m : Missed) (is : IsTree tree)
+    (passed : PassedBut back table (tokens tree) made [] (m ∷ [])) where
+  abbrev graph : List Obj
+  graph = objects_of tree 0
+
+  abbrev whole : Val
+  whole = root tree 0
+
+  abbrev start : List Place
+  start = record { asks = Some (of_type 0); trail = [] } ∷ []
+
+  goes : PassesBut back table made [] start (tokens tree ++ []) (m ∷ [])
+  goes = subst (λ ts. PassesBut back table made [] start ts (m ∷ [])) (sym (append-nil (tokens tree))) (passes_from_start back table made (tokens tree) (m ∷ []) passed)
+
+  read : IsReadBut back table made graph whole m 0 0 [] tree [] [] (m ∷ [])
+  read = tree_read back table made graph whole m tree 0 [] [] [] [] (m ∷ []) is (refl, tt) (all_in [] graph) (λ asked. (refl, refl)) goes
+
+  good : (o t : ℕ) (trail : List (ℕ × ℕ)) → IsMadeAt made o t trail → Good back table made graph whole m o t trail
+  good o t trail at =
+      let below = slice_get_within made o record { type = Some t; trail = trail } at in
+      let long = ap length read.passes.0 in
+      let many = read.many in
+      read.good o (omega arith) (omega (arith, below, long, many)) t trail at
+
+  met : IsMetAs back table made graph whole m m
+  met = ⊎_elim (λ same. absurd (no_list m [] (same ∙ read.passes.1))) (λ is. is) read.met
+
+  -- something is asked of the root, where the trail begins with it
+  root_asked : (trail : List (ℕ × ℕ)) (o t : ℕ) → IsMadeAt made o t trail → IsTrue (is_asked_in table t) → IsTrue (is_asked_in table 0)
+  root_asked [] o t at asked =
+      let from = (good o t [] at).way asked in
+      subst (λ u. IsTrue (is_asked_in table u)) (sym from.1) asked
+  root_asked (link ∷ trail) o t at asked =
+      let from = (good o t (link ∷ trail) at).way asked in
+      root_asked trail link.0 from.0 from.1 from.2
+
+  -- where the misfit is not the root, the root has what is asked for
+  all_made : (link : ℕ × ℕ) (trail : List (ℕ × ℕ)) → m.trail ≡ link ∷ trail → IsTrue (is_asked_in table 0) → AreMade table graph made back whole m.trail
+  all_made link trail its asked = record {
+    root_fine = ⊎_elim (λ fine. fine) (λ missed. absurd (no_list link trail (sym its ∙ missed.here))) (read.value asked);
+    fits = λ o t trail at. (good o t trail at).fits;
+    fields = λ o t trail i a at needed. (good o t trail at).fields i a needed;
+    ways = λ o t trail at asked. (good o t trail at).way asked;
+  }
+
+  pub only_missed : All (λ (link : ℕ × ℕ). Contains back link.0 → ⊥) m.trail → IsLeastMissed table graph whole m
+  only_missed others = by m.trail refl met.real where
+    by : (trail : List (ℕ × ℕ)) → m.trail ≡ trail → IsReal table graph made whole trail met.value m.type → IsLeastMissed table graph whole m
+    by [] its real = root_least table graph whole m its (sym real.1) met.misses (subst (λ v. IsSpelledBy graph v m.token) (sym real.0) met.spelled)
+    by ((o, i) ∷ trail) its real =
+        let are = all_made (o, i) trail its (root_asked trail o real.0 real.1 real.2) in
+        let is_met : IsMet table graph whole m made o i trail = record { is = its; type = real.0; at = real.1; asked = real.2; value = met.value; stepped = real.3; spelled = met.spelled } in
+        field_least table graph whole m made back o i trail lawful are met.misses is_met others

@@ -1,0 +1,161 @@
+-- Each path leads to a value that is held, by the only way that there is, or goes through a hole.
+use Rattle.std.proofs.Common.{ℕ, ◌≡◌, ◌∙◌, ◌⊎◌, ⊎_elim, inl, inr, List, [], ◌∷◌, ◌++◌}
+use Rattle.std.proofs.Common.{Option, Some, None, refl, sym, ap, subst, arith}
+use Rattle.std.specs.Prelude.{Contains, IsSomeAnd, option_map}
+use Rattle.std.proofs.lemmas.Option.{option_and_then_some, same_Some, none-some}
+use Rattle.std.proofs.lemmas.List.{append_assoc, append-nil, length-append}
+use Rattle.om_model.proofs.Options.{IsSomeAnd-some, Contains-cases, Contains-none}
+use Rattle.om_model.specs.declared.value.Val.{Val}
+use Rattle.om_model.specs.declared.value.Val.TheVariants as vals
+use Rattle.om_model.specs.declared.value.Obj.{Obj}
+use Rattle.om_types.specs.declared.fault.Fault.{Fault}
+use Rattle.om_types.specs.declared.fault.Fault.TheVariants.{Misfit, Clash}
+use Rattle.om_types.specs.Shapes.{Shapes}
+use Rattle.om_types.specs.Lawful.{Everything, AreLawful}
+use Rattle.om_types.specs.Typing.{field_at, IsListed, IsHeld}
+use Rattle.om_types.specs.Fault.{IsBefore, IsMisfit, IsFault, type_of_field, step, value_at}
+use Rattle.om_types.specs.LeastFault.{IsToldBefore, IsLeastFault}
+use Rattle.om_types.proofs.FaultLemmas.{named_is_needed}
+use Rattle.om_typing.proofs.PathLemmas.{value_at-push}
+use Rattle.om_typing.proofs.SearchedLemmas.{never_before_itself}
+use Rattle.om_misfit_law.specs.OnlyWay.{AreHeldBut, IsNeededOf, path_of, IsWay, IsOnlyWay, HasOnlyWay}
+
+-- a path is not before another where its front is not
+pub front_not_before : (front more path : List ℕ) → (IsBefore front path → ⊥) → IsBefore (front ++ more) path → ⊥
+front_not_before front [] path not before = not (subst (λ p. IsBefore p path) (append-nil front) before)
+front_not_before front (i ∷ more) path not (inl shorter) = not (inl (omega (arith, shorter, length-append front (i ∷ more))))
+front_not_before front (i ∷ more) path not (inr equal) = not (inl (omega (arith, equal.0, length-append front (i ∷ more))))
+
+no_path_before_root : (path : List ℕ) → IsBefore path [] → ⊥
+no_path_before_root [] (inl shorter) = omega arith
+no_path_before_root [] (inr equal) = equal.1
+no_path_before_root (i ∷ path) (inl shorter) = omega arith
+no_path_before_root (i ∷ path) (inr equal) = absurd (omega (arith, equal.0))
+
+module _ {T : Type 0} (shapes : Shapes T) (graph : List Obj) (root : Val) (t : T) where
+  -- a misfit before which no misfit is
+  least_misfit : (path : List ℕ) → IsMisfit shapes graph root t path → ((other : List ℕ) → IsMisfit shapes graph root t other → IsBefore other path → ⊥) → IsLeastFault shapes graph root t (Misfit path)
+  least_misfit path misfit first = record { is_fault = misfit; least = none } where
+    none : (other : Fault) → IsFault shapes graph root t other → IsToldBefore other (Misfit path) → ⊥
+    none (Misfit other) is told = first other is told
+    none (Clash one two) is told = told
+
+  pub root_misfit : (shapes.fits graph root t → ⊥) → IsLeastFault shapes graph root t (Misfit [])
+  root_misfit not = least_misfit [] not (λ other is before. no_path_before_root other before)
+
+  -- a trail's path leads to its object
+  pub way_leads : (trail : List (ℕ × ℕ)) (o : ℕ) (u : T) → IsWay shapes graph root t trail o u → value_at shapes graph root t (path_of trail) ≡ Some (vals.Ref o, u)
+  way_leads [] o u way = cc (way.0, way.1)
+  way_leads (link ∷ trail) o u way =
+      value_at-push shapes graph (path_of trail) root t link.1 (vals.Ref link.0, way.0) (vals.Ref o, u) (way_leads trail link.0 way.0 way.1) way.2
+
+paired : {T : Type 0} (w : Val) (named : Option T) (next : Val × T) → option_map (λ u. (w, u)) named ≡ Some next → (named ≡ Some next.1) × (w ≡ next.0)
+paired w None next same = absurd (none-some next same)
+paired w (Some u) next same =
+    let pair = same_Some (w, u) next same in
+    (ap (λ p. Some p.1) pair, ap (λ p. p.0) pair)
+
+module _ {T : Type 0} (shapes : Shapes T) (lawful : AreLawful shapes Everything) (graph : List Obj)
+    (pairs : List (ℕ × T)) (holes : List (ℕ × ℕ)) (root : Val) (t : T)
+    (are : AreHeldBut shapes graph pairs holes root t) where
+  -- each only way to the value is the path
+  abbrev Tracked : List ℕ → Val → Type 0
+  Tracked path v = (o : ℕ) (trail : List (ℕ × ℕ)) → v ≡ vals.Ref o → IsOnlyWay shapes graph pairs root trail o → path_of trail ≡ path
+
+  -- the path goes through a hole, and its front there is each only way to it
+  pub record IsThrough (path : List ℕ) : Type 0 where
+    pub object : ℕ
+    pub field : ℕ
+    pub is_hole : Contains holes (object, field)
+    pub front : List ℕ
+    pub more : List ℕ
+    pub path_is : path ≡ (front ++ field ∷ []) ++ more
+    pub only : (trail : List (ℕ × ℕ)) → IsOnlyWay shapes graph pairs root trail object → path_of trail ≡ front
+
+  held_at_equal : (v : Val) (u b : T) → shapes.equal b u → IsHeld shapes graph pairs v b → IsHeld shapes graph pairs v u
+  held_at_equal v u b equal held = record { fits = lawful.fits graph v b u (inl tt) equal held.fits; listed = listed_at v held.listed } where
+    listed_at : (w : Val) → IsListed shapes pairs w b → IsListed shapes pairs w u
+    listed_at (vals.Int z) is = tt
+    listed_at (vals.Atom tag) is = tt
+    listed_at (vals.Ref o) is = (is.0, is.1, lawful.transitive is.0 b u is.2 equal)
+
+  root_tracked : Tracked [] root
+  root_tracked o [] is only = refl
+  root_tracked o (link ∷ trail) is only = absurd (only.0 is)
+
+  field_tracked : (path : List ℕ) (o i : ℕ) (w : Val) → Tracked path (vals.Ref o) → IsNeededOf shapes graph pairs o i w → Tracked (path ++ i ∷ []) w
+  field_tracked path o i w tracked needed p [] is only = absurd (only o i (subst (λ v. IsNeededOf shapes graph pairs o i v) is needed))
+  field_tracked path o i w tracked needed p (link ∷ trail) is only =
+      let same = only.1 o i (subst (λ v. IsNeededOf shapes graph pairs o i v) is needed) in
+      let only' = subst (λ q. IsOnlyWay shapes graph pairs root trail q) (sym same.0) only.2 in
+      let front = tracked o trail refl only' in
+      subst (λ j. path_of trail ++ j ∷ [] ≡ path ++ i ∷ []) same.1 (ap (λ q. q ++ i ∷ []) front)
+
+  -- what is known of a step from an object that is listed
+  record IsStep (path : List ℕ) (o i : ℕ) (w : Val) (a : T) : Type 0 where
+    tracked : Tracked (path ++ i ∷ []) w
+    next : Contains holes (o, i) ⊎ IsHeld shapes graph pairs w a
+
+  from_object : (path : List ℕ) (o i : ℕ) (u : T) (w : Val) (a : T) → IsListed shapes pairs (vals.Ref o) u → Tracked path (vals.Ref o) → field_at graph o i ≡ Some w → Contains (shapes.needs graph (vals.Ref o) u) (i, a) → IsStep path o i w a
+  from_object path o i u w a listed tracked field need =
+      let other = lawful.needs graph (vals.Ref o) u listed.0 i a (inl tt) (lawful.symmetric listed.0 u listed.2) need in
+      record {
+        tracked = field_tracked path o i w tracked record { type = listed.0; among = listed.1; asked = other.0; needed = other.1; field = field };
+        next = ⊎_elim
+            (λ hole. inl hole)
+            (λ held.
+            let found = IsSomeAnd-some (field_at graph o i) (λ v. IsHeld shapes graph pairs v other.0) held in
+            let same = same_Some found.0 w (sym found.1 ∙ field) in
+            inr (held_at_equal w a other.0 (lawful.symmetric a other.0 other.2) (subst (λ v. IsHeld shapes graph pairs v other.0) same found.2)))
+            (are.held o listed.0 i other.0 listed.1 other.1);
+      }
+
+  abbrev Walked : List ℕ → Val × T → Type 0
+  Walked path place = shapes.fits graph place.0 place.1 ⊎ IsThrough path
+
+  pub walk : (front path : List ℕ) (v : Val) (u : T) (place : Val × T) → IsHeld shapes graph pairs v u → Tracked front v → value_at shapes graph v u path ≡ Some place → Walked (front ++ path) place
+  walk front [] v u place held tracked found =
+      inl (subst (λ (p : Val × T). shapes.fits graph p.0 p.1) (same_Some (v, u) place found) held.fits)
+  walk front (i ∷ path) (vals.Int z) u place held tracked found = absurd (none-some place found)
+  walk front (i ∷ path) (vals.Atom tag) u place held tracked found = absurd (none-some place found)
+  walk front (i ∷ path) (vals.Ref o) u place held tracked found =
+      option_and_then_some (λ p. value_at shapes graph p.0 p.1 path) (step shapes graph (vals.Ref o) u i) place found (λ next stepped rest.
+      option_and_then_some (λ x. option_map (λ b. (x, b)) (type_of_field (shapes.needs graph (vals.Ref o) u) i)) (field_at graph o i) next stepped (λ x field typed.
+      let parts = paired x (type_of_field (shapes.needs graph (vals.Ref o) u) i) next typed in
+      let one = from_object front o i u next.0 next.1 held.listed tracked (subst (λ y. field_at graph o i ≡ Some y) parts.1 field) (named_is_needed (shapes.needs graph (vals.Ref o) u) i next.1 parts.0) in
+      ⊎_elim
+      (λ hole. inr record { object = o; field = i; is_hole = hole; front = front; more = path; path_is = sym (append_assoc front (i ∷ []) path); only = λ trail only. tracked o trail refl only })
+      (λ held'. subst (λ p. Walked p place) (append_assoc front (i ∷ []) path) (walk (front ++ i ∷ []) path next.0 next.1 place held' one.tracked rest))
+      one.next))
+
+  pub only_ways : (path : List ℕ) → IsMisfit shapes graph root t path → ((o i : ℕ) → Contains holes (o, i) → HasOnlyWay shapes graph pairs root o i path) → IsLeastFault shapes graph root t (Misfit path)
+  only_ways path misfit each = least_misfit shapes graph root t path misfit first where
+    through : (other : List ℕ) → IsThrough other → IsBefore other path → ⊥
+    through other h before =
+        let way = each h.object h.field h.is_hole in
+        let front = h.only way.trail way.only in
+        let not = subst (λ p. IsBefore (p ++ h.field ∷ []) path → ⊥) front way.not_before in
+        front_not_before (h.front ++ h.field ∷ []) h.more path not (subst (λ p. IsBefore p path) h.path_is before)
+
+    first : (other : List ℕ) → IsMisfit shapes graph root t other → IsBefore other path → ⊥
+    first other is before =
+        let found = IsSomeAnd-some (value_at shapes graph root t other) (λ place. shapes.fits graph place.0 place.1 → ⊥) is in
+        ⊎_elim (λ fits. found.2 fits) (λ h. through other h before) (walk [] other root t found.0 are.root_held root_tracked found.1)
+
+-- one hole
+module _ {T : Type 0} (shapes : Shapes T) (lawful : AreLawful shapes Everything) (graph : List Obj)
+    (pairs : List (ℕ × T)) (root : Val) (t : T) (trail : List (ℕ × ℕ)) (o i : ℕ) (u a : T) (w : Val)
+    (are : AreHeldBut shapes graph pairs ((o, i) ∷ []) root t)
+    (way : IsWay shapes graph root t trail o u) (only : IsOnlyWay shapes graph pairs root trail o)
+    (stepped : step shapes graph (vals.Ref o) u i ≡ Some (w, a)) where
+  pub hole_at : value_at shapes graph root t (path_of ((o, i) ∷ trail)) ≡ Some (w, a)
+  hole_at = value_at-push shapes graph (path_of trail) root t i (vals.Ref o, u) (w, a) (way_leads shapes graph root t trail o u way) stepped
+
+  its_way : (p j : ℕ) → ◌≡◌ {A = ℕ × ℕ} (o, i) (p, j) → HasOnlyWay shapes graph pairs root p j (path_of ((o, i) ∷ trail))
+  its_way p j same = subst (λ (hole : ℕ × ℕ). HasOnlyWay shapes graph pairs root hole.0 hole.1 (path_of ((o, i) ∷ trail))) same
+      record { trail = trail; only = only; not_before = never_before_itself (path_of ((o, i) ∷ trail)) }
+
+  pub only_misfit : (shapes.fits graph w a → ⊥) → IsLeastFault shapes graph root t (Misfit (path_of ((o, i) ∷ trail)))
+  only_misfit not = only_ways shapes lawful graph pairs ((o, i) ∷ []) root t are (path_of ((o, i) ∷ trail))
+      (subst (λ place. IsSomeAnd place (λ place. shapes.fits graph place.0 place.1 → ⊥)) (sym hole_at) not)
+      (λ p j among. ⊎_elim (λ same. its_way p j same) (λ none. absurd (Contains-none (p, j) none)) (Contains-cases (o, i) [] (p, j) among))

@@ -1,0 +1,33 @@
+-- The line of a value whose least fault is a misfit that tokens showed.
+use Rattle.std.specs.Prelude.{ℕ, List, [], ◌++◌, Some, codes, decimal}
+use Rattle.std.specs.Fmt.{signed_decimal}
+use Rattle.om_model.specs.PathText.{path_text}
+use Rattle.om_model.specs.declared.value.Val.{Val}
+use Rattle.om_model.specs.declared.value.Obj.{Obj}
+use Rattle.om_types.specs.Table.{Table, table_shapes}
+use Rattle.om_types.specs.VerdictText.{object_text, IsNoLine}
+use Rattle.om_format.specs.Token.{Token, integer, atom, shared, block, leaf}
+use Rattle.om_misfit_law.specs.OnlyWay.{path_of}
+use Rattle.om_misfit_law.specs.PassedBut.{Missed}
+use Rattle.om_misfit_law.specs.MissedLaw.{IsLeastMissed}
+
+-- what the token is; a reference is never the misfit
+abbrev pub token_text : Token → List ℕ
+token_text (integer z) = codes "int " ++ signed_decimal z
+token_text (atom tag) = codes "atom " ++ decimal tag
+token_text (shared offset) = []
+token_text (block tag size) = codes "block " ++ decimal tag ++ codes " of " ++ decimal size
+token_text (leaf object) = object_text (Some object)
+
+abbrev pub missed_text : (ℕ → List ℕ) → Missed → List ℕ
+missed_text type_text missed =
+    path_text (path_of missed.trail) ++ codes ": expected " ++ type_text missed.type
+    ++ codes ", found " ++ token_text missed.token
+
+-- the line is told by the trail, the type and the token alone
+abbrev pub MissedHasLine : Type 0
+MissedHasLine =
+    (table : Table) (graph : List Obj) (root : Val) (missed : Missed) (type_text : ℕ → List ℕ)
+    → IsLeastMissed table graph root missed
+    → IsNoLine (table_shapes table) type_text graph root 0
+    (codes "no " ++ missed_text type_text missed)

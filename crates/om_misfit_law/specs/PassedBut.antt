@@ -1,0 +1,152 @@
+-- Tokens of a value that has what its places ask for, but at some of them: there, and below,
+-- nothing is asked. Each place knows its trail, and each object that of its place.
+use Rattle.std.specs.Prelude.{ℕ, suc, ◌+◌, ◌-◌, ◌≤◌, ◌≡◌, ◌⊎◌, false, IsTrue, IsSome, ℤ}
+use Rattle.std.specs.Prelude.{List, [], ◌∷◌, ◌++◌, length, replicate, slice_get, Option, Some, None}
+use Rattle.std.specs.Prelude.{Contains}
+use Rattle.om_types.specs.declared.shape.PolyTag.{PolyTag}
+use Rattle.om_types.specs.Fitting.{tag_with, fits_int, fits_atom, object_fields}
+use Rattle.om_types.specs.Table.{Table, table_shapes}
+use Rattle.om_format.specs.Token.{Token, integer, atom, shared, block, leaf}
+use Rattle.om_pass_law.specs.Asked.{Need, of_type, hash_of, values_in, shape_at, IsHidden}
+use Rattle.om_pass_law.specs.Asked.{fields_ask}
+
+-- an open place: what it asks for, or None below a misfit; its trail begins with the object and the
+-- field that the place is, and that of the root is empty
+pub record Place : Type 0 where
+  pub asks : Option Need
+  pub trail : List (ℕ × ℕ)
+
+-- how many values come in a place: a hash comes before its argument
+abbrev pub values_of : Option Need → ℕ
+values_of None = 1
+values_of (Some need) = values_in (need ∷ [])
+
+abbrev pub values_at : List Place → ℕ
+values_at [] = 0
+values_at (place ∷ places) = values_of place.asks + values_at places
+
+-- an object: the type that its place asked for, or None at a misfit and below, and the trail of
+-- that place
+pub record Made : Type 0 where
+  pub type : Option ℕ
+  pub trail : List (ℕ × ℕ)
+
+-- a misfit: its place's trail, the type that is asked for there, and the token that is found
+pub record Missed : Type 0 where
+  pub trail : List (ℕ × ℕ)
+  pub type : ℕ
+  pub token : Token
+
+-- the places of an object's fields from number k on; a hash and its argument are two
+abbrev pub places_of : ℕ → List (ℕ × ℕ) → ℕ → List Need → List Place
+places_of o trail k [] = []
+places_of o trail k (need ∷ needs) =
+    record { asks = Some need; trail = (o, k) ∷ trail }
+    ∷ places_of o trail (k + values_in (need ∷ [])) needs
+
+-- the trail of the field after
+abbrev pub field_after : List (ℕ × ℕ) → List (ℕ × ℕ)
+field_after [] = []
+field_after (link ∷ trail) = (link.0, suc link.1) ∷ trail
+
+-- the places of a token's fields where nothing is asked
+abbrev pub unasked : Token → List Place
+unasked (integer z) = []
+unasked (atom tag) = []
+unasked (shared offset) = []
+unasked (block tag size) = replicate size record { asks = None; trail = [] }
+unasked (leaf object) = []
+
+-- the object that a token makes in a place
+abbrev pub made_in : Option ℕ → List (ℕ × ℕ) → Token → List Made
+made_in type trail (integer z) = []
+made_in type trail (atom tag) = []
+made_in type trail (shared offset) = []
+made_in type trail (block tag size) = record { type = type; trail = trail } ∷ []
+made_in type trail (leaf object) = record { type = type; trail = trail } ∷ []
+
+-- a hash makes no object
+abbrev pub type_of_need : Need → Option ℕ
+type_of_need (of_type t) = Some t
+type_of_need (hash_of tags) = None
+
+-- a reference leads back to an object of an equal type, which is noted
+pub record IsLedBack
+    (back : List ℕ) (table : Table) (made : List Made) (t offset : ℕ)
+    : Type 0 where
+  pub some : 1 ≤ offset
+  pub few : offset ≤ length made
+  pub type : ℕ
+  pub trail : List (ℕ × ℕ)
+  pub at :
+      slice_get made (length made - offset) ≡ Some record { type = Some type; trail = trail }
+  pub equal : (table_shapes table).equal type t
+  pub noted : Contains back (length made - offset)
+
+-- a tag with this hash has an argument, whose place is the next
+pub record IsTaggedBut (tags : List (PolyTag ℕ)) (z : ℤ) (trail : List (ℕ × ℕ)) (next : List Place)
+    : Type 0 where
+  pub tag : PolyTag ℕ
+  pub has_hash : tag_with tags z ≡ Some tag
+  pub type : ℕ
+  pub has_argument : tag.arg ≡ Some type
+  pub argument : next ≡ record { asks = Some (of_type type); trail = field_after trail } ∷ []
+
+-- the token has what its place asks for, and these places come with it
+abbrev pub Takes :
+    List ℕ → Table → List Made → List (ℕ × ℕ) → Need → Token → List Place → Type 0
+Takes back table made trail (of_type t) (integer z) next =
+    IsTrue (fits_int (shape_at table t) z) × (next ≡ [])
+Takes back table made trail (of_type t) (atom tag) next =
+    IsTrue (fits_atom (shape_at table t) tag) × (next ≡ [])
+Takes back table made trail (of_type t) (shared offset) next =
+    (IsHidden table t ⊎ IsLedBack back table made t offset) × (next ≡ [])
+Takes back table made trail (of_type t) (block tag size) next =
+    (needs : List Need) × (fields_ask table t tag size ≡ Some needs)
+    × (next ≡ places_of (length made) trail 0 needs)
+Takes back table made trail (of_type t) (leaf object) next =
+    IsSome (object_fields (shape_at table t) object) × (next ≡ [])
+Takes back table made trail (hash_of tags) (integer z) next = IsTaggedBut tags z trail next
+Takes back table made trail (hash_of tags) (atom tag) next = ⊥
+Takes back table made trail (hash_of tags) (shared offset) next = ⊥
+Takes back table made trail (hash_of tags) (block tag size) next = ⊥
+Takes back table made trail (hash_of tags) (leaf object) next = ⊥
+
+-- the token certainly does not fit a place of the type; of a reference this is never known
+abbrev pub Misses : Table → ℕ → Token → Type 0
+Misses table t (integer z) = fits_int (shape_at table t) z ≡ false
+Misses table t (atom tag) = fits_atom (shape_at table t) tag ≡ false
+Misses table t (shared offset) = ⊥
+Misses table t (block tag size) = fields_ask table t tag size ≡ None
+Misses table t (leaf object) = object_fields (shape_at table t) object ≡ None
+
+-- these tokens lead from the start to these objects, open places and misfits; the objects that
+-- references of places of asked types lead back to are noted
+pub data PassedBut
+    (back : List ℕ) (table : Table)
+    : List Token → List Made → List Place → List Missed → Type 0 where
+  begin :
+      PassedBut back table [] [] (record { asks = Some (of_type 0); trail = [] } ∷ []) []
+  fitting :
+      (tokens : List Token) (made : List Made) (need : Need) (trail : List (ℕ × ℕ))
+      (places next : List Place) (missed : List Missed) (token : Token)
+      → PassedBut back table tokens made (record { asks = Some need; trail = trail } ∷ places)
+      missed
+      → Takes back table made trail need token next
+      → PassedBut back table (tokens ++ token ∷ [])
+      (made ++ made_in (type_of_need need) trail token) (next ++ places) missed
+  missing :
+      (tokens : List Token) (made : List Made) (t : ℕ) (trail : List (ℕ × ℕ))
+      (places : List Place) (missed : List Missed) (token : Token)
+      → PassedBut back table tokens made
+      (record { asks = Some (of_type t); trail = trail } ∷ places) missed
+      → Misses table t token
+      → PassedBut back table (tokens ++ token ∷ []) (made ++ made_in None trail token)
+      (unasked token ++ places)
+      (missed ++ record { trail = trail; type = t; token = token } ∷ [])
+  below :
+      (tokens : List Token) (made : List Made) (trail : List (ℕ × ℕ)) (places : List Place)
+      (missed : List Missed) (token : Token)
+      → PassedBut back table tokens made (record { asks = None; trail = trail } ∷ places) missed
+      → PassedBut back table (tokens ++ token ∷ []) (made ++ made_in None [] token)
+      (unasked token ++ places) missed
