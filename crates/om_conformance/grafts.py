@@ -211,7 +211,8 @@ def main():
             print("\n".join(answer(makes, lines, written, err, status)))
 
 
-if len(sys.argv) == 2 and sys.argv[1] in ("questions", "answers"):
-    main()
-else:
-    sys.exit(__doc__)
+if __name__ == "__main__":
+    if len(sys.argv) == 2 and sys.argv[1] in ("questions", "answers"):
+        main()
+    else:
+        sys.exit(__doc__)

@@ -1,7 +1,6 @@
 //! Long texts that `show` put: a value is guessed, and kept where it has the type and the text.
 
-ghost use Rattle.std.specs.Prelude.{length, IfOk, IfSome, IsTrue};
-ghost use Rattle.om_model.specs.Graph.{IsValue};
+ghost use Rattle.std.specs.Prelude.{IfOk, IfSome, IsTrue};
 ghost use Rattle.om_types.specs.Table.{table_shapes};
 ghost use Rattle.om_types.specs.Typing.{HasType};
 ghost use Rattle.om_type_table.specs.Made.{table_of};
@@ -12,7 +11,7 @@ ghost use Rattle.om_build.specs.Guessed.{IsRight};
 use om_check::Verdict;
 use om_declared::{Requested, find_verdict};
 use om_guess::{guess, has_text, is_spelled, spelled_are_readable};
-use om_heap::Heap;
+use om_heap::{Heap, Rooted};
 use om_model::Memory;
 use om_model::value::Val;
 use om_same_type::{the_same_has_the_same_text, the_same_has_the_same_types};
@@ -34,13 +33,13 @@ fn is_worth_it(table: &TypeTable, line: &[u8]) -> bool
 }
 
 /// Whether a value has the type.
-fn is_typed(alloc: Global, heap: &Heap, root: Val, requested: &Requested) -> Result<bool, Memory>
-    requires value { IsValue (length heap.now) root }
+fn is_typed(alloc: Global, value: &Rooted<'_>, requested: &Requested) -> Result<bool, Memory>
     ensures { IfOk result
         (λ typed. IsTrue typed
-        → HasType (table_shapes (table_of requested.now.table)) heap.now root 0) }
+        → HasType (table_shapes (table_of requested.now.table)) value.now.heap.now
+        value.now.root 0) }
 {
-    match find_verdict(alloc, heap, root, requested)? {
+    match find_verdict(alloc, value, requested)? {
         Verdict::Yes(_) => Ok(true),
         Verdict::No(_) => Ok(false),
     }
@@ -49,16 +48,16 @@ fn is_typed(alloc: Global, heap: &Heap, root: Val, requested: &Requested) -> Res
 /// Whether a value that has the type is one that a line stands for: whether it has the text.
 fn is_told(
     alloc: Global,
-    heap: &Heap,
-    root: Val,
+    value: &Rooted<'_>,
     requested: &Requested,
     line: &[u8],
 ) -> Result<bool, Memory>
-    requires value { IsValue (length heap.now) root }
     requires spelled { AreSpelled requested.now.table }
-    requires typed { HasType (table_shapes (table_of requested.now.table)) heap.now root 0 }
+    requires typed { HasType (table_shapes (table_of requested.now.table)) value.now.heap.now
+        value.now.root 0 }
     ensures { IfOk result
-        (λ right. IsTrue right → IsRight (type_over requested.now) line.now heap.now root) }
+        (λ right. IsTrue right
+        → IsRight (type_over requested.now) line.now value.now.heap.now value.now.root) }
 {
     requested.holds();
     tables_decide();
@@ -67,29 +66,28 @@ fn is_told(
     the_same_has_the_same_text();
     spelled_are_readable();
     texts_are_read_again();
-    if heap.count() >= 1 << 62 {
+    if value.heap.count() >= 1 << 62 {
         return Ok(false);
     }
-    has_text(alloc, heap, root, requested.table(), line)
+    has_text(alloc, value, requested.table(), line)
 }
 
 /// Whether a value is one that a line stands for: whether it has the type, and the text.
 fn is_right(
     alloc: Global,
-    heap: &Heap,
-    root: Val,
+    value: &Rooted<'_>,
     requested: &Requested,
     line: &[u8],
 ) -> Result<bool, Memory>
-    requires value { IsValue (length heap.now) root }
     requires spelled { AreSpelled requested.now.table }
     ensures { IfOk result
-        (λ right. IsTrue right → IsRight (type_over requested.now) line.now heap.now root) }
+        (λ right. IsTrue right
+        → IsRight (type_over requested.now) line.now value.now.heap.now value.now.root) }
 {
-    if !is_typed(alloc, heap, root, requested)? {
+    if !is_typed(alloc, value, requested)? {
         return Ok(false);
     }
-    is_told(alloc, heap, root, requested, line)
+    is_told(alloc, value, requested, line)
 }
 
 /// The value that a line stands for, with its objects, where it is guessed; or none, and then the
@@ -110,7 +108,7 @@ pub fn guess_line(
     let Some(root) = guess(alloc, heap, table, line)? else {
         return Ok(None);
     };
-    if !is_right(alloc, heap, root, requested, line)? {
+    if !is_right(alloc, &Rooted { heap, root }, requested, line)? {
         return Ok(None);
     }
     Ok(Some(root))

@@ -1,7 +1,6 @@
 //! A line, put as what it is at the type.
 
-ghost use Rattle.std.specs.Prelude.{ℕ, ◌+◌, ◌^◌, ◌<◌, List, length, Ok};
-ghost use Rattle.om_model.specs.Graph.{IsValue};
+ghost use Rattle.std.specs.Prelude.{ℕ, ◌+◌, ◌^◌, ◌<◌, List, Ok};
 ghost use Rattle.om_edge.specs.State.{change};
 ghost use Rattle.om_decimal_texts.specs.Plain.{decimals_in, plain_text, AreWithin};
 ghost use Rattle.om_declared.specs.Language.{TypeOver};
@@ -15,7 +14,7 @@ use crate::guessed::guess_line;
 use om_decimal_texts::{Decimal, put_plain_text};
 use om_declared::{Requested, check_type, put_plain};
 use om_edge::Sink;
-use om_heap::Heap;
+use om_heap::{Heap, Rooted};
 use om_literal_alike::tables_read_alike;
 use om_model::value::Val;
 use om_outcome::stop::Stop;
@@ -54,20 +53,18 @@ fn read_line(
 /// this number.
 fn put_value<K: Sink>(
     alloc: Global,
-    heap: &Heap,
-    root: Val,
+    value: &Rooted<'_>,
     number: u64,
     requested: &Requested,
     out: &mut K,
 ) -> Result<(), Halt>
-    requires value { IsValue (length heap.now) root }
     ensures { (text : List ℕ) (told : ℕ → ℕ → List ℕ) (place : ℕ)
-        → IsText (type_over requested.now) text (Ok (heap.now, root))
+        → IsText (type_over requested.now) text (Ok (value.now.heap.now, value.now.root))
         → PutsValue (plain_texts (type_over requested.now) told text) place number
         (change (K.state out.old) (K.state out.new)) result }
 {
-    check_type(alloc, heap, root, number, requested)?;
-    put_plain(alloc, heap, root, number, out)
+    check_type(alloc, value, number, requested)?;
+    put_plain(alloc, value, number, out)
 }
 
 /// Puts a text that is read, as that of the line of this number, before which there are so many
@@ -91,7 +88,7 @@ fn put_read<K: Sink>(
     match read_line(alloc, heap, requested, text, decimals, number)? {
         None => Ok(texts),
         Some(root) => {
-            put_value(alloc, heap, root, texts, requested, out)?;
+            put_value(alloc, &Rooted { heap, root }, texts, requested, out)?;
             Ok(texts + 1)
         }
     }
@@ -101,19 +98,17 @@ fn put_read<K: Sink>(
 /// answers how many there are then.
 fn put_right<K: Sink>(
     alloc: Global,
-    heap: &Heap,
-    root: Val,
+    value: &Rooted<'_>,
     texts: u64,
     out: &mut K,
 ) -> Result<u64, Halt>
-    requires value { IsValue (length heap.now) root }
     requires few { texts + 1 < 2 ^ 64 }
     ensures { (t : TypeOver) (told : ℕ → ℕ → List ℕ) (text : List ℕ) (number : ℕ)
-        → IsRight t text heap.now root
+        → IsRight t text value.now.heap.now value.now.root
         → PutsBy (plain_texts t told text) number texts
         (change (K.state out.old) (K.state out.new)) result }
 {
-    put_plain(alloc, heap, root, texts, out)?;
+    put_plain(alloc, value, texts, out)?;
     Ok(texts + 1)
 }
 
@@ -136,7 +131,7 @@ fn put_text<K: Sink>(
         (change (K.state out.old) (K.state out.new)) result }
 {
     match guess_line(alloc, heap, requested, text)? {
-        Some(root) => put_right(alloc, heap, root, texts, out),
+        Some(root) => put_right(alloc, &Rooted { heap, root }, texts, out),
         None => put_read(alloc, heap, requested, text, decimals, number, texts, out),
     }
 }

@@ -14,7 +14,7 @@ use crate::stated::Stated;
 use crate::test::test_pair;
 use crate::verified::{Verified, Why};
 use om_fault::is_fault;
-use om_heap::Heap;
+use om_heap::{Heap, Rooted};
 use om_model::Memory;
 use om_model::path::Path;
 use om_model::value::Val;
@@ -28,41 +28,40 @@ use std::alloc::Global;
 /// tested by itself, and each path is walked.
 pub fn verify(
     alloc: Global,
-    heap: &Heap,
-    root: Val,
+    value: &Rooted<'_>,
     table: &TypeTable,
     section: &Section,
 ) -> Result<Verified, Memory>
-    requires value { IsValue (length heap.now) root }
-    ensures answer { IfOk result (IsVerified (table_of table.now) heap.now root section.now) }
-    ensures shows { IfOk result (Shows (table_of table.now) heap.now root) }
-    ensures one { IfOk result (IsOneAnswer (table_of table.now) heap.now root section.now) }
+    ensures answer { IfOk result (IsVerified (table_of table.now) value.now.heap.now value.now.root
+        section.now) }
+    ensures shows { IfOk result (Shows (table_of table.now) value.now.heap.now value.now.root) }
+    ensures one { IfOk result (IsOneAnswer (table_of table.now) value.now.heap.now value.now.root
+        section.now) }
 {
     table.holds();
-    answer_of(alloc, heap, root, table, section)
+    answer_of(alloc, value, table, section)
 }
 
 /// The same by the kind of the section.
 fn answer_of(
     alloc: Global,
-    heap: &Heap,
-    root: Val,
+    value: &Rooted<'_>,
     table: &TypeTable,
     section: &Section,
 ) -> Result<Verified, Memory>
-    requires value { IsValue (length heap.now) root }
-    ensures { IfOk result (IsVerified (table_of table.now) heap.now root section.now) }
+    ensures { IfOk result (IsVerified (table_of table.now) value.now.heap.now value.now.root
+        section.now) }
 {
     match section {
-        Section::Pairs(pairs) => verify_pairs(alloc, heap, root, table, pairs),
+        Section::Pairs(pairs) => verify_pairs(alloc, value, table, pairs),
         Section::Misfit(path) => {
             let path = copied(alloc, path)?;
-            Ok(verify_fault(heap, root, table, Fault::Misfit(path)))
+            Ok(verify_fault(value, table, Fault::Misfit(path)))
         }
         Section::Clash(first, second) => {
             let first = copied(alloc, first)?;
             let second = copied(alloc, second)?;
-            Ok(verify_fault(heap, root, table, Fault::Clash(first, second)))
+            Ok(verify_fault(value, table, Fault::Clash(first, second)))
         }
     }
 }
@@ -79,11 +78,11 @@ fn copied(alloc: Global, path: &Path) -> Result<Path, Memory>
 }
 
 /// Whether the paths that are stated are a fault.
-fn verify_fault(heap: &Heap, root: Val, table: &TypeTable, fault: Fault) -> Verified
-    requires value { IsValue (length heap.now) root }
-    ensures { IsVerified (table_of table.now) heap.now root (fault_section fault) result }
+fn verify_fault(value: &Rooted<'_>, table: &TypeTable, fault: Fault) -> Verified
+    ensures { IsVerified (table_of table.now) value.now.heap.now value.now.root
+        (fault_section fault) result }
 {
-    if is_fault(heap, root, table, &fault) {
+    if is_fault(value, table, &fault) {
         Verified::No(fault)
     } else {
         Verified::Rejected(Why::NotFault)
@@ -113,29 +112,27 @@ fn first_out(heap: &Heap, table: &TypeTable, pairs: &Pairs) -> Option<usize>
 /// Whether the pairs justify one another and hold the root.
 fn verify_pairs<'a>(
     alloc: Global,
-    heap: &'a Heap,
-    root: Val,
+    value: &Rooted<'a>,
     table: &'a TypeTable,
     pairs: &'a Pairs,
 ) -> Result<Verified, Memory>
-    requires value { IsValue (length heap.now) root }
-    ensures { IfOk result
-        (IsVerified (table_of table.now) heap.now root (sections.Pairs pairs.now)) }
+    ensures { IfOk result (IsVerified (table_of table.now) value.now.heap.now value.now.root
+        (sections.Pairs pairs.now)) }
 {
-    if let Some(i) = first_out(heap, table, pairs) {
+    if let Some(i) = first_out(value.heap, table, pairs) {
         return Ok(Verified::Rejected(Why::Range(i as u64)));
     }
-    let rows = rows_of(alloc, heap, table)?;
+    let rows = rows_of(alloc, value.heap, table)?;
     let fitting = Fitting { table, rows: &rows };
     let stated = Stated {
-        heap,
+        heap: value.heap,
         fitting,
         pairs,
     };
-    if are_accepted(root, stated) {
+    if are_accepted(value.root, stated) {
         return Ok(Verified::Yes);
     }
-    verify_each(alloc, root, stated)
+    verify_each(alloc, value.root, stated)
 }
 
 /// The same pair by pair, where the objects and types of all are there: so what is first wrong is

@@ -171,7 +171,11 @@ fn holds_needs(
     let Some(needs) = known_needs(stated.heap, own.object, shape) else {
         return false;
     };
-    are_backed(stated, own.object, own.ty, own.word, near, needs)
+    let (object, ty, word) = (own.object, own.ty, own.word);
+    match needs {
+        Needs::Listed(types) => each_backed(stated, object, ty, word, near, Needs::Listed(types)),
+        _ => each_backed(stated, object, ty, word, near, needs),
+    }
 }
 
 /// Whether there is one constructor with arguments, whose blocks cannot be changed.
@@ -201,34 +205,8 @@ fn is_at_one_type(table: &TypeTable, pairs: &Pairs, i: usize, object: u64, ty: u
     !is_elsewhere_behind(table, pairs, i + 1, object, ty)
 }
 
-/// Whether an object, which has this word, holds all that it needs at a type, if all pairs fit.
-#[inline(always)]
-fn are_backed(
-    stated: Stated<'_>,
-    object: u64,
-    ty: usize,
-    word: u64,
-    near: Worded,
-    needs: Needs<'_>,
-) -> bool
-    requires object { object < length stated.heap.now }
-    requires word { word ≡ word_of stated.heap.now (vals.Ref object) }
-    requires ty { ty < length stated.fitting.table.now.nodes }
-    requires needs { typed_fields (table_in stated.fitting) stated.heap.now (vals.Ref object) ty
-        ≡ needs_in needs }
-    requires near { StandsAt (table_in stated.fitting) stated.heap.now stated.pairs.now near.word
-        near.ty }
-    ensures { OnTrue result (AllFit (table_in stated.entry.fitting) stated.entry.heap.now
-        stated.entry.pairs.now → HoldsAll (table_in stated.entry.fitting) stated.entry.heap.now
-        stated.entry.pairs.now object ty) }
-{
-    match needs {
-        Needs::Listed(types) => each_backed(stated, object, ty, word, near, Needs::Listed(types)),
-        _ => each_backed(stated, object, ty, word, near, needs),
-    }
-}
-
-/// The same, compiled anew for each kind of needs.
+/// Whether an object, which has this word, holds all that it needs at a type, if all pairs fit. It
+/// is compiled anew for each kind of needs.
 #[inline(always)]
 fn each_backed(
     stated: Stated<'_>,

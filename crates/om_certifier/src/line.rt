@@ -1,7 +1,6 @@
 //! The section of a value.
 
-ghost use Rattle.std.specs.Prelude.{◌≡◌, length, IfOk};
-ghost use Rattle.om_model.specs.Graph.{IsValue};
+ghost use Rattle.std.specs.Prelude.{◌≡◌, IfOk};
 ghost use Rattle.om_type_table.specs.Made.{table_of};
 ghost use Rattle.om_declared.specs.Types.{type_over};
 ghost use Rattle.om_certify.specs.Leasts.{AreLeasts};
@@ -11,9 +10,8 @@ use om_certify::{Leasts, section_with};
 use om_check::{Steps, check};
 use om_declared::Requested;
 use om_equal::table::tables_have_the_faults;
-use om_heap::Heap;
+use om_heap::Rooted;
 use om_model::Memory;
-use om_model::value::Val;
 use om_section::Section;
 use om_table::tables_decide;
 use std::alloc::Global;
@@ -21,22 +19,21 @@ use std::alloc::Global;
 /// Checks a value, and answers its section.
 pub fn value_section(
     alloc: Global,
-    heap: &Heap,
-    root: Val,
+    value: &Rooted<'_>,
     requested: &Requested,
     leasts: &Leasts,
 ) -> Result<Section, Memory>
-    requires value { IsValue (length heap.now) root }
-    requires leasts { AreLeasts (table_of requested.now.table) leasts.now }
-    ensures { IfOk result (IsSectionOf (type_over requested.now) heap.now root) }
+    requires { AreLeasts (table_of requested.now.table) leasts.now }
+    ensures { IfOk result
+        (IsSectionOf (type_over requested.now) value.now.heap.now value.now.root) }
 {
     requested.holds();
     tables_decide();
     tables_have_the_faults();
     let table = requested.table();
     let mut steps = Steps::new();
-    let verdict = check(alloc, heap, root, table, &mut steps)?;
-    let section = section_with(alloc, heap, root, table, leasts, verdict)?;
+    let verdict = check(alloc, value.heap, value.root, table, &mut steps)?;
+    let section = section_with(alloc, value.heap, value.root, table, leasts, verdict)?;
     Ok(section)
 }
 

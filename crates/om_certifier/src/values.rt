@@ -14,7 +14,7 @@ use crate::line::{is_yes, value_section};
 use om_certify::Leasts;
 use om_declared::Requested;
 use om_edge::{Sink, WriteError};
-use om_heap::Heap;
+use om_heap::{Heap, Rooted};
 use om_model::value::Val;
 use om_outcome::stop::Stop;
 use om_read::{Reader, Truncated};
@@ -52,7 +52,7 @@ fn put_said<K: Sink>(
     ensures { PutsSection (type_over requested.now) number heap.old root
         (change (K.state out.old) (K.state out.new)) result }
 {
-    let section = value_section(alloc, heap, root, requested, leasts)?;
+    let section = value_section(alloc, &Rooted { heap, root }, requested, leasts)?;
     give_back(alloc, heap);
     match put_cert(alloc, number, &section, out) {
         Ok(()) => Ok(is_yes(&section)),

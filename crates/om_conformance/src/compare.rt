@@ -1,8 +1,6 @@
 //! Answers as texts, in one format: those of the reader, and those of the plain program.
 
-ghost use Rattle.std.specs.Prelude.{◌<◌, length};
-
-use om_heap::{Heap, Kind};
+use om_heap::{Kind, Placed};
 use om_model::Memory;
 use om_model::code::Custom;
 use om_model::refusal::ReadRefusal;
@@ -40,9 +38,9 @@ fn push_doubles(alloc: Global, text: &mut String, all: &[u64]) -> Result<(), All
 }
 
 // Adds what stands in an object of a heap after its kind.
-fn push_content(alloc: Global, text: &mut String, heap: &Heap, o: u64) -> Result<(), AllocError>
-    requires { o < length heap.now }
-{
+fn push_content(alloc: Global, text: &mut String, placed: &Placed<'_>) -> Result<(), AllocError> {
+    let heap = placed.heap;
+    let o = placed.object;
     match heap.kind(o) {
         Kind::Block(_, size) => {
             for i in 0..size {
@@ -72,7 +70,14 @@ pub fn value_text(alloc: Global, value: &Value) -> Result<String, AllocError> {
     for o in 0..value.heap.count() {
         let kind = value.heap.kind(o);
         text.push_str(format!(in alloc; "; {kind:?}")?.as_str())?;
-        push_content(alloc, &mut text, &value.heap, o)?;
+        push_content(
+            alloc,
+            &mut text,
+            &Placed {
+                heap: &value.heap,
+                object: o,
+            },
+        )?;
     }
     Ok(text)
 }

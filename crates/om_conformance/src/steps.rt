@@ -20,6 +20,7 @@ use om_check::{Steps, Typing, Verdict, check};
 use om_edge::StdSink;
 use om_edit::{EditRefusal, apply, refusal_text};
 use om_fault::is_fault;
+use om_heap::Rooted;
 use om_lines::Places;
 use om_model::path::Path;
 use om_path::{Action, read_script};
@@ -83,7 +84,7 @@ fn put_fault(rt: &HostRuntime, fault: &Fault) -> io::Result<()> {
 }
 
 // How many objects at types justify that the value has its type.
-fn pairs_of(value: &Value, table: &TypeTable, typing: &Typing) -> u64 {
+fn pairs_of(value: &Rooted<'_>, table: &TypeTable, typing: &Typing) -> u64 {
     let mut pairs: u64 = 0;
     for k in 0..typing.len() {
         let (object, ty) = typing.get(k);
@@ -95,30 +96,40 @@ fn pairs_of(value: &Value, table: &TypeTable, typing: &Typing) -> u64 {
 }
 
 // Prints the text of a value that has its type.
-fn put_shown(rt: &HostRuntime, value: &Value, table: &TypeTable) -> io::Result<()>
-    requires value { IsValue (length value.now.heap) value.now.root }
-    requires typed { HasType (table_shapes (table_of table.now)) value.now.heap value.now.root 0 }
+fn put_shown(rt: &HostRuntime, value: &Rooted<'_>, table: &TypeTable) -> io::Result<()>
+    requires typed { HasType (table_shapes (table_of table.now)) value.now.heap.now
+        value.now.root 0 }
 {
     let mut out = StdSink::new(rt.stdout());
-    match show(rt.alloc(), &value.heap, value.root, table, &mut out) {
+    match show(rt.alloc(), value, table, &mut out) {
         Ok(()) => Ok(()),
         Err(_) => Err(ErrorKind::OutOfMemory.into()),
     }
 }
 
 // Prints that a value has its type: its text, and how many objects at types justify it.
-fn put_typed(rt: &HostRuntime, value: &Value, table: &TypeTable, typing: &Typing) -> io::Result<()>
-    requires value { IsValue (length value.now.heap) value.now.root }
-    requires typed { HasType (table_shapes (table_of table.now)) value.now.heap value.now.root 0 }
+fn put_typed(
+    rt: &HostRuntime,
+    value: &Rooted<'_>,
+    table: &TypeTable,
+    typing: &Typing,
+) -> io::Result<()>
+    requires typed { HasType (table_shapes (table_of table.now)) value.now.heap.now
+        value.now.root 0 }
 {
     print!(rt; "yes, ")?;
     put_shown(rt, value, table)?;
     print!(rt; ", pairs: {}", pairs_of(value, table, typing))
 }
 
-fn put_told(rt: &HostRuntime, value: &Value, table: &TypeTable, verdict: &Verdict) -> io::Result<()>
-    requires value { IsValue (length value.now.heap) value.now.root }
-    requires verdict { IsVerdict (table_of table.now) value.now.heap value.now.root verdict.now }
+fn put_told(
+    rt: &HostRuntime,
+    value: &Rooted<'_>,
+    table: &TypeTable,
+    verdict: &Verdict,
+) -> io::Result<()>
+    requires verdict { IsVerdict (table_of table.now) value.now.heap.now value.now.root
+        verdict.now }
 {
     match verdict {
         Verdict::Yes(typing) => put_typed(rt, value, table, typing),
@@ -130,16 +141,14 @@ fn put_told(rt: &HostRuntime, value: &Value, table: &TypeTable, verdict: &Verdic
 // not fit at its root.
 fn put_doubt(
     rt: &HostRuntime,
-    value: &Value,
+    value: &Rooted<'_>,
     table: &TypeTable,
     verdict: &Verdict,
-) -> io::Result<()>
-    requires value { IsValue (length value.now.heap) value.now.root }
-{
+) -> io::Result<()> {
     let at_root = Fault::Misfit(Path::new(rt.alloc()));
     let agrees = match verdict {
-        Verdict::Yes(_) => !is_fault(&value.heap, value.root, table, &at_root),
-        Verdict::No(fault) => is_fault(&value.heap, value.root, table, fault),
+        Verdict::Yes(_) => !is_fault(value, table, &at_root),
+        Verdict::No(fault) => is_fault(value, table, fault),
     };
     if agrees {
         return Ok(());
@@ -148,11 +157,9 @@ fn put_doubt(
 }
 
 // Prints whether the value has the type, and in how many steps that is found.
-fn put_verdict(rt: &HostRuntime, value: &Value, table: &TypeTable) -> io::Result<()>
-    requires value { IsValue (length value.now.heap) value.now.root }
-{
+fn put_verdict(rt: &HostRuntime, value: &Rooted<'_>, table: &TypeTable) -> io::Result<()> {
     let mut steps = Steps::new();
-    let Ok(verdict) = check(rt.alloc(), &value.heap, value.root, table, &mut steps) else {
+    let Ok(verdict) = check(rt.alloc(), value.heap, value.root, table, &mut steps) else {
         return Err(ErrorKind::OutOfMemory.into());
     };
     put_told(rt, value, table, &verdict)?;
@@ -196,7 +203,11 @@ fn answer_edit(rt: &HostRuntime, value: &mut Value, table: &TypeTable, line: &st
     put_edit(rt, value, table, line)?;
     let text = value_text(rt.alloc(), value)?;
     println!(rt; ": {text}")?;
-    put_verdict(rt, value, table)
+    let rooted = Rooted {
+        heap: &value.heap,
+        root: value.root,
+    };
+    put_verdict(rt, &rooted, table)
 }
 
 // Prints what becomes of the value by each line, which are parted by tabs.
@@ -223,7 +234,11 @@ fn answer_over(
     lines: Option<&str>,
 ) -> io::Result<()> {
     let mut value = value_of(rt.alloc(), digits)?;
-    put_verdict(rt, &value, table)?;
+    let rooted = Rooted {
+        heap: &value.heap,
+        root: value.root,
+    };
+    put_verdict(rt, &rooted, table)?;
     match lines {
         Some(lines) => answer_edits(rt, &mut value, table, lines),
         None => Ok(()),

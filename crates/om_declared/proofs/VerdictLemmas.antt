@@ -1,5 +1,5 @@
 -- What the table of a type says of a value is said at the type.
-use Rattle.std.proofs.Common.{ℕ, ◌≡◌, List, ◌++◌, Some, refl, subst}
+use Rattle.std.proofs.Common.{ℕ, ◌≡◌, ◌∙◌, List, ◌++◌, Some, refl, ap, subst}
 use Rattle.std.specs.Prelude.{codes, slice_get}
 use Rattle.om_model.specs.declared.value.Val.{Val}
 use Rattle.om_model.specs.declared.value.Obj.{Obj}
@@ -7,11 +7,10 @@ use Rattle.om_types.specs.declared.fault.Fault.{Fault}
 use Rattle.om_types.specs.Equal.{declared_shapes}
 use Rattle.om_types.specs.Table.{table_shapes}
 use Rattle.om_types.specs.Typing.{HasType}
-use Rattle.om_types.specs.VerdictText.{IsFaultText}
+use Rattle.om_types.specs.VerdictText.{IsFaultText, IsNoLine}
 use Rattle.om_equal.specs.TableLaws.{TablesHaveTheLeastFault}
 use Rattle.om_table.specs.TableDecides.{TheRootIsFirst, TablesDecide, IsMadeFor}
-use Rattle.om_type_table.specs.Made.{types_of, table_of, IsLawful}
-use Rattle.om_type_table.specs.Laws.{MadeAreLawful}
+use Rattle.om_type_table.specs.Made.{types_of, table_of}
 use Rattle.om_fault.specs.Text.{text_at}
 use Rattle.om_fault.specs.Laws.{TextsAreOfTypes}
 use Rattle.om_check.specs.declared.typing.Typing.{Typing}
@@ -24,10 +23,6 @@ use Rattle.om_declared.specs.Verdict.{IsVerdictOf, PutsNo}
 use Rattle.om_declared.proofs.GivenLemmas.{ready_each, ready_some_not}
 
 module _ (r : Prepared) (ready : IsReady r) where
-  -- values can be checked by the table
-  pub ready_lawful : MadeAreLawful → IsLawful (table_of r.table)
-  ready_lawful law = law r.decls r.ty r.table ready.well ready.sound ready.made
-
   module _ (root_first : TheRootIsFirst) (graph : List Obj) (root : Val) where
     pub is_first : slice_get (types_of r.table) 0 ≡ Some r.ty
     is_first = root_first r.decls r.ty (types_of r.table) ready.made.reached
@@ -52,6 +47,12 @@ module _ (r : Prepared) (ready : IsReady r) where
           ready_some_not r ready graph root fault by_type.is_fault,
           put,
         )
+
+    -- a line by the numbers is put
+    pub puts_line : TablesHaveTheLeastFault → TextsAreOfTypes → (line : List ℕ) → IsNoLine (table_shapes (table_of r.table)) (text_at r.table) graph root 0 line → (old new : List ℕ) → new ≡ old ++ line
+        → PutsNo (type_over r) graph root old new
+    puts_line same_faults same_texts line why old new put =
+        puts_no same_faults same_texts why.fault why.least why.text why.is_text old new (put ∙ ap (λ l. old ++ l) why.spelled)
 
 -- a verdict is `yes` where the value has the type
 pub yes_typed : (r : Prepared) (graph : List Obj) (root : Val) (verdict : Verdict) → IsVerdictOf r graph root verdict → (typing : Typing) → verdict ≡ Yes typing

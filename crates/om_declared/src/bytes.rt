@@ -1,13 +1,11 @@
 //! The bytes of a value, put.
 
-ghost use Rattle.std.specs.Prelude.{◌≡◌, Bool, true, false, length};
-ghost use Rattle.om_model.specs.Graph.{IsValue};
+ghost use Rattle.std.specs.Prelude.{◌≡◌, Bool, true, false};
 ghost use Rattle.om_edge.specs.State.{change};
 ghost use Rattle.om_declared.specs.Bytes.{PutsBytes};
 
 use om_edge::{Sink, WriteError};
-use om_heap::Heap;
-use om_model::value::Val;
+use om_heap::Rooted;
 use om_outcome::stop::Stop;
 use om_stops::made::too_large_value;
 use om_stops::stop::Halt;
@@ -17,37 +15,35 @@ use std::alloc::Global;
 /// Puts the bytes of the value of this number.
 pub fn put_bytes<K: Sink>(
     alloc: Global,
-    heap: &Heap,
-    root: Val,
+    value: &Rooted<'_>,
     number: u64,
     compat: bool,
     out: &mut K,
 ) -> Result<(), Halt>
-    requires { IsValue (length heap.now) root }
-    ensures { PutsBytes compat number heap.now root (change (K.state out.old) (K.state out.new))
+    ensures { PutsBytes compat number value.now.heap.now value.now.root
+        (change (K.state out.old) (K.state out.new))
         result }
 {
     if compat {
-        put_compat(alloc, heap, root, number, out)
+        put_compat(alloc, value, number, out)
     } else {
-        put_plain(alloc, heap, root, number, out)
+        put_plain(alloc, value, number, out)
     }
 }
 
 // Those that a reader on 32 bits can hold.
 fn put_compat<K: Sink>(
     alloc: Global,
-    heap: &Heap,
-    root: Val,
+    value: &Rooted<'_>,
     number: u64,
     out: &mut K,
 ) -> Result<(), Halt>
-    requires { IsValue (length heap.now) root }
     ensures { (compat : Bool) → compat ≡ true
-        → PutsBytes compat number heap.now root (change (K.state out.old) (K.state out.new))
+        → PutsBytes compat number value.now.heap.now value.now.root
+        (change (K.state out.old) (K.state out.new))
         result }
 {
-    match write32(alloc, heap, root, out) {
+    match write32(alloc, value.heap, value.root, out) {
         Ok(()) => Ok(()),
         Err(Write32Error::Compat(compat)) => {
             Err(Halt::Stop(too_large_value(alloc, number, compat)))
@@ -60,17 +56,16 @@ fn put_compat<K: Sink>(
 /// Puts them whatever reader is to hold them.
 pub fn put_plain<K: Sink>(
     alloc: Global,
-    heap: &Heap,
-    root: Val,
+    value: &Rooted<'_>,
     number: u64,
     out: &mut K,
 ) -> Result<(), Halt>
-    requires { IsValue (length heap.now) root }
     ensures { (compat : Bool) → compat ≡ false
-        → PutsBytes compat number heap.now root (change (K.state out.old) (K.state out.new))
+        → PutsBytes compat number value.now.heap.now value.now.root
+        (change (K.state out.old) (K.state out.new))
         result }
 {
-    match write(alloc, heap, root, out) {
+    match write(alloc, value.heap, value.root, out) {
         Ok(()) => Ok(()),
         Err(WriteError::Fault) => Err(Halt::WriteFault),
         Err(WriteError::Memory) => Err(Halt::Stop(Stop::Memory)),

@@ -16,4 +16,4 @@ pub use fetch::{Fetch, fetch_file};
 pub use gather::{Gathered, InputEnd, LENGTH_LIMIT, store};
 pub use requested::{Prepared, Requested};
 pub use types::{find_script, find_type, path_stop, read_gathered};
-pub use verdict::{find_verdict, put_near_no, put_no};
+pub use verdict::{find_verdict, put_missed_no, put_near_no, put_no};

@@ -1,7 +1,9 @@
 //! The verdict on a value at the type.
 
-ghost use Rattle.std.specs.Prelude.{◌≡◌, length, OnOk, IfOk, MatchBool};
-ghost use Rattle.om_model.specs.Graph.{IsValue};
+ghost use Rattle.std.specs.Prelude.{◌<◌, ◌≡◌, ℕ, List, length, OnOk, IfOk, MatchBool};
+ghost use Rattle.om_format.specs.Tree.{root, objects_of};
+ghost use Rattle.om_type_table.specs.Made.{table_of};
+ghost use Rattle.om_misfit.specs.Find.{IsFound};
 ghost use Rattle.om_declared.specs.Types.{type_over};
 ghost use Rattle.om_declared.specs.Verdict.{IsVerdictOf, PutsNo};
 ghost use Rattle.om_check.specs.declared.verdict.Verdict.TheVariants.{No};
@@ -10,10 +12,10 @@ use crate::requested::Requested;
 use om_check::{Steps, Verdict, check};
 use om_equal::table::tables_have_the_faults;
 use om_fault::laws::texts_are_of_types;
-use om_fault::{find_near, put_fault, put_near};
-use om_heap::Heap;
+use om_fault::{find_near, put_fault, put_missed, put_near};
+use om_heap::Rooted;
+use om_misfit::{Found, found_has_line};
 use om_model::Memory;
-use om_model::value::Val;
 use om_stops::put::put;
 use om_table::tables_decide;
 use om_types::fault::Fault;
@@ -22,37 +24,34 @@ use std::alloc::Global;
 /// Whether the value has the type, and if not the least fault.
 pub fn find_verdict(
     alloc: Global,
-    heap: &Heap,
-    root: Val,
+    value: &Rooted<'_>,
     requested: &Requested,
 ) -> Result<Verdict, Memory>
-    requires value { IsValue (length heap.now) root }
-    ensures { IfOk result (IsVerdictOf requested.now heap.now root) }
+    ensures { IfOk result (IsVerdictOf requested.now value.now.heap.now value.now.root) }
 {
     let mut steps = Steps::new();
-    check(alloc, heap, root, requested.table(), &mut steps)
+    check(alloc, value.heap, value.root, requested.table(), &mut steps)
 }
 
 /// Puts `no` and the least fault at the end.
 pub fn put_no(
     text: &mut Vec<u8>,
     alloc: Global,
-    heap: &Heap,
-    root: Val,
+    value: &Rooted<'_>,
     requested: &Requested,
     fault: &Fault,
 ) -> Result<(), Memory>
-    requires value { IsValue (length heap.now) root }
-    requires least { IsVerdictOf requested.now heap.now root (No fault.now) }
+    requires least { IsVerdictOf requested.now value.now.heap.now value.now.root (No fault.now) }
     ensures { OnOk result
-        (PutsNo (type_over requested.now) heap.now root text.old.items text.new.items) }
+        (PutsNo (type_over requested.now) value.now.heap.now value.now.root
+        text.old.items text.new.items) }
 {
     requested.holds();
     tables_decide();
     tables_have_the_faults();
     texts_are_of_types();
     put(text, b"no ")?;
-    put_fault(text, alloc, heap, root, requested.table(), fault)?;
+    put_fault(text, alloc, value, requested.table(), fault)?;
     Ok(())
 }
 
@@ -61,14 +60,13 @@ pub fn put_no(
 pub fn put_near_no(
     text: &mut Vec<u8>,
     alloc: Global,
-    heap: &Heap,
-    root: Val,
+    value: &Rooted<'_>,
     requested: &Requested,
 ) -> Result<bool, Memory>
-    requires value { IsValue (length heap.now) root }
     ensures { IfOk result
         (λ told. MatchBool told
-        (PutsNo (type_over requested.now) heap.now root text.old.items text.new.items)
+        (PutsNo (type_over requested.now) value.now.heap.now value.now.root
+        text.old.items text.new.items)
         (text.new.items ≡ text.old.items)) }
 {
     requested.holds();
@@ -76,10 +74,33 @@ pub fn put_near_no(
     tables_have_the_faults();
     texts_are_of_types();
     let table = requested.table();
-    let Some(near) = find_near(heap, root, table) else {
+    let Some(near) = find_near(value, table) else {
         return Ok(false);
     };
     put(text, b"no ")?;
-    put_near(text, alloc, heap, table, near)?;
+    put_near(text, alloc, value.heap, table, near)?;
     Ok(true)
+}
+
+/// Puts `no` and the one misfit that was found of a value, which is its least fault, at the end.
+pub fn put_missed_no(
+    text: &mut Vec<u8>,
+    alloc: Global,
+    requested: &Requested,
+    found: &Found,
+) -> Result<(), Memory>
+    requires number { found.now.ty < length requested.now.table.nodes }
+    ensures { OnOk result ((limit n : ℕ) (bytes : List ℕ)
+        (f : IsFound (table_of requested.now.table) limit n bytes found.now)
+        → PutsNo (type_over requested.now) (objects_of f.front.tree 0) (root f.front.tree 0)
+        text.old.items text.new.items) }
+{
+    requested.holds();
+    tables_decide();
+    tables_have_the_faults();
+    texts_are_of_types();
+    found_has_line();
+    put(text, b"no ")?;
+    put_missed(text, alloc, requested.table(), found)?;
+    Ok(())
 }

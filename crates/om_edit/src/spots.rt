@@ -7,7 +7,7 @@ ghost use Rattle.om_type_table.specs.Made.{table_of};
 ghost use Rattle.om_edit.specs.Places.{place_at, spot_after, on_side, StandsAt};
 
 use crate::refusal::{EditRefusal, Side};
-use om_fault::step;
+use om_fault::{Tried, step};
 use om_heap::Heap;
 use om_model::path::Path;
 use om_model::value::Val;
@@ -52,7 +52,13 @@ pub(crate) fn find_place(
     };
     for i in 0..path.len() {
         let n = path.step(i);
-        let Some((value, ty)) = step(heap, place.value, table, place.ty, n) else {
+        let tried = Tried {
+            heap,
+            table,
+            value: place.value,
+            at: place.ty,
+        };
+        let Some((value, ty)) = step(&tried, n) else {
             return Err(EditRefusal::NoField(side, i));
         };
         let spot = spot_after(place.value, n);

@@ -1,7 +1,6 @@
 //! Whether something is a fault of a value.
 
 ghost use Rattle.std.specs.Prelude.{◌<◌, ◌↔◌, length, IsTrue};
-ghost use Rattle.om_model.specs.Graph.{IsValue};
 ghost use Rattle.om_types.specs.Fault.{IsMisfit, IsClash, IsFault};
 ghost use Rattle.om_types.specs.Table.{table_shapes};
 ghost use Rattle.om_type_table.specs.Made.{table_of};
@@ -9,47 +8,62 @@ ghost use Rattle.om_fault.specs.Shared.{AreAtOdds, IsShared};
 
 use crate::order::is_before;
 use crate::steps::walk;
+use crate::tried::Tried;
 use om_fits::{is_mutable, needs_of};
-use om_heap::Heap;
+use om_heap::{Heap, Rooted};
 use om_model::path::Path;
 use om_model::value::Val;
 use om_type_table::TypeTable;
 use om_types::fault::Fault;
 
 /// Whether a value has a fault at the root's type. Takes no memory.
-pub fn is_fault(heap: &Heap, root: Val, table: &TypeTable, fault: &Fault) -> bool
-    requires value { IsValue (length heap.now) root }
+pub fn is_fault(value: &Rooted<'_>, table: &TypeTable, fault: &Fault) -> bool
     ensures { IsTrue result
-        ↔ IsFault (table_shapes (table_of table.now)) heap.now root 0 fault.now }
+        ↔ IsFault (table_shapes (table_of table.now)) value.now.heap.now value.now.root 0
+        fault.now }
 {
     match fault {
-        Fault::Misfit(path) => is_misfit(heap, root, table, path),
-        Fault::Clash(first, second) => is_clash(heap, root, table, first, second),
+        Fault::Misfit(path) => is_misfit(value, table, path),
+        Fault::Clash(first, second) => is_clash(value, table, first, second),
     }
 }
 
 /// Whether a path leads to a value that does not fit its type.
-fn is_misfit(heap: &Heap, root: Val, table: &TypeTable, path: &Path) -> bool
-    requires value { IsValue (length heap.now) root }
+fn is_misfit(value: &Rooted<'_>, table: &TypeTable, path: &Path) -> bool
     ensures { IsTrue result
-        ↔ IsMisfit (table_shapes (table_of table.now)) heap.now root 0 path.now }
+        ↔ IsMisfit (table_shapes (table_of table.now)) value.now.heap.now value.now.root 0
+        path.now }
 {
-    match walk(heap, root, table, path) {
-        Some((value, at)) => !fits(heap, value, table, at),
+    match walk(value, table, path) {
+        Some((found, at)) => {
+            let tried = Tried {
+                heap: value.heap,
+                table,
+                value: found,
+                at,
+            };
+            !fits(&tried)
+        }
         None => false,
     }
 }
 
 /// Whether two paths lead to one object at unequal types, at one of which it is mutable.
-fn is_clash(heap: &Heap, root: Val, table: &TypeTable, first: &Path, second: &Path) -> bool
-    requires value { IsValue (length heap.now) root }
+fn is_clash(value: &Rooted<'_>, table: &TypeTable, first: &Path, second: &Path) -> bool
     ensures { IsTrue result
-        ↔ IsClash (table_shapes (table_of table.now)) heap.now root 0 first.now second.now }
+        ↔ IsClash (table_shapes (table_of table.now)) value.now.heap.now value.now.root 0
+        first.now second.now }
 {
-    match walk(heap, root, table, first) {
-        Some((value, one)) => match walk(heap, root, table, second) {
+    match walk(value, table, first) {
+        Some((found, at)) => match walk(value, table, second) {
             Some((again, other)) => {
-                is_before(first, second) && is_shared(heap, table, value, one, again, other)
+                let tried = Tried {
+                    heap: value.heap,
+                    table,
+                    value: found,
+                    at,
+                };
+                is_before(first, second) && is_shared(&tried, again, other)
             }
             None => false,
         },
@@ -58,22 +72,16 @@ fn is_clash(heap: &Heap, root: Val, table: &TypeTable, first: &Path, second: &Pa
 }
 
 /// Whether two values are one object at unequal types, at one of which it is mutable.
-fn is_shared(
-    heap: &Heap,
-    table: &TypeTable,
-    value: Val,
-    one: usize,
-    again: Val,
-    other: usize,
-) -> bool
-    requires value { IsValue (length heap.now) value }
-    requires one { one < length table.now.nodes }
-    requires other { other < length table.now.nodes }
+fn is_shared(tried: &Tried<'_>, again: Val, other: usize) -> bool
+    requires other { other < length tried.now.table.now.nodes }
     ensures { IsTrue result
-        ↔ IsShared (table_shapes (table_of table.now)) heap.now value one again other }
+        ↔ IsShared (table_shapes (table_of tried.now.table.now)) tried.now.heap.now tried.now.value
+        tried.now.at again other }
 {
-    match value {
-        Val::Ref(object) => again == value && are_at_odds(heap, object, table, one, other),
+    match tried.value {
+        Val::Ref(object) => {
+            again == tried.value && are_at_odds(tried.heap, object, tried.table, tried.at, other)
+        }
         _ => false,
     }
 }
@@ -97,14 +105,20 @@ fn may_change(heap: &Heap, object: u64, table: &TypeTable, at: usize) -> bool
     requires number { at < length table.now.nodes }
     ensures { IsTrue result ↔ (table_shapes (table_of table.now)).mutable heap.now object at }
 {
-    fits(heap, Val::Ref(object), table, at) && is_mutable(heap, object, table.shape(at))
+    let tried = Tried {
+        heap,
+        table,
+        value: Val::Ref(object),
+        at,
+    };
+    fits(&tried) && is_mutable(heap, object, table.shape(at))
 }
 
 /// Whether a value fits a type.
-pub fn fits(heap: &Heap, value: Val, table: &TypeTable, at: usize) -> bool
-    requires value { IsValue (length heap.now) value }
-    requires number { at < length table.now.nodes }
-    ensures { IsTrue result ↔ (table_shapes (table_of table.now)).fits heap.now value at }
+pub fn fits(tried: &Tried<'_>) -> bool
+    ensures { IsTrue result
+        ↔ (table_shapes (table_of tried.now.table.now)).fits tried.now.heap.now tried.now.value
+        tried.now.at }
 {
-    needs_of(heap, value, table.shape(at)).is_some()
+    needs_of(tried.heap, tried.value, tried.table.shape(tried.at)).is_some()
 }

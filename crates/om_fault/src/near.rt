@@ -3,16 +3,18 @@
 
 ghost use Rattle.std.specs.Prelude.{ℕ, ◌≡◌, ◌<◌, ◌≤◌, ◌∷◌, [], None, length, IfSome, MatchOption};
 ghost use Rattle.om_model.specs.Graph.{IsValue};
-ghost use Rattle.om_types.specs.Fault.{field_of, type_of_field, step as step_of, IsMisfit};
+ghost use Rattle.om_types.specs.Fault.{field_of, type_of_field, IsMisfit};
 ghost use Rattle.om_types.specs.Table.{table_shapes, typed_fields};
 ghost use Rattle.om_fits.specs.Needs.{needs_in};
 ghost use Rattle.om_type_table.specs.Made.{table_of};
-ghost use Rattle.om_fault.specs.Near.{NoneOf, IsFirstOf, IsThere, IsNear, fields_of_kind};
+ghost use Rattle.om_fault.specs.Near.{NoneOf, IsFirstOf, IsNear, fields_of_kind};
+ghost use Rattle.om_fault.specs.Tried.{typed_in, needed_in, step_from, IsMisfitOf, LeadsTo};
 
 use crate::fault::fits;
 use crate::steps::field;
+use crate::tried::Tried;
 use om_fits::{Needs, is_asked, needs_of};
-use om_heap::{Heap, Kind};
+use om_heap::{Heap, Kind, Rooted};
 use om_model::value::Val;
 use om_type_table::TypeTable;
 
@@ -50,44 +52,56 @@ struct Unfit {
 
 /// The least misfit of a small value, where its path has one step at most, or of a tiny one two.
 /// Where the answer is none nothing is told.
-pub fn find_near(heap: &Heap, root: Val, table: &TypeTable) -> Option<Near>
-    requires value { IsValue (length heap.now) root }
-    ensures { IfSome result (IsNear (table_of table.now) heap.now root) }
+pub fn find_near(value: &Rooted<'_>, table: &TypeTable) -> Option<Near>
+    ensures { IfSome result (IsNear (table_of table.now) value.now.heap.now value.now.root) }
 {
     table.holds();
-    if heap.words() > SMALL {
+    if value.heap.words() > SMALL {
         return None;
     }
-    let Some(needs) = needs_of(heap, root, table.shape(0)) else {
+    let Some(needs) = needs_of(value.heap, value.root, table.shape(0)) else {
         return Some(Near {
             way: Way::Root,
-            value: root,
+            value: value.root,
             at: 0,
         });
     };
-    match unfit_field(heap, root, table, 0, needs) {
+    let tried = Tried {
+        heap: value.heap,
+        table,
+        value: value.root,
+        at: 0,
+    };
+    match unfit_field(&tried, needs) {
         Some(unfit) => Some(Near {
             way: Way::Field(unfit.field),
             value: unfit.value,
             at: unfit.at,
         }),
-        None => near_part(heap, root, table, needs),
+        None => near_part(value, table, needs),
     }
 }
 
 /// The same where the root fits, and so do its fields.
-fn near_part(heap: &Heap, root: Val, table: &TypeTable, needs: Needs<'_>) -> Option<Near>
-    requires value { IsValue (length heap.now) root }
-    requires needs { needs_in needs ≡ typed_fields (table_of table.now) heap.now root 0 }
-    requires fits { (table_shapes (table_of table.now)).fits heap.now root 0 }
-    requires fields { NoneOf (IsMisfit (table_shapes (table_of table.now)) heap.now root 0) 1 }
-    ensures { IfSome result (IsNear (table_of table.now) heap.now root) }
+fn near_part(value: &Rooted<'_>, table: &TypeTable, needs: Needs<'_>) -> Option<Near>
+    requires needs { needs_in needs
+        ≡ typed_fields (table_of table.now) value.now.heap.now value.now.root 0 }
+    requires fits { (table_shapes (table_of table.now)).fits value.now.heap.now value.now.root 0 }
+    requires fields { NoneOf
+        (IsMisfit (table_shapes (table_of table.now)) value.now.heap.now value.now.root 0) 1 }
+    ensures { IfSome result (IsNear (table_of table.now) value.now.heap.now value.now.root) }
 {
     table.holds();
-    if heap.words() > TINY {
+    if value.heap.words() > TINY {
         return None;
     }
-    match unfit_part(heap, root, table, 0, needs) {
+    let tried = Tried {
+        heap: value.heap,
+        table,
+        value: value.root,
+        at: 0,
+    };
+    match unfit_part(&tried, needs) {
         Some((i, unfit)) => Some(Near {
             way: Way::Part(i, unfit.field),
             value: unfit.value,
@@ -119,43 +133,25 @@ fn field_count(heap: &Heap, value: Val) -> u64
 }
 
 /// The type that field i of a value at a type has, hidden or not, where these fields have types.
-fn type_in(
-    _heap: &Heap,
-    _value: Val,
-    table: &TypeTable,
-    _at: usize,
-    needs: Needs<'_>,
-    i: u64,
-) -> Option<usize>
-    requires number { _at < length table.now.nodes }
-    requires needs { needs_in needs ≡ typed_fields (table_of table.now) _heap.now _value _at }
-    ensures is { result
-        ≡ type_of_field (typed_fields (table_of table.now) _heap.now _value _at) i }
-    ensures number { IfSome result (λ ty. ty < length table.now.nodes) }
+fn type_in(tried: &Tried<'_>, needs: Needs<'_>, i: u64) -> Option<usize>
+    requires needs { needs_in needs ≡ typed_in tried.now }
+    ensures is { result ≡ type_of_field (typed_in tried.now) i }
+    ensures number { IfSome result (λ ty. ty < length tried.now.table.now.nodes) }
 {
-    table.holds();
+    tried.table.holds();
     needs.type_of(i)
 }
 
 /// The type that is needed for field i.
-fn needed_type(
-    heap: &Heap,
-    value: Val,
-    table: &TypeTable,
-    at: usize,
-    needs: Needs<'_>,
-    i: u64,
-) -> Option<usize>
-    requires number { at < length table.now.nodes }
-    requires needs { needs_in needs ≡ typed_fields (table_of table.now) heap.now value at }
-    ensures is { result
-        ≡ type_of_field ((table_shapes (table_of table.now)).needs heap.now value at) i }
-    ensures number { IfSome result (λ ty. ty < length table.now.nodes) }
+fn needed_type(tried: &Tried<'_>, needs: Needs<'_>, i: u64) -> Option<usize>
+    requires needs { needs_in needs ≡ typed_in tried.now }
+    ensures is { result ≡ type_of_field (needed_in tried.now) i }
+    ensures number { IfSome result (λ ty. ty < length tried.now.table.now.nodes) }
 {
-    let Some(ty) = type_in(heap, value, table, at, needs, i) else {
+    let Some(ty) = type_in(tried, needs, i) else {
         return None;
     };
-    if is_asked(table.shape(ty)) {
+    if is_asked(tried.table.shape(ty)) {
         Some(ty)
     } else {
         None
@@ -163,78 +159,54 @@ fn needed_type(
 }
 
 /// One step: field i, and the number of the type that is needed there.
-fn part(
-    heap: &Heap,
-    value: Val,
-    table: &TypeTable,
-    at: usize,
-    needs: Needs<'_>,
-    i: u64,
-) -> Option<(Val, usize)>
-    requires value { IsValue (length heap.now) value }
-    requires number { at < length table.now.nodes }
-    requires needs { needs_in needs ≡ typed_fields (table_of table.now) heap.now value at }
-    ensures place { result ≡ step_of (table_shapes (table_of table.now)) heap.now value at i }
-    ensures value { IfSome result (λ place. IsValue (length heap.now) place.0) }
-    ensures number { IfSome result (λ place. place.1 < length table.now.nodes) }
+fn part(tried: &Tried<'_>, needs: Needs<'_>, i: u64) -> Option<(Val, usize)>
+    requires needs { needs_in needs ≡ typed_in tried.now }
+    ensures place { result ≡ step_from tried.now i }
+    ensures value { IfSome result (λ place. IsValue (length tried.now.heap.now) place.0) }
+    ensures number { IfSome result (λ place. place.1 < length tried.now.table.now.nodes) }
 {
-    let ty = needed_type(heap, value, table, at, needs, i)?;
-    let next = field(heap, value, i)?;
+    let ty = needed_type(tried, needs, i)?;
+    let next = field(tried.heap, tried.value, i)?;
     Some((next, ty))
 }
 
 /// Field i, where it does not fit its own type.
-fn unfit_at(
-    heap: &Heap,
-    value: Val,
-    table: &TypeTable,
-    at: usize,
-    needs: Needs<'_>,
-    i: u64,
-) -> Option<Unfit>
-    requires value { IsValue (length heap.now) value }
-    requires number { at < length table.now.nodes }
-    requires needs { needs_in needs ≡ typed_fields (table_of table.now) heap.now value at }
-    ensures { MatchOption result
-        (¬ IsMisfit (table_shapes (table_of table.now)) heap.now value at (i ∷ []))
+fn unfit_at(tried: &Tried<'_>, needs: Needs<'_>, i: u64) -> Option<Unfit>
+    requires needs { needs_in needs ≡ typed_in tried.now }
+    ensures { MatchOption result (¬ IsMisfitOf tried.now (i ∷ []))
         (λ unfit. (unfit.field ≡ i)
-        × IsMisfit (table_shapes (table_of table.now)) heap.now value at (i ∷ [])
-        × IsThere (table_of table.now) heap.now value at (i ∷ []) unfit.value unfit.at) }
+        × IsMisfitOf tried.now (i ∷ [])
+        × LeadsTo tried.now (i ∷ []) unfit.value unfit.at) }
 {
-    let Some((next, ty)) = part(heap, value, table, at, needs, i) else {
+    let Some((value, at)) = part(tried, needs, i) else {
         return None;
     };
-    if fits(heap, next, table, ty) {
+    let next = Tried {
+        heap: tried.heap,
+        table: tried.table,
+        value,
+        at,
+    };
+    if fits(&next) {
         return None;
     }
     Some(Unfit {
         field: i,
-        value: next,
-        at: ty,
+        value,
+        at,
     })
 }
 
 /// The first field of a value at a type that does not fit its own, where these fields have types.
-fn unfit_field(
-    heap: &Heap,
-    value: Val,
-    table: &TypeTable,
-    at: usize,
-    needs: Needs<'_>,
-) -> Option<Unfit>
-    requires value { IsValue (length heap.now) value }
-    requires number { at < length table.now.nodes }
-    requires needs { needs_in needs ≡ typed_fields (table_of table.now) heap.now value at }
-    ensures { MatchOption result
-        (NoneOf (IsMisfit (table_shapes (table_of table.now)) heap.now value at) 1)
-        (λ unfit. IsFirstOf (IsMisfit (table_shapes (table_of table.now)) heap.now value at)
-        (unfit.field ∷ [])
-        × IsThere (table_of table.now) heap.now value at (unfit.field ∷ []) unfit.value
-        unfit.at) }
+fn unfit_field(tried: &Tried<'_>, needs: Needs<'_>) -> Option<Unfit>
+    requires needs { needs_in needs ≡ typed_in tried.now }
+    ensures { MatchOption result (NoneOf (IsMisfitOf tried.now) 1)
+        (λ unfit. IsFirstOf (IsMisfitOf tried.now) (unfit.field ∷ [])
+        × LeadsTo tried.now (unfit.field ∷ []) unfit.value unfit.at) }
 {
-    let count = field_count(heap, value);
+    let count = field_count(tried.heap, tried.value);
     for i in 0..count {
-        if let Some(unfit) = unfit_at(heap, value, table, at, needs, i) {
+        if let Some(unfit) = unfit_at(tried, needs, i) {
             return Some(unfit);
         }
     }
@@ -242,71 +214,47 @@ fn unfit_field(
 }
 
 /// The same where nothing is known of the fields.
-fn unfit_field_of(heap: &Heap, value: Val, table: &TypeTable, at: usize) -> Option<Unfit>
-    requires value { IsValue (length heap.now) value }
-    requires number { at < length table.now.nodes }
-    ensures { MatchOption result
-        (NoneOf (IsMisfit (table_shapes (table_of table.now)) heap.now value at) 1)
-        (λ unfit. IsFirstOf (IsMisfit (table_shapes (table_of table.now)) heap.now value at)
-        (unfit.field ∷ [])
-        × IsThere (table_of table.now) heap.now value at (unfit.field ∷ []) unfit.value
-        unfit.at) }
+fn unfit_field_of(tried: &Tried<'_>) -> Option<Unfit>
+    ensures { MatchOption result (NoneOf (IsMisfitOf tried.now) 1)
+        (λ unfit. IsFirstOf (IsMisfitOf tried.now) (unfit.field ∷ [])
+        × LeadsTo tried.now (unfit.field ∷ []) unfit.value unfit.at) }
 {
-    let Some(needs) = needs_of(heap, value, table.shape(at)) else {
+    let Some(needs) = needs_of(tried.heap, tried.value, tried.table.shape(tried.at)) else {
         return None;
     };
-    unfit_field(heap, value, table, at, needs)
+    unfit_field(tried, needs)
 }
 
 /// The first field of field i that does not fit its own type.
-fn unfit_in(
-    heap: &Heap,
-    value: Val,
-    table: &TypeTable,
-    at: usize,
-    needs: Needs<'_>,
-    i: u64,
-) -> Option<Unfit>
-    requires value { IsValue (length heap.now) value }
-    requires number { at < length table.now.nodes }
-    requires needs { needs_in needs ≡ typed_fields (table_of table.now) heap.now value at }
-    ensures { MatchOption result
-        (NoneOf (λ path. IsMisfit (table_shapes (table_of table.now)) heap.now value at (i ∷ path))
-        1)
-        (λ unfit. IsFirstOf
-        (λ path. IsMisfit (table_shapes (table_of table.now)) heap.now value at (i ∷ path))
-        (unfit.field ∷ [])
-        × IsThere (table_of table.now) heap.now value at (i ∷ unfit.field ∷ []) unfit.value
-        unfit.at) }
+fn unfit_in(tried: &Tried<'_>, needs: Needs<'_>, i: u64) -> Option<Unfit>
+    requires needs { needs_in needs ≡ typed_in tried.now }
+    ensures { MatchOption result (NoneOf (λ path. IsMisfitOf tried.now (i ∷ path)) 1)
+        (λ unfit. IsFirstOf (λ path. IsMisfitOf tried.now (i ∷ path)) (unfit.field ∷ [])
+        × LeadsTo tried.now (i ∷ unfit.field ∷ []) unfit.value unfit.at) }
 {
-    let Some((next, ty)) = part(heap, value, table, at, needs, i) else {
+    let Some((value, at)) = part(tried, needs, i) else {
         return None;
     };
-    unfit_field_of(heap, next, table, ty)
+    let next = Tried {
+        heap: tried.heap,
+        table: tried.table,
+        value,
+        at,
+    };
+    unfit_field_of(&next)
 }
 
 /// The first field of a field of a value at a type that does not fit its own type, and the number
 /// of the field that it is in.
-fn unfit_part(
-    heap: &Heap,
-    value: Val,
-    table: &TypeTable,
-    at: usize,
-    needs: Needs<'_>,
-) -> Option<(u64, Unfit)>
-    requires value { IsValue (length heap.now) value }
-    requires number { at < length table.now.nodes }
-    requires needs { needs_in needs ≡ typed_fields (table_of table.now) heap.now value at }
-    ensures { MatchOption result
-        (NoneOf (IsMisfit (table_shapes (table_of table.now)) heap.now value at) 2)
-        (λ two. IsFirstOf (IsMisfit (table_shapes (table_of table.now)) heap.now value at)
-        (two.0 ∷ two.1.field ∷ [])
-        × IsThere (table_of table.now) heap.now value at (two.0 ∷ two.1.field ∷ []) two.1.value
-        two.1.at) }
+fn unfit_part(tried: &Tried<'_>, needs: Needs<'_>) -> Option<(u64, Unfit)>
+    requires needs { needs_in needs ≡ typed_in tried.now }
+    ensures { MatchOption result (NoneOf (IsMisfitOf tried.now) 2)
+        (λ two. IsFirstOf (IsMisfitOf tried.now) (two.0 ∷ two.1.field ∷ [])
+        × LeadsTo tried.now (two.0 ∷ two.1.field ∷ []) two.1.value two.1.at) }
 {
-    let count = field_count(heap, value);
+    let count = field_count(tried.heap, tried.value);
     for i in 0..count {
-        if let Some(unfit) = unfit_in(heap, value, table, at, needs, i) {
+        if let Some(unfit) = unfit_in(tried, needs, i) {
             return Some((i, unfit));
         }
     }

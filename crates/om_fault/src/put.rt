@@ -1,8 +1,7 @@
 //! What a value is, put at the end of a text.
 
-ghost use Rattle.std.specs.Prelude.{◌≡◌, ◌++◌, length, OnOk, decimal};
+ghost use Rattle.std.specs.Prelude.{◌≡◌, ◌++◌, OnOk, codes, decimal};
 ghost use Rattle.std.specs.Fmt.{signed_decimal};
-ghost use Rattle.om_model.specs.Graph.{IsValue};
 ghost use Rattle.om_model.specs.PathText.{path_text};
 ghost use Rattle.om_types.specs.VerdictText.{kind_text};
 ghost use Rattle.om_fault.specs.Near.{path_in};
@@ -10,7 +9,7 @@ ghost use Rattle.om_fault.specs.Text.{step_text, text_of_kind};
 
 use crate::near::Way;
 use itoa::Buffer;
-use om_heap::{Heap, Kind};
+use om_heap::{Kind, Rooted};
 use om_model::Memory;
 use om_model::code::Custom;
 use om_model::path::Path;
@@ -18,25 +17,35 @@ use om_model::value::Val;
 
 /// Puts what a value is.
 #[tactic(auto, using(crate::proofs::KindTexts::object_text_by_kind))]
-pub fn put_kind(text: &mut Vec<u8>, heap: &Heap, v: Val) -> Result<(), Memory>
-    requires { IsValue (length heap.now) v }
-    ensures { OnOk result (text.new.items ≡ text.old.items ++ kind_text heap.now v) }
+pub fn put_kind(text: &mut Vec<u8>, value: &Rooted<'_>) -> Result<(), Memory>
+    ensures { OnOk result
+        (text.new.items ≡ text.old.items ++ kind_text value.now.heap.now value.now.root) }
 {
-    match v {
-        Val::Int(n) => {
-            put(text, b"int ")?;
-            put_integer(text, n)
-        }
-        Val::Atom(tag) => {
-            put(text, b"atom ")?;
-            put_number(text, u64::from(tag))
-        }
-        Val::Ref(o) => put_object(text, heap.kind(o)),
+    match value.root {
+        Val::Int(n) => put_int(text, n),
+        Val::Atom(tag) => put_atom(text, tag),
+        Val::Ref(o) => put_object(text, value.heap.kind(o)),
     }
 }
 
+/// Puts an integer that was found.
+pub fn put_int(text: &mut Vec<u8>, n: i64) -> Result<(), Memory>
+    ensures { OnOk result (text.new.items ≡ text.old.items ++ (codes "int " ++ signed_decimal n)) }
+{
+    put(text, b"int ")?;
+    put_integer(text, n)
+}
+
+/// Puts an atom that was found.
+pub fn put_atom(text: &mut Vec<u8>, tag: u8) -> Result<(), Memory>
+    ensures { OnOk result (text.new.items ≡ text.old.items ++ (codes "atom " ++ decimal tag)) }
+{
+    put(text, b"atom ")?;
+    put_number(text, u64::from(tag))
+}
+
 /// Puts what an object is.
-fn put_object(text: &mut Vec<u8>, kind: Kind) -> Result<(), Memory>
+pub fn put_object(text: &mut Vec<u8>, kind: Kind) -> Result<(), Memory>
     ensures { OnOk result (text.new.items ≡ text.old.items ++ text_of_kind kind) }
 {
     match kind {
@@ -91,7 +100,7 @@ fn put_two(text: &mut Vec<u8>, i: u64, j: u64) -> Result<(), Memory>
 }
 
 /// Puts a step of a path.
-fn put_step(text: &mut Vec<u8>, step: u64) -> Result<(), Memory>
+pub fn put_step(text: &mut Vec<u8>, step: u64) -> Result<(), Memory>
     ensures { OnOk result (text.new.items ≡ text.old.items ++ step_text step) }
 {
     put(text, b".")?;

@@ -3,60 +3,61 @@
 ghost use Rattle.std.specs.Prelude.{◌≡◌, ◌<◌, length, IfSome};
 ghost use Rattle.om_model.specs.Graph.{IsValue};
 ghost use Rattle.om_types.specs.Fault.{field_of, type_of_field, step as step_of, value_at};
-ghost use Rattle.om_types.specs.Table.{table_shapes, typed_fields};
+ghost use Rattle.om_types.specs.Table.{table_shapes};
 ghost use Rattle.om_type_table.specs.Made.{table_of};
+ghost use Rattle.om_fault.specs.Tried.{typed_in, needed_in};
 
+use crate::tried::Tried;
 use om_fits::{is_asked, needs_of};
-use om_heap::{Heap, Kind};
+use om_heap::{Heap, Kind, Rooted};
 use om_model::path::Path;
 use om_model::value::Val;
 use om_type_table::TypeTable;
 
 /// The value at the end of a path and the number of its type, if the path leads anywhere.
-pub fn walk(heap: &Heap, root: Val, table: &TypeTable, path: &Path) -> Option<(Val, usize)>
-    requires value { IsValue (length heap.now) root }
-    ensures place { result ≡ value_at (table_shapes (table_of table.now)) heap.now root 0 path.now }
-    ensures value { IfSome result (λ place. IsValue (length heap.now) place.0) }
+pub fn walk(value: &Rooted<'_>, table: &TypeTable, path: &Path) -> Option<(Val, usize)>
+    ensures place { result
+        ≡ value_at (table_shapes (table_of table.now)) value.now.heap.now value.now.root 0
+        path.now }
+    ensures value { IfSome result (λ place. IsValue (length value.now.heap.now) place.0) }
     ensures number { IfSome result (λ place. place.1 < length table.now.nodes) }
 {
     table.holds();
-    let mut value = root;
+    let heap = value.heap;
+    let mut found = value.root;
     let mut at = table.root();
     for i in 0..path.len() {
-        (value, at) = step(heap, value, table, at, path.step(i))?;
+        let tried = Tried {
+            heap,
+            table,
+            value: found,
+            at,
+        };
+        (found, at) = step(&tried, path.step(i))?;
     }
-    Some((value, at))
+    Some((found, at))
 }
 
 /// One step of a path: the value there and the number of its type, if the step is prescribed.
-pub fn step(
-    heap: &Heap,
-    value: Val,
-    table: &TypeTable,
-    at: usize,
-    step: u64,
-) -> Option<(Val, usize)>
-    requires value { IsValue (length heap.now) value }
-    requires number { at < length table.now.nodes }
-    ensures place { result ≡ step_of (table_shapes (table_of table.now)) heap.now value at step }
-    ensures value { IfSome result (λ place. IsValue (length heap.now) place.0) }
-    ensures number { IfSome result (λ place. place.1 < length table.now.nodes) }
+pub fn step(tried: &Tried<'_>, step: u64) -> Option<(Val, usize)>
+    ensures place { result
+        ≡ step_of (table_shapes (table_of tried.now.table.now)) tried.now.heap.now tried.now.value
+        tried.now.at step }
+    ensures value { IfSome result (λ place. IsValue (length tried.now.heap.now) place.0) }
+    ensures number { IfSome result (λ place. place.1 < length tried.now.table.now.nodes) }
 {
-    let ty = field_type(heap, value, table, at, step)?;
-    let next = field(heap, value, step)?;
+    let ty = field_type(tried, step)?;
+    let next = field(tried.heap, tried.value, step)?;
     Some((next, ty))
 }
 
 /// The type that field i has, hidden or not.
-fn typed_field(heap: &Heap, value: Val, table: &TypeTable, at: usize, i: u64) -> Option<usize>
-    requires value { IsValue (length heap.now) value }
-    requires number { at < length table.now.nodes }
-    ensures is { result
-        ≡ type_of_field (typed_fields (table_of table.now) heap.now value at) i }
-    ensures number { IfSome result (λ ty. ty < length table.now.nodes) }
+fn typed_field(tried: &Tried<'_>, i: u64) -> Option<usize>
+    ensures is { result ≡ type_of_field (typed_in tried.now) i }
+    ensures number { IfSome result (λ ty. ty < length tried.now.table.now.nodes) }
 {
-    table.holds();
-    match needs_of(heap, value, table.shape(at)) {
+    tried.table.holds();
+    match needs_of(tried.heap, tried.value, tried.table.shape(tried.at)) {
         Some(needs) => needs.type_of(i),
         None => None,
     }
@@ -64,17 +65,14 @@ fn typed_field(heap: &Heap, value: Val, table: &TypeTable, at: usize, i: u64) ->
 
 /// The type that is needed for field i: the one that it has, where something is asked of the values
 /// of that type.
-fn field_type(heap: &Heap, value: Val, table: &TypeTable, at: usize, i: u64) -> Option<usize>
-    requires value { IsValue (length heap.now) value }
-    requires number { at < length table.now.nodes }
-    ensures is { result
-        ≡ type_of_field ((table_shapes (table_of table.now)).needs heap.now value at) i }
-    ensures number { IfSome result (λ ty. ty < length table.now.nodes) }
+fn field_type(tried: &Tried<'_>, i: u64) -> Option<usize>
+    ensures is { result ≡ type_of_field (needed_in tried.now) i }
+    ensures number { IfSome result (λ ty. ty < length tried.now.table.now.nodes) }
 {
-    let Some(ty) = typed_field(heap, value, table, at, i) else {
+    let Some(ty) = typed_field(tried, i) else {
         return None;
     };
-    if is_asked(table.shape(ty)) {
+    if is_asked(tried.table.shape(ty)) {
         Some(ty)
     } else {
         None

@@ -13,7 +13,7 @@ ghost use Rattle.om_fault.specs.Text.{text_at, found_text, PutsFault};
 use crate::near::Near;
 use crate::put::{put, put_kind, put_path, put_way};
 use crate::steps::walk;
-use om_heap::Heap;
+use om_heap::{Heap, Rooted};
 use om_model::Memory;
 use om_model::list::List;
 use om_model::path::Path;
@@ -29,19 +29,18 @@ const ROOM: usize = 96;
 /// The text of a fault: the paths, the types there, and what was found.
 pub fn fault_text(
     alloc: Global,
-    heap: &Heap,
-    root: Val,
+    value: &Rooted<'_>,
     table: &TypeTable,
     fault: &Fault,
 ) -> Result<List<u8>, Memory>
-    requires value { IsValue (length heap.now) root }
-    requires fault { IsFault (table_shapes (table_of table.now)) heap.now root 0 fault.now }
+    requires fault { IsFault (table_shapes (table_of table.now)) value.now.heap.now value.now.root 0
+        fault.now }
     ensures { IfOk result
-        (IsFaultText (table_shapes (table_of table.now)) (text_at table.now) heap.now root 0
-        fault.now) }
+        (IsFaultText (table_shapes (table_of table.now)) (text_at table.now) value.now.heap.now
+        value.now.root 0 fault.now) }
 {
     let mut text = Vec::with_capacity(alloc, ROOM)?;
-    put_fault(&mut text, alloc, heap, root, table, fault)?;
+    put_fault(&mut text, alloc, value, table, fault)?;
     Ok(List::of(text))
 }
 
@@ -49,19 +48,19 @@ pub fn fault_text(
 pub fn put_fault(
     text: &mut Vec<u8>,
     alloc: Global,
-    heap: &Heap,
-    root: Val,
+    value: &Rooted<'_>,
     table: &TypeTable,
     fault: &Fault,
 ) -> Result<(), Memory>
-    requires value { IsValue (length heap.now) root }
-    requires fault { IsFault (table_shapes (table_of table.now)) heap.now root 0 fault.now }
+    requires fault { IsFault (table_shapes (table_of table.now)) value.now.heap.now value.now.root 0
+        fault.now }
     ensures { OnOk result
-        (PutsFault table.now heap.now root fault.now text.old.items text.new.items) }
+        (PutsFault table.now value.now.heap.now value.now.root fault.now text.old.items
+        text.new.items) }
 {
     match fault {
-        Fault::Misfit(path) => put_misfit(text, alloc, heap, root, table, path),
-        Fault::Clash(first, second) => put_clash(text, alloc, heap, root, table, first, second),
+        Fault::Misfit(path) => put_misfit(text, alloc, value, table, path),
+        Fault::Clash(first, second) => put_clash(text, alloc, value, table, first, second),
     }
 }
 
@@ -69,21 +68,21 @@ pub fn put_fault(
 fn put_misfit(
     text: &mut Vec<u8>,
     alloc: Global,
-    heap: &Heap,
-    root: Val,
+    value: &Rooted<'_>,
     table: &TypeTable,
     path: &Path,
 ) -> Result<(), Memory>
-    requires value { IsValue (length heap.now) root }
-    requires misfit { IsMisfit (table_shapes (table_of table.now)) heap.now root 0 path.now }
+    requires misfit { IsMisfit (table_shapes (table_of table.now)) value.now.heap.now value.now.root
+        0 path.now }
     ensures { OnOk result
-        (PutsFault table.now heap.now root (faults.Misfit path.now) text.old.items text.new.items) }
+        (PutsFault table.now value.now.heap.now value.now.root (faults.Misfit path.now)
+        text.old.items text.new.items) }
 {
-    let Some((found, expected)) = walk(heap, root, table, path) else {
+    let Some((found, expected)) = walk(value, table, path) else {
         unreachable!()
     };
     put_path(text, path)?;
-    put_found(text, alloc, heap, table, expected, found)
+    put_found(text, alloc, value.heap, table, expected, found)
 }
 
 /// Puts where a value near the root does not fit.
@@ -122,30 +121,28 @@ fn put_found(
     put(text, b": expected ")?;
     put_type(text, alloc, table, expected)?;
     put(text, b", found ")?;
-    put_kind(text, heap, found)
+    put_kind(text, &Rooted { heap, root: found })
 }
 
 /// Puts where an object is at unequal types.
 fn put_clash(
     text: &mut Vec<u8>,
     alloc: Global,
-    heap: &Heap,
-    root: Val,
+    value: &Rooted<'_>,
     table: &TypeTable,
     first: &Path,
     second: &Path,
 ) -> Result<(), Memory>
-    requires value { IsValue (length heap.now) root }
-    requires clash { IsClash (table_shapes (table_of table.now)) heap.now root 0 first.now
-        second.now }
+    requires clash { IsClash (table_shapes (table_of table.now)) value.now.heap.now value.now.root 0
+        first.now second.now }
     ensures { OnOk result
-        (PutsFault table.now heap.now root (faults.Clash first.now second.now) text.old.items
-        text.new.items) }
+        (PutsFault table.now value.now.heap.now value.now.root (faults.Clash first.now second.now)
+        text.old.items text.new.items) }
 {
-    let Some((_, one)) = walk(heap, root, table, first) else {
+    let Some((_, one)) = walk(value, table, first) else {
         unreachable!()
     };
-    let Some((_, other)) = walk(heap, root, table, second) else {
+    let Some((_, other)) = walk(value, table, second) else {
         unreachable!()
     };
     put_path(text, first)?;
@@ -167,7 +164,7 @@ fn stored(table: &TypeTable, number: usize) -> usize
 }
 
 /// Puts a type. A name without arguments is put as it is stored.
-fn put_type(
+pub fn put_type(
     text: &mut Vec<u8>,
     alloc: Global,
     table: &TypeTable,

@@ -9,7 +9,7 @@ ghost use Rattle.om_types.specs.Fitting.{fields_of, object_fields, none_if, numb
 ghost use Rattle.om_fits.specs.Needs.{needs_in, first_fields, constr_needed};
 
 use crate::parts::{block_needs, block_tag, fits_atom, fits_custom, fits_doubles, fits_int};
-use om_heap::{Heap, Kind};
+use om_heap::{Heap, Kind, Placed};
 use om_model::value::Val;
 use om_types::shape::{Constr, ShapeOf};
 
@@ -93,7 +93,7 @@ pub fn needs_of<'a>(heap: &Heap, v: Val, shape: &'a ShapeOf<usize>) -> Option<Ne
     match v {
         Val::Int(z) => nothing_if(fits_int(shape, z)),
         Val::Atom(tag) => nothing_if(fits_atom(shape, tag)),
-        Val::Ref(o) => object_needs(heap, o, shape),
+        Val::Ref(object) => object_needs(&Placed { heap, object }, shape),
     }
 }
 
@@ -107,7 +107,9 @@ pub fn known_needs<'a>(heap: &Heap, o: u64, shape: &'a ShapeOf<usize>) -> Option
     match shape {
         ShapeOf::Product(_, types) => Some(Needs::Listed(types.as_slice())),
         ShapeOf::Sum(_, blocks) if blocks.len() == 1 => Some(first_needs(blocks.as_slice())),
-        ShapeOf::Sum(_, blocks) => tagged_needs(blocks.as_slice(), block_tag(heap, o)),
+        ShapeOf::Sum(_, blocks) => {
+            tagged_needs(blocks.as_slice(), block_tag(&Placed { heap, object: o }))
+        }
         ShapeOf::Bytes(_) => Some(Needs::Nothing),
         ShapeOf::Double => Some(Needs::Nothing),
         ShapeOf::FloatArray => Some(Needs::Nothing),
@@ -116,7 +118,7 @@ pub fn known_needs<'a>(heap: &Heap, o: u64, shape: &'a ShapeOf<usize>) -> Option
         ShapeOf::Int64 => Some(Needs::Nothing),
         ShapeOf::Native => Some(Needs::Nothing),
         ShapeOf::Anything => Some(Needs::Nothing),
-        _ => object_needs(heap, o, shape),
+        _ => object_needs(&Placed { heap, object: o }, shape),
     }
 }
 
@@ -142,13 +144,13 @@ fn tagged_needs(blocks: &[Constr<usize>], tag: u8) -> Option<Needs<'_>>
 }
 
 /// What an object needs at a shape, if it fits.
-fn object_needs<'a>(heap: &Heap, o: u64, shape: &'a ShapeOf<usize>) -> Option<Needs<'a>>
-    requires { o < length heap.now }
+fn object_needs<'a>(placed: &Placed<'_>, shape: &'a ShapeOf<usize>) -> Option<Needs<'a>>
     ensures { option_map needs_in result
-        ≡ option_and_then (object_fields shape.now) (slice_get heap.now o) }
+        ≡ option_and_then (object_fields shape.now)
+        (slice_get placed.now.heap.now placed.now.object) }
 {
-    match heap.kind(o) {
-        Kind::Block(tag, size) => block_needs(heap, o, tag, size, shape),
+    match placed.heap.kind(placed.object) {
+        Kind::Block(tag, size) => block_needs(placed, tag, size, shape),
         Kind::Bytes(_) => nothing_if(matches!(shape, ShapeOf::Bytes(_) | ShapeOf::Anything)),
         Kind::Double => nothing_if(matches!(shape, ShapeOf::Double | ShapeOf::Anything)),
         Kind::Doubles(size) => nothing_if(fits_doubles(shape, size)),

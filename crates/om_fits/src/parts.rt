@@ -9,7 +9,7 @@ ghost use Rattle.om_model.specs.declared.value.Obj.TheVariants as objects;
 ghost use Rattle.om_fits.specs.Needs.{needs_in};
 
 use crate::needs::Needs;
-use om_heap::{Heap, Kind};
+use om_heap::{Heap, Kind, Placed};
 use om_model::code::Custom;
 use om_model::value::Val;
 use om_types::shape::{Constr, PolyTag, ShapeOf};
@@ -91,16 +91,14 @@ pub fn fits_custom(shape: &ShapeOf<usize>, custom: Custom) -> bool
 
 /// What a block needs, if it fits.
 pub fn block_needs<'a>(
-    heap: &Heap,
-    o: u64,
+    block: &Placed<'_>,
     tag: u8,
     size: u64,
     shape: &'a ShapeOf<usize>,
 ) -> Option<Needs<'a>>
-    requires object { o < length heap.now }
-    requires size { size ≡ length (fields_of (object_at heap.now o)) }
-    ensures { option_map needs_in result
-        ≡ block_fields shape.now tag (fields_of (object_at heap.now o)) }
+    requires { size ≡ length (fields_of (object_at block.now.heap.now block.now.object)) }
+    ensures { option_map needs_in result ≡ block_fields shape.now tag
+        (fields_of (object_at block.now.heap.now block.now.object)) }
 {
     match shape {
         ShapeOf::Sum(_, blocks) => constr_needs(blocks.as_slice(), tag, size),
@@ -109,7 +107,7 @@ pub fn block_needs<'a>(
         )),
         ShapeOf::ArrayOf(ty) if tag == 0 => Some(Needs::Each(size, *ty)),
         ShapeOf::ArrayOfAnything(ty) if tag == 0 => Some(Needs::Each(size, *ty)),
-        ShapeOf::Poly(tags) if tag == 0 => tag_needs(heap, o, size, tags.as_slice()),
+        ShapeOf::Poly(tags) if tag == 0 => tag_needs(block, size, tags.as_slice()),
         ShapeOf::Anything => Some(Needs::Nothing),
         _ => None,
     }
@@ -131,15 +129,15 @@ fn constr_needs(blocks: &[Constr<usize>], tag: u8, size: u64) -> Option<Needs<'_
 }
 
 /// What the block of a tag with an argument needs.
-fn tag_needs<'a>(heap: &Heap, o: u64, size: u64, tags: &'a [PolyTag<usize>]) -> Option<Needs<'a>>
-    requires object { o < length heap.now }
-    requires size { size ≡ length (fields_of (object_at heap.now o)) }
-    ensures { option_map needs_in result ≡ tag_fields tags.now (fields_of (object_at heap.now o)) }
+fn tag_needs<'a>(block: &Placed<'_>, size: u64, tags: &'a [PolyTag<usize>]) -> Option<Needs<'a>>
+    requires { size ≡ length (fields_of (object_at block.now.heap.now block.now.object)) }
+    ensures { option_map needs_in result
+        ≡ tag_fields tags.now (fields_of (object_at block.now.heap.now block.now.object)) }
 {
     if size != 2 {
         return None;
     }
-    match heap.field(o, 0) {
+    match block.heap.field(block.object, 0) {
         Val::Int(hash) => argument_needs(tags, hash),
         _ => None,
     }
@@ -163,7 +161,10 @@ pub fn is_mutable(heap: &Heap, o: u64, shape: &ShapeOf<usize>) -> bool
 {
     match shape {
         ShapeOf::Bytes(mutable) => *mutable,
-        ShapeOf::Sum(_, blocks) => is_mutable_block(blocks.as_slice(), block_tag(heap, o)),
+        ShapeOf::Sum(_, blocks) => is_mutable_block(
+            blocks.as_slice(),
+            block_tag(&Placed { heap, object: o }),
+        ),
         ShapeOf::Product(mutable, _) => *mutable,
         ShapeOf::FlatFloats(mutable, _) => *mutable,
         ShapeOf::ArrayOf(_) => true,
@@ -185,11 +186,10 @@ pub fn is_asked(shape: &ShapeOf<usize>) -> bool
 }
 
 /// The tag of a block, and 0 of another object.
-pub fn block_tag(heap: &Heap, o: u64) -> u8
-    requires { o < length heap.now }
-    ensures { result ≡ fitting.tag_of_block (slice_get heap.now o) }
+pub fn block_tag(placed: &Placed<'_>) -> u8
+    ensures { result ≡ fitting.tag_of_block (slice_get placed.now.heap.now placed.now.object) }
 {
-    match heap.kind(o) {
+    match placed.heap.kind(placed.object) {
         Kind::Block(tag, _) => tag,
         _ => 0,
     }

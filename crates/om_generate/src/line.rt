@@ -1,7 +1,6 @@
 //! What is said of a value that was made.
 
-ghost use Rattle.std.specs.Prelude.{◌≡◌, ◌++◌, length, OnOk, IfOk, decimal};
-ghost use Rattle.om_model.specs.Graph.{IsValue};
+ghost use Rattle.std.specs.Prelude.{◌≡◌, ◌++◌, OnOk, IfOk, decimal};
 ghost use Rattle.om_format.specs.Canonical.{canon};
 ghost use Rattle.om_format.specs.Iso.{IsTreeOf};
 ghost use Rattle.om_format.specs.Tree.{Tree};
@@ -9,26 +8,19 @@ ghost use Rattle.om_generate.specs.Line.{generated_text};
 
 use crate::tally::Tally;
 use itoa::Buffer;
-use om_heap::Heap;
+use om_heap::Rooted;
 use om_model::Memory;
-use om_model::value::Val;
 use om_write::{head_of, write};
 use std::alloc::Global;
 
 /// The line of a value: its canonical bytes, their sum, its objects, their words on 64 bits, and
 /// its verdict.
-pub fn generated_line(
-    alloc: Global,
-    heap: &Heap,
-    root: Val,
-    verdict: &[u8],
-) -> Result<Vec<u8>, Memory>
-    requires { IsValue (length heap.now) root }
-    ensures { (tree : Tree) → IsTreeOf heap.now root tree
+pub fn generated_line(alloc: Global, value: &Rooted<'_>, verdict: &[u8]) -> Result<Vec<u8>, Memory>
+    ensures { (tree : Tree) → IsTreeOf value.now.heap.now value.now.root tree
         → IfOk result (λ line. line.items ≡ generated_text tree verdict.now) }
 {
-    let head = head_of(alloc, heap, root)?;
-    let tally = tally_of(alloc, heap, root)?;
+    let head = head_of(alloc, value.heap, value.root)?;
+    let tally = tally_of(alloc, value)?;
     let mut line = Vec::new(alloc);
     put_count(&mut line, b"bytes ", tally.count())?;
     put_count(&mut line, b" sum ", tally.sum())?;
@@ -40,14 +32,13 @@ pub fn generated_line(
 }
 
 /// The canonical bytes of a value, counted and summed.
-fn tally_of(alloc: Global, heap: &Heap, root: Val) -> Result<Tally, Memory>
-    requires { IsValue (length heap.now) root }
-    ensures { (tree : Tree) → IsTreeOf heap.now root tree
+fn tally_of(alloc: Global, value: &Rooted<'_>) -> Result<Tally, Memory>
+    ensures { (tree : Tree) → IsTreeOf value.now.heap.now value.now.root tree
         → IfOk result (λ tally. tally.written ≡ canon tree) }
 {
-    let _graph = heap.count();
+    let _graph = value.heap.count();
     let mut tally = Tally::new();
-    match write(alloc, heap, root, &mut tally) {
+    match write(alloc, value.heap, value.root, &mut tally) {
         Ok(()) => Ok(tally),
         Err(_) => Err(Memory),
     }

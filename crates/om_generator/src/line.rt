@@ -1,7 +1,6 @@
 //! The line of a value that is made.
 
-ghost use Rattle.std.specs.Prelude.{◌^◌, ◌<◌, ◌≤◌, length, IfOk};
-ghost use Rattle.om_model.specs.Graph.{IsValue};
+ghost use Rattle.std.specs.Prelude.{◌^◌, ◌<◌, ◌≤◌, IfOk};
 ghost use Rattle.om_declared.specs.Language.{declared_types};
 ghost use Rattle.om_declared.specs.Types.{type_over};
 ghost use Rattle.om_generation.specs.Generation.{IsMadeLine};
@@ -10,9 +9,8 @@ ghost use Rattle.om_generator.specs.Lines.{said_of, making_of, IsGraphLine};
 use crate::verdict::{Line, verdict_of};
 use om_declared::Requested;
 use om_generate::{generate, generated_line};
-use om_heap::Heap;
+use om_heap::Rooted;
 use om_model::Memory;
-use om_model::value::Val;
 use om_same_type::{the_same_has_the_same_line, the_same_has_the_same_types};
 use om_stops::put::put;
 use std::alloc::Global;
@@ -30,21 +28,24 @@ pub fn made_line(
         (making_of number count requested.now) (said_of line)) }
 {
     let made = generate(alloc, number, count)?;
-    line_of(alloc, &made.heap, made.root, requested)
+    let value = Rooted {
+        heap: &made.heap,
+        root: made.root,
+    };
+    line_of(alloc, &value, requested)
 }
 
 /// The line of a value.
-fn line_of(alloc: Global, heap: &Heap, root: Val, requested: &Requested) -> Result<Line, Memory>
-    requires value { IsValue (length heap.now) root }
-    ensures { IfOk result (λ line. IsGraphLine (type_over requested.now) heap.now root
-        (said_of line)) }
+fn line_of(alloc: Global, value: &Rooted<'_>, requested: &Requested) -> Result<Line, Memory>
+    ensures { IfOk result (λ line. IsGraphLine (type_over requested.now) value.now.heap.now
+        value.now.root (said_of line)) }
 {
     the_same_has_the_same_types();
     the_same_has_the_same_line();
-    let _graph = heap.count();
+    let _graph = value.heap.count();
     requested.holds();
-    let verdict = verdict_of(alloc, heap, root, requested)?;
-    let mut text = generated_line(alloc, heap, root, verdict.text.as_slice())?;
+    let verdict = verdict_of(alloc, value, requested)?;
+    let mut text = generated_line(alloc, value, verdict.text.as_slice())?;
     put(&mut text, b"\n")?;
     Ok(Line {
         text,

@@ -1,7 +1,6 @@
 //! The verdict on a value, as a text.
 
-ghost use Rattle.std.specs.Prelude.{length, IfOk};
-ghost use Rattle.om_model.specs.Graph.{IsValue};
+ghost use Rattle.std.specs.Prelude.{IfOk};
 ghost use Rattle.om_outcome.specs.Outcome.{the_verdict};
 ghost use Rattle.om_declared.specs.Language.{IsTypeLine};
 ghost use Rattle.om_declared.specs.Types.{type_over};
@@ -9,9 +8,8 @@ ghost use Rattle.om_declared.specs.Verdict.{IsVerdictOf};
 
 use om_check::Verdict;
 use om_declared::{Requested, find_verdict, put_no};
-use om_heap::Heap;
+use om_heap::Rooted;
 use om_model::Memory;
-use om_model::value::Val;
 use om_stops::put::put;
 use om_table::tables_decide;
 use std::alloc::Global;
@@ -24,32 +22,24 @@ pub struct Line {
 }
 
 /// `yes`, or `no` and the least fault.
-pub fn verdict_of(
-    alloc: Global,
-    heap: &Heap,
-    root: Val,
-    requested: &Requested,
-) -> Result<Line, Memory>
-    requires value { IsValue (length heap.now) root }
-    ensures { IfOk result (λ line. IsTypeLine the_verdict (type_over requested.now) heap.now root
-        line.text.items line.well) }
+pub fn verdict_of(alloc: Global, value: &Rooted<'_>, requested: &Requested) -> Result<Line, Memory>
+    ensures { IfOk result (λ line. IsTypeLine the_verdict (type_over requested.now)
+        value.now.heap.now value.now.root line.text.items line.well) }
 {
-    let verdict = find_verdict(alloc, heap, root, requested)?;
-    text_of(alloc, heap, root, requested, &verdict)
+    let verdict = find_verdict(alloc, value, requested)?;
+    text_of(alloc, value, requested, &verdict)
 }
 
 /// The same by what was found.
 fn text_of(
     alloc: Global,
-    heap: &Heap,
-    root: Val,
+    value: &Rooted<'_>,
     requested: &Requested,
     verdict: &Verdict,
 ) -> Result<Line, Memory>
-    requires value { IsValue (length heap.now) root }
-    requires verdict { IsVerdictOf requested.now heap.now root verdict.now }
-    ensures { IfOk result (λ line. IsTypeLine the_verdict (type_over requested.now) heap.now root
-        line.text.items line.well) }
+    requires verdict { IsVerdictOf requested.now value.now.heap.now value.now.root verdict.now }
+    ensures { IfOk result (λ line. IsTypeLine the_verdict (type_over requested.now)
+        value.now.heap.now value.now.root line.text.items line.well) }
 {
     tables_decide();
     requested.holds();
@@ -60,7 +50,7 @@ fn text_of(
             Ok(Line { text, well: true })
         }
         Verdict::No(fault) => {
-            put_no(&mut text, alloc, heap, root, requested, fault)?;
+            put_no(&mut text, alloc, value, requested, fault)?;
             Ok(Line { text, well: false })
         }
     }

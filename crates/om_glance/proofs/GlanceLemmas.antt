@@ -1,7 +1,9 @@
--- Bytes that are a front of a value: a part of a header, or what was passed up to a cut token.
-use Rattle.std.proofs.Common.{ℕ, ◌+◌, ◌-◌, ◌^◌, ◌<◌, ◌≤◌, ◌≡◌, ◌∙◌, ◌⊎◌, inl, inr, true, false, List, [], ◌∷◌, length, drop, map, Option, None, refl, sym, ap, subst, arith}
+-- Bytes that are a front of a value: a part of a header, or what was passed, or searched, up to a
+-- cut token; and looks that go on.
+use Rattle.std.proofs.Common.{ℕ, ◌+◌, ◌-◌, ◌^◌, ◌<◌, ◌≤◌, ◌≡◌, ◌⊎◌, inl, inr, false, List, [], ◌∷◌, ◌++◌, length, drop, map, Option, Some, None, refl, sym, ap, subst, subst₂, arith}
 use Rattle.std.specs.Prelude.{if◌then◌else◌}
-use Rattle.std.proofs.lemmas.List.Elements.{All-nil}
+use Rattle.std.proofs.lemmas.List.{length-append}
+use Rattle.std.proofs.lemmas.List.Elements.{All-nil, All-append}
 use Rattle.std.proofs.lemmas.Bool.{le-ltb, lt-ltb, cases_lt}
 use Rattle.std.proofs.lemmas.Bool.Decides.{nat_tests}
 use Rattle.om_model.specs.Bytes.{AreBytes}
@@ -16,13 +18,21 @@ use Rattle.om_format.specs.Front.{IsFront, header_refusal}
 use Rattle.om_format.proofs.SpellHeaders.{none_from_magic}
 use Rattle.om_format.proofs.TokenStepLemmas.{header_length-from}
 use Rattle.om_headers.specs.Parsing.{HasMagic, wanted}
-use Rattle.om_cut.specs.Cut.{IsCut}
+use Rattle.om_misfit_law.specs.PassedBut.{values_at}
 use Rattle.om_pass_law.specs.Asked.{Need, of_type, hash_of, values_in}
-use Rattle.om_pass.specs.declared.state.State.{State}
-use Rattle.om_pass.specs.State.{needs_in, stated32, Leads}
+use Rattle.om_pass.specs.declared.passing.Passing.{Passing}
+use Rattle.om_pass.specs.State.{needs_in, stated32, IsUnderway}
+use Rattle.om_pass.proofs.RunLemmas.{leads_longer}
+use Rattle.om_misfit.specs.declared.misfit.Found.{Found}
+use Rattle.om_misfit.specs.declared.misfit.Seeking.{Seeking}
+use Rattle.om_misfit.specs.Way.{way_places}
+use Rattle.om_misfit.specs.Find.{IsSought, IsFound}
+use Rattle.om_misfit.proofs.FindLemmas.{finds_longer}
 use Rattle.om_glance.specs.declared.glance.Glance.{Glance}
-use Rattle.om_glance.specs.Glance.{IsGlance}
-use Rattle.om_glance.proofs.LawLemmas.{passing_is_front}
+use Rattle.om_glance.specs.declared.look.Looking.{Looking}
+use Rattle.om_glance.specs.Look.{IsLooking, HasRoomAfter}
+use Rattle.om_glance.specs.Glance.{IsGlance, IsMissedNext}
+use Rattle.om_glance.proofs.LawLemmas.{passing_is_front, passing_but_is_front}
 
 -- ---- in a header
 
@@ -42,13 +52,47 @@ header_front bytes k has some sum limit =
     let short : length bytes < header_length bytes = grind (arith, nat_tests) in
     inl (record { part = short; passes = waits limit bytes has short (cases_lt (length bytes) 4) })
 
--- where no byte was taken
-pub fresh_glance : (table : Table) (limit : ℕ) (g : Glance) → g.kept.items ≡ [] → g.begun ≡ false → IsGlance table limit g
-fresh_glance table limit g none not_begun = record {
+-- no byte was taken
+pub fresh_glance : (g : Glance) → g.kept.items ≡ [] → ((table : Table) (limit : ℕ) (bytes : List ℕ) → IsLooking table limit bytes g.looking) → (table : Table) (limit : ℕ) → IsGlance table limit g
+fresh_glance g none looking table limit = record {
   bytes = subst AreBytes (sym none) (All-nil (λ (b : ℕ). b < 256));
   is_front = subst (IsFront limit) (sym none) (header_front [] 4 (λ four. absurd (omega (arith, four))) (omega arith) refl limit);
-  underway = λ begun. let both : true ≡ false = sym begun ∙ not_begun in cc both;
+  looking = looking table limit g.kept.items;
 }
+
+-- a look that goes on
+pub looking_longer : (table : Table) (limit : ℕ) (bytes more : List ℕ) (looking : Looking) → IsLooking table limit bytes looking → IsLooking table limit (bytes ++ more) looking
+looking_longer table limit bytes more looking l = record {
+  underway = λ begun. let p = looking.passing in leads_longer table limit bytes more p.head p.start p.at p.marks.items p.notes.items p.state (l.underway begun);
+  sought = λ sought. let s = looking.seeking in finds_longer table limit bytes more s.head s.start s.at [] s.finding (l.sought sought);
+}
+
+-- a look at the bytes that were taken and the piece showed that they are a front
+pub more_taken :
+    (table : Table) (limit : ℕ) (old new : Glance) (piece : List ℕ) → AreBytes old.kept.items → AreBytes piece → new.kept.items ≡ old.kept.items ++ piece → IsFront limit (old.kept.items ++ piece) → IsLooking table limit (old.kept.items ++ piece) new.looking
+    → (new.kept.items ≡ old.kept.items ++ piece) × IsGlance table limit new
+more_taken table limit old new piece before bytes kept front looking = (
+  kept,
+  record {
+    bytes = subst AreBytes (sym kept) (All-append (λ b. b < 256) old.kept.items piece before bytes);
+    is_front = subst (IsFront limit) (sym kept) front;
+    looking = subst (λ all. IsLooking table limit all new.looking) (sym kept) looking;
+  },
+)
+
+-- it showed a value with one misfit, and the next value begins
+pub missed_next :
+    (table : Table) (limit : ℕ) (old ended : Glance) (piece bytes : List ℕ) (total n : ℕ) (found : Found) → total ≡ length old.kept.items + n → bytes ≡ old.kept.items ++ piece → 0 < n → IsFound table limit total bytes found × (found.ty < length table.nodes)
+    → ended.kept.items ≡ [] → ((other : Table) (limit' : ℕ) → IsGlance other limit' ended) → IsMissedNext table limit old piece (record { kept = ended.kept; looking = ended.looking; found = Some found }) n
+missed_next table limit old ended piece bytes total n found all same some is none glance =
+    let here : IsFound table limit (length old.kept.items + n) (old.kept.items ++ piece) found = subst₂ (λ m bs. IsFound table limit m bs found) all same is.0 in
+    record {
+      some = some;
+      within = let front = here.front.within in let both = length-append old.kept.items piece in omega (arith, front, both);
+      missed = (found, refl, here, is.1);
+      none = none;
+      glance = λ other limit'. let g = glance other limit' in record { bytes = g.bytes; is_front = g.is_front; looking = g.looking };
+    }
 
 -- ---- among tokens
 
@@ -63,13 +107,29 @@ words32_within head all few sum big =
     omega (arith, sum, is)
 
 pub leads_front :
-    (table : Table) (limit : ℕ) (bytes : List ℕ) (head : Head) (start n : ℕ) (marks : List ℕ) (notes : List (ℕ × ℕ)) (state : State) (long : ℕ) → Leads table limit bytes head start n marks notes state
-    → 0 < length (needs_in state) → IsCut long state.words.w32 state.words.w64 (drop n bytes) → n + long + values_in (needs_in state) ≤ start + head.length + 1 → IsFront limit bytes
-leads_front table limit bytes head start n marks notes state long l some cut room =
-    passing_is_front l.noted table limit bytes head start n l.tokens _ (needs_in state) long state.words.w32 state.words.w64 l.passing cut
+    (table : Table) (limit : ℕ) (bytes : List ℕ) (passing : Passing) (most : ℕ) → IsUnderway table limit bytes passing → 0 < length (needs_in passing.state)
+    → HasRoomAfter passing.head.length passing.start passing.at passing.state.words.w32 passing.state.words.w64 bytes most → values_in (needs_in passing.state) ≤ most → IsFront limit bytes
+leads_front table limit bytes passing most l some r within =
+    let p = passing in
+    let words = p.state.words in
+    passing_is_front l.noted table limit bytes p.head p.start p.at l.tokens _ (needs_in p.state) r.long words.w32 words.w64 l.passing r.cut
     (record {
-      open_before = values_some (needs_in state) some;
-      room = room;
-      w32 = words32_within head (all_words32 (map measure_of l.tokens)) state.words.w32 l.w32;
+      open_before = values_some (needs_in p.state) some;
+      room = let room' = r.room in omega (arith, room', within);
+      w32 = words32_within p.head (all_words32 (map measure_of l.tokens)) words.w32 l.w32;
       w64 = let sum = l.w64 in omega (arith, sum);
+    })
+
+pub missed_front :
+    (table : Table) (limit : ℕ) (bytes : List ℕ) (seeking : Seeking) (most : ℕ) → IsSought table limit bytes seeking → 0 < values_at (way_places seeking.finding.way)
+    → HasRoomAfter seeking.head.length seeking.start seeking.at seeking.finding.words.w32 seeking.finding.words.w64 bytes most → values_at (way_places seeking.finding.way) ≤ most → IsFront limit bytes
+missed_front table limit bytes seeking most f some r within =
+    let s = seeking in
+    let words = s.finding.words in
+    passing_but_is_front f.back table limit bytes s.head s.start s.at f.tokens f.made (way_places s.finding.way) f.missed r.long words.w32 words.w64 f.passing r.cut
+    (record {
+      open_before = some;
+      room = let room' = r.room in omega (arith, room', within);
+      w32 = words32_within s.head (all_words32 (map measure_of f.tokens)) words.w32 f.w32;
+      w64 = let sum = f.w64 in omega (arith, sum);
     })

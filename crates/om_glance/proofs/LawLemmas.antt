@@ -1,65 +1,83 @@
 -- From a pass to a front.
-use Rattle.std.proofs.Common.{ℕ, ◌+◌, ◌<◌, ◌≤◌, ◌^◌, ◌≡◌, ◌∙◌, List, ◌++◌, length, drop, map, Option, sym, ap, subst, subst₂, arith}
+use Rattle.std.proofs.Common.{ℕ, ◌+◌, ◌<◌, ◌≤◌, ◌^◌, ◌≡◌, ◌∙◌, List, ◌++◌, length, take, drop, map, Option, sym, ap, subst, subst₂, arith}
 use Rattle.std.specs.List.{concat}
 use Rattle.std.proofs.lemmas.List.{append_assoc, length-append, length-take-le, take-append-drop}
 use Rattle.om_model.specs.declared.header.Head.{Head}
 use Rattle.om_model.specs.declared.code.Measure.{Measure}
-use Rattle.om_types.specs.Table.{Table}
+use Rattle.om_format.specs.Header.{head_of}
 use Rattle.om_format.specs.Words.{pending, sums_of}
 use Rattle.om_format.specs.Step.{Context}
-use Rattle.om_format.specs.Front.{context}
+use Rattle.om_format.specs.Front.{IsFront}
 use Rattle.om_format.specs.Token.{Token, measure_of}
 use Rattle.om_format.proofs.SpellValues.{raw_measures-spelled}
-use Rattle.om_cut.specs.Cut.{HasRoom}
+use Rattle.om_cut.specs.Cut.{HasRoom, IsCut}
 use Rattle.om_cut.specs.Laws.{IsUnderway}
 use Rattle.om_cut.proofs.FrontLemmas.{underway_is_front}
-use Rattle.om_pass_law.specs.Asked.{Need, values_in}
-use Rattle.om_pass_law.specs.OnePass.{IsPassing}
+use Rattle.om_pass_law.specs.Asked.{values_in}
 use Rattle.om_pass_law.proofs.EndLemmas.{passed_many, passed_open}
-use Rattle.om_glance.specs.Laws.{HasRoomAt, PassingIsFront}
+use Rattle.om_misfit_law.specs.PassedBut.{values_at}
+use Rattle.om_misfit_law.proofs.StatedLemmas.{passed_many as but_many, passed_open as but_open}
+use Rattle.om_glance.specs.Laws.{HasRoomAt, PassingIsFront, PassingButIsFront}
 
 -- where tokens of these measures stand
 abbrev place_at : Head → ℕ → ℕ → List (Option Measure) → Context
 place_at head start taken ms = record { head = head; start = start; taken = taken; sums = sums_of ms }
 
-module _ (noted : List (ℕ × ℕ)) (table : Table) (limit : ℕ) (bytes : List ℕ) (head : Head) (start n : ℕ) (tokens : List Token) (types : List ℕ) (needs : List Need)
-    (p : IsPassing noted table limit bytes head start n tokens types needs) where
-  underway : IsUnderway limit bytes p.header p.pieces tokens (drop n bytes)
-  underway = record {
-    bytes_are = sym (take-append-drop n bytes) ∙ ap (λ xs. xs ++ drop n bytes) p.taken ∙ append_assoc p.header (concat p.pieces) (drop n bytes);
-    is_header = p.is_header;
-    words = subst (λ (h : Head). h.w64 ≤ limit) (sym p.head_is) p.words;
-    small = subst (λ (h : Head). h.length < 2 ^ 48) (sym p.head_is) p.small;
-    spells = p.spells;
-    open_before = passed_open noted table tokens types needs p.passed;
-    refer_back = p.refer_back;
-    unshared = λ none. p.unshared (ap (λ (h : Head). h.objects) (sym p.head_is) ∙ none);
-  }
+-- ---- a header and the tokens' spellings were taken
 
-  taken_is : n ≡ start + length (concat p.pieces)
-  taken_is =
-      let front = length-take-le n bytes p.within in
-      let both = length-append p.header (concat p.pieces) in
-      let same = ap length p.taken in
-      let begins = p.begins in
-      omega (arith, front, both, same, begins)
+bytes_are : (bytes : List ℕ) (n : ℕ) (header : List ℕ) (pieces : List (List ℕ)) → take n bytes ≡ header ++ concat pieces → bytes ≡ header ++ (concat pieces ++ drop n bytes)
+bytes_are bytes n header pieces taken = sym (take-append-drop n bytes) ∙ ap (λ xs. xs ++ drop n bytes) taken ∙ append_assoc header (concat pieces) (drop n bytes)
 
-  room_there : (long few32 few64 : ℕ) → HasRoomAt head start n tokens needs long few32 few64 → HasRoom (context p.header p.pieces) long few32 few64
-  room_there long few32 few64 r =
-      let many : pending (map measure_of tokens) ≡ values_in needs = passed_many noted table tokens types needs p.passed in
-      let o = r.open_before in
-      let room' = r.room in
-      let here : HasRoom (place_at head (length p.header) (length (concat p.pieces)) (map measure_of tokens)) long few32 few64 = record {
-        open_before = omega (arith, o, many);
-        room = omega (arith, room', many, taken_is);
-        w32 = r.w32;
-        w64 = r.w64;
-      } in
-      subst₂ (λ (h : Head) (ms : List (Option Measure)). HasRoom (place_at h (length p.header) (length (concat p.pieces)) ms) long few32 few64) (sym p.head_is) (sym (raw_measures-spelled tokens p.pieces p.spells)) here
+taken_is : (bytes : List ℕ) (start n : ℕ) (header : List ℕ) (pieces : List (List ℕ)) → n ≤ length bytes → length header ≡ start → take n bytes ≡ header ++ concat pieces → n ≡ start + length (concat pieces)
+taken_is bytes start n header pieces within begins taken =
+    let front = length-take-le n bytes within in
+    let both = length-append header (concat pieces) in
+    let same = ap length taken in
+    omega (arith, front, both, same, begins)
 
--- THE LAW
+front_there :
+    (limit : ℕ) (bytes : List ℕ) (head : Head) (start n : ℕ) (tokens : List Token) (header : List ℕ) (pieces : List (List ℕ)) (values long few32 few64 : ℕ) → IsUnderway limit bytes header pieces tokens (drop n bytes) → head_of header ≡ head
+    → n ≡ start + length (concat pieces) → pending (map measure_of tokens) ≡ values → IsCut long few32 few64 (drop n bytes) → HasRoomAt head start n tokens values long few32 few64 → IsFront limit bytes
+front_there limit bytes head start n tokens header pieces values long few32 few64 u head_is taken many cut r =
+    let o = r.open_before in
+    let room' = r.room in
+    let here : HasRoom (place_at head (length header) (length (concat pieces)) (map measure_of tokens)) long few32 few64 = record {
+      open_before = omega (arith, o, many);
+      room = omega (arith, room', many, taken);
+      w32 = r.w32;
+      w64 = r.w64;
+    } in
+    underway_is_front limit bytes header pieces tokens (drop n bytes) long few32 few64 u cut
+    (subst₂ (λ (h : Head) (ms : List (Option Measure)). HasRoom (place_at h (length header) (length (concat pieces)) ms) long few32 few64) (sym head_is) (sym (raw_measures-spelled tokens pieces u.spells)) here)
+
+-- ---- THE LAWS
+
 pub passing_is_front : PassingIsFront
 passing_is_front noted table limit bytes head start n tokens types needs long few32 few64 p cut room =
-    underway_is_front limit bytes p.header p.pieces tokens (drop n bytes) long few32 few64
-    (underway noted table limit bytes head start n tokens types needs p) cut
-    (room_there noted table limit bytes head start n tokens types needs p long few32 few64 room)
+    front_there limit bytes head start n tokens p.header p.pieces (values_in needs) long few32 few64
+    (record {
+      bytes_are = bytes_are bytes n p.header p.pieces p.taken;
+      is_header = p.is_header;
+      words = subst (λ (h : Head). h.w64 ≤ limit) (sym p.head_is) p.words;
+      small = subst (λ (h : Head). h.length < 2 ^ 48) (sym p.head_is) p.small;
+      spells = p.spells;
+      open_before = passed_open noted table tokens types needs p.passed;
+      refer_back = p.refer_back;
+      unshared = λ none. p.unshared (ap (λ (h : Head). h.objects) (sym p.head_is) ∙ none);
+    })
+    p.head_is (taken_is bytes start n p.header p.pieces p.within p.begins p.taken) (passed_many noted table tokens types needs p.passed) cut room
+
+pub passing_but_is_front : PassingButIsFront
+passing_but_is_front back table limit bytes head start n tokens made places missed long few32 few64 p cut room =
+    front_there limit bytes head start n tokens p.header p.pieces (values_at places) long few32 few64
+    (record {
+      bytes_are = bytes_are bytes n p.header p.pieces p.taken;
+      is_header = p.is_header;
+      words = subst (λ (h : Head). h.w64 ≤ limit) (sym p.head_is) p.words;
+      small = subst (λ (h : Head). h.length < 2 ^ 48) (sym p.head_is) p.small;
+      spells = p.spells;
+      open_before = but_open back table tokens made places missed p.passed;
+      refer_back = p.refer_back;
+      unshared = λ none. p.unshared (ap (λ (h : Head). h.objects) (sym p.head_is) ∙ none);
+    })
+    p.head_is (taken_is bytes start n p.header p.pieces p.within p.begins p.taken) (but_many back table tokens made places missed p.passed) cut room

@@ -1,4 +1,5 @@
--- Bytes that were passed up to a part of a token are a front of a value.
+-- Bytes that were passed up to a part of a token are a front of a value, whether or not all of them
+-- have what their places ask for.
 use Rattle.std.specs.Prelude.{ℕ, ◌+◌, ◌<◌, ◌≤◌, ◌≡◌, false, List, drop, map}
 use Rattle.om_model.specs.declared.header.Head.{Head}
 use Rattle.om_types.specs.Table.{Table}
@@ -8,15 +9,16 @@ use Rattle.om_format.specs.Words.{all_words32, all_words64}
 use Rattle.om_cut.specs.Cut.{IsCut}
 use Rattle.om_pass_law.specs.Asked.{Need, values_in}
 use Rattle.om_pass_law.specs.OnePass.{IsPassing}
+use Rattle.om_misfit_law.specs.PassedBut.{Place, Made, Missed, values_at}
+use Rattle.om_misfit_law.specs.MissedFront.{IsPassingBut}
 
--- after n bytes a value is to come, and the header has room for a token of so many bytes, for a
--- byte of each other value to come, and for so many words
+-- after n bytes so many values are to come, some at least, and the header has room for a token of
+-- so many bytes, for a byte of each other value, and for so many words
 pub record HasRoomAt
-    (head : Head) (start n : ℕ) (tokens : List Token) (needs : List Need)
-    (bytes few32 few64 : ℕ)
+    (head : Head) (start n : ℕ) (tokens : List Token) (values bytes few32 few64 : ℕ)
     : Type 0 where
-  pub open_before : 0 < values_in needs
-  pub room : n + bytes + values_in needs ≤ start + head.length + 1
+  pub open_before : 0 < values
+  pub room : n + bytes + values ≤ start + head.length + 1
   pub w32 : head.big ≡ false → all_words32 (map measure_of tokens) + few32 ≤ head.w32
   pub w64 : all_words64 (map measure_of tokens) + few64 ≤ head.w64
 
@@ -26,5 +28,16 @@ PassingIsFront =
     (tokens : List Token) (types : List ℕ) (needs : List Need) (long few32 few64 : ℕ)
     → IsPassing noted table limit bytes head start n tokens types needs
     → IsCut long few32 few64 (drop n bytes)
-    → HasRoomAt head start n tokens needs long few32 few64
+    → HasRoomAt head start n tokens (values_in needs) long few32 few64
+    → IsFront limit bytes
+
+-- the same of bytes that were passed but for misfits
+abbrev pub PassingButIsFront : Type 0
+PassingButIsFront =
+    (back : List ℕ) (table : Table) (limit : ℕ) (bytes : List ℕ) (head : Head) (start n : ℕ)
+    (tokens : List Token) (made : List Made) (places : List Place) (missed : List Missed)
+    (long few32 few64 : ℕ)
+    → IsPassingBut back table limit bytes head start n tokens made places missed
+    → IsCut long few32 few64 (drop n bytes)
+    → HasRoomAt head start n tokens (values_at places) long few32 few64
     → IsFront limit bytes

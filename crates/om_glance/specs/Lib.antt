@@ -1,2 +1,3 @@
+pub mod Look
 pub mod Glance
 pub mod Laws

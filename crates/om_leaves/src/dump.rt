@@ -1,6 +1,6 @@
 //! The lines of a graph as it is, whatever its types.
 
-ghost use Rattle.std.specs.Prelude.{◌≡◌, ◌<◌, ◌++◌, length, OnOk, decimal};
+ghost use Rattle.std.specs.Prelude.{◌≡◌, ◌++◌, length, OnOk, decimal};
 ghost use Rattle.std.specs.List.{flat_map};
 ghost use Rattle.om_heap.specs.Heap.{object_at, fields_of, doubles_of, IsOfKind};
 ghost use Rattle.om_leaves.specs.Dumped.{value_text, spaced_value, spaced_float, custom_text};
@@ -10,7 +10,7 @@ use crate::bytes::put;
 use crate::leaves::{put_float, put_int};
 use crate::strings::put_string_of;
 use itoa::Buffer;
-use om_heap::{Heap, Kind};
+use om_heap::{Kind, Placed};
 use om_model::Memory;
 use om_model::code::Custom;
 use om_model::value::Val;
@@ -26,42 +26,49 @@ pub fn put_root_line(text: &mut Vec<u8>, root: Val) -> Result<(), Memory>
 
 /// Puts the line of an object.
 #[tactic(auto, using(crate::proofs::DumpLemmas::text_by_kind))]
-pub fn put_object_line(text: &mut Vec<u8>, heap: &Heap, o: u64) -> Result<(), Memory>
-    requires { o < length heap.now }
+pub fn put_object_line(text: &mut Vec<u8>, placed: &Placed<'_>) -> Result<(), Memory>
     ensures { OnOk result
-        (text.new.items ≡ text.old.items ++ object_line o (object_at heap.now o)) }
+        (text.new.items
+        ≡ text.old.items
+        ++ object_line placed.now.object (object_at placed.now.heap.now placed.now.object)) }
 {
     put(text, b"#")?;
-    put_number(text, o)?;
-    put_object(text, heap, o, heap.kind(o))?;
+    put_number(text, placed.object)?;
+    put_object(text, placed, placed.heap.kind(placed.object))?;
     put(text, b"\n")
 }
 
 /// Puts an object of this kind.
-fn put_object(text: &mut Vec<u8>, heap: &Heap, o: u64, kind: Kind) -> Result<(), Memory>
-    requires object { o < length heap.now }
-    requires kind { IsOfKind kind (object_at heap.now o) }
+fn put_object(text: &mut Vec<u8>, placed: &Placed<'_>, kind: Kind) -> Result<(), Memory>
+    requires kind { IsOfKind kind (object_at placed.now.heap.now placed.now.object) }
     ensures { OnOk result
-        (text.new.items ≡ text.old.items ++ text_of_kind kind (object_at heap.now o)) }
+        (text.new.items
+        ≡ text.old.items
+        ++ text_of_kind kind (object_at placed.now.heap.now placed.now.object)) }
 {
     match kind {
         Kind::Block(tag, size) => {
             put(text, b" block ")?;
             put_number(text, u64::from(tag))?;
             put(text, b":")?;
-            put_fields(text, heap, o, size)
+            put_fields(text, placed, size)
         }
         Kind::Bytes(len) => {
             put(text, b" string ")?;
-            put_string_of(text, heap.body_at(heap.word(Val::Ref(o))), len as usize)
+            let heap = placed.heap;
+            put_string_of(
+                text,
+                heap.body_at(heap.word(Val::Ref(placed.object))),
+                len as usize,
+            )
         }
         Kind::Double => {
             put(text, b" float")?;
-            put_doubles(text, heap, o, 1)
+            put_doubles(text, placed, 1)
         }
         Kind::Doubles(len) => {
             put(text, b" floats")?;
-            put_doubles(text, heap, o, len)
+            put_doubles(text, placed, len)
         }
         Kind::Custom(custom) => put_custom(text, custom),
     }
@@ -86,26 +93,30 @@ fn put_custom(text: &mut Vec<u8>, custom: Custom) -> Result<(), Memory>
     }
 }
 
-fn put_fields(text: &mut Vec<u8>, heap: &Heap, o: u64, size: u64) -> Result<(), Memory>
-    requires object { o < length heap.now }
-    requires size { size ≡ length (fields_of (object_at heap.now o)) }
+fn put_fields(text: &mut Vec<u8>, placed: &Placed<'_>, size: u64) -> Result<(), Memory>
+    requires size { size ≡ length (fields_of (object_at placed.now.heap.now placed.now.object)) }
     ensures { OnOk result
         (text.new.items
-        ≡ text.old.items ++ flat_map spaced_value (fields_of (object_at heap.now o))) }
+        ≡ text.old.items
+        ++ flat_map spaced_value (fields_of (object_at placed.now.heap.now placed.now.object))) }
 {
+    let heap = placed.heap;
+    let o = placed.object;
     for i in 0..size {
         put_spaced_value(text, heap.field(o, i))?;
     }
     Ok(())
 }
 
-fn put_doubles(text: &mut Vec<u8>, heap: &Heap, o: u64, len: u64) -> Result<(), Memory>
-    requires object { o < length heap.now }
-    requires len { len ≡ length (doubles_of (object_at heap.now o)) }
+fn put_doubles(text: &mut Vec<u8>, placed: &Placed<'_>, len: u64) -> Result<(), Memory>
+    requires len { len ≡ length (doubles_of (object_at placed.now.heap.now placed.now.object)) }
     ensures { OnOk result
         (text.new.items
-        ≡ text.old.items ++ flat_map spaced_float (doubles_of (object_at heap.now o))) }
+        ≡ text.old.items
+        ++ flat_map spaced_float (doubles_of (object_at placed.now.heap.now placed.now.object))) }
 {
+    let heap = placed.heap;
+    let o = placed.object;
     for i in 0..len {
         put_spaced_float(text, heap.double(o, i))?;
     }

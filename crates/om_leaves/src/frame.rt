@@ -1,6 +1,6 @@
 //! What stands around the parts of a value and between them, over lent names.
 
-ghost use Rattle.std.specs.Prelude.{ℕ, List, ◌≡◌, ◌<◌, ◌++◌, length, OnOk, find, option_map};
+ghost use Rattle.std.specs.Prelude.{ℕ, List, ◌≡◌, ◌++◌, OnOk, find, option_map};
 ghost use Rattle.std.specs.Prelude.{unwrap_or, slice_get, [], ◌∷◌, ◌==◌, if◌then◌else◌, codes};
 ghost use Rattle.om_model.specs.declared.value.Obj.TheVariants as objects;
 ghost use Rattle.om_types.specs.declared.names.TagName.{TagName};
@@ -10,7 +10,7 @@ ghost use Rattle.om_leaves.specs.Frames.{is_hash, before_part, tag_of_values};
 ghost use Rattle.om_leaves.specs.FrameView.{frame_in};
 
 use crate::bytes::{put, put_few, put_name_reserved, put_reserved};
-use om_heap::{Heap, Kind};
+use om_heap::{Kind, Placed};
 use om_model::Memory;
 use om_model::list::List;
 use om_model::value::Val;
@@ -163,24 +163,24 @@ fn put_field_name(text: &mut Vec<u8>, name: &[u8], i: u64) -> Result<(), Memory>
     Ok(())
 }
 
-/// What stands around a block of this tag, which is object o.
+/// What stands around an object, which is a block of this tag.
 #[inline(always)]
 pub fn block_frame<'a>(
-    heap: &Heap,
-    o: u64,
+    placed: &Placed<'_>,
     tag: u8,
     shape: &ShapeOf<usize>,
     names: &'a Names,
 ) -> Frame<'a>
-    requires object { o < length heap.now }
-    requires block { object_at heap.now o ≡ objects.Block tag (fields_of (object_at heap.now o)) }
+    requires block { object_at placed.now.heap.now placed.now.object
+        ≡ objects.Block tag (fields_of (object_at placed.now.heap.now placed.now.object)) }
     ensures { frame_in result
-        ≡ frame_of shape.now names.now tag (fields_of (object_at heap.now o)) }
+        ≡ frame_of shape.now names.now tag
+        (fields_of (object_at placed.now.heap.now placed.now.object)) }
 {
     match shape {
         ShapeOf::Sum(_, _) => constructor_frame(names.constructors.as_slice(), tag),
         ShapeOf::Product(_, _) => Frame::Fields(names.fields.as_slice()),
-        ShapeOf::Poly(_) => Frame::Tagged(name_of_tag(names.tags.as_slice(), first_int(heap, o))),
+        ShapeOf::Poly(_) => Frame::Tagged(name_of_tag(names.tags.as_slice(), first_int(placed))),
         _ => Frame::Array,
     }
 }
@@ -208,10 +208,12 @@ pub fn name_of_tag(tags: &[TagName], hash: i64) -> &[u8]
 }
 
 /// The integer in field 0 of a block, and 0 where there is none.
-fn first_int(heap: &Heap, o: u64) -> i64
-    requires { o < length heap.now }
-    ensures { result ≡ tag_of_values (fields_of (object_at heap.now o)) }
+fn first_int(placed: &Placed<'_>) -> i64
+    ensures { result
+        ≡ tag_of_values (fields_of (object_at placed.now.heap.now placed.now.object)) }
 {
+    let heap = placed.heap;
+    let o = placed.object;
     match heap.kind(o) {
         Kind::Block(_, size) if size > 0 => match heap.field(o, 0) {
             Val::Int(hash) => hash,

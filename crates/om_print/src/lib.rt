@@ -15,5 +15,5 @@ mod walk;
 
 pub use dumped::put_dump;
 pub use shown::put_shown_at;
-pub use sink::{dump, show, show_at};
+pub use sink::{dump, show};
 pub use told::is_shown;

@@ -2,7 +2,6 @@
 
 ghost use Rattle.std.specs.Prelude.{◌≡◌, ◌<◌, ◌≤◌, ◌+◌, ◌++◌, length, Some, None, [], true, false};
 ghost use Rattle.std.specs.Prelude.{slice_index, slice_index_or, IfOk, IsTrue, OnOk, vec_len};
-ghost use Rattle.om_model.specs.Graph.{IsValue};
 ghost use Rattle.om_model.specs.declared.value.Val.TheVariants as vals;
 ghost use Rattle.om_model.specs.declared.value.Obj.TheVariants as objects;
 ghost use Rattle.om_types.specs.Fitting.{is_asked};
@@ -12,14 +11,15 @@ ghost use Rattle.om_show.specs.Tables.{shape_in, names_in};
 ghost use Rattle.om_type_table.specs.Made.{table_of};
 ghost use Rattle.om_print.specs.Levels.{levels_of, last_outside};
 ghost use Rattle.om_print.specs.Typed.{IsTypedAt};
-ghost use Rattle.om_print.specs.Walking.{left_of, pieces_left, IsWalk};
+ghost use Rattle.om_print.specs.declared.walk.Step.TheVariants as steps;
+ghost use Rattle.om_print.specs.Walking.{left_of, pieces_left, IsStep, IsWalk};
 ghost use Rattle.om_print.specs.Plain.{IsPutOn, IsOpened};
 
 use crate::block::OpenBlock;
 use crate::ends::{end_of, put_end};
 use crate::walk::{Walk, open_block, value_at};
 use om_fits::is_asked;
-use om_heap::{Heap, Kind};
+use om_heap::{Heap, Kind, Placed, Rooted};
 use om_leaves::{put_few, put_int_at, put_object_at};
 use om_model::Memory;
 use om_model::value::Val;
@@ -86,7 +86,8 @@ fn put_next<'a>(
         return Ok(true);
     };
     walk.value = None;
-    let fresh = put_value(text, heap, table, walk, v, heap.word(v), at)?;
+    let value = Rooted { heap, root: v };
+    let fresh = put_value(text, &value, table, walk, heap.word(v), at)?;
     Ok(fresh)
 }
 
@@ -153,7 +154,8 @@ fn put_in<'a>(
     let next = block.next + 1;
     let end = block.last_end();
     walk.pass_part(last, next, end)?;
-    let fresh = put_value(text, heap, table, walk, v, word, at)?;
+    let value = Rooted { heap, root: v };
+    let fresh = put_value(text, &value, table, walk, word, at)?;
     Ok(fresh)
 }
 
@@ -171,24 +173,25 @@ fn word_at(fields: &[u64], i: u64) -> u64
 #[inline(always)]
 fn put_value<'a>(
     text: &mut Vec<u8>,
-    heap: &'a Heap,
+    value: &Rooted<'a>,
     table: &'a TypeTable,
     walk: &mut Walk<'a>,
-    v: Val,
     word: u64,
     at: usize,
 ) -> Result<bool, Memory>
-    requires walk { IsWalk table.now heap.now walk.old }
+    requires walk { IsWalk table.now value.now.heap.now walk.old }
     requires none { walk.old.value ≡ None }
-    requires value { IsValue (length heap.now) v }
-    requires word { word ≡ word_of heap.now v }
-    requires typed { IsTypedAt (table_of table.now) heap.now v at }
+    requires word { word ≡ word_of value.now.heap.now value.now.root }
+    requires typed { IsTypedAt (table_of table.now) value.now.heap.now value.now.root at }
     ensures none { IfOk result (λ fresh. fresh ≡ true → walk.new.value ≡ None) }
     ensures put { IfOk result
-        (λ _. IsPutOn table.now heap.now
-        (left_of table.now heap.now (levels_of walk.old) (Some (v, at)) walk.old.order)
+        (λ _. IsPutOn table.now value.now.heap.now
+        (left_of table.now value.now.heap.now (levels_of walk.old) (Some (value.now.root, at))
+        walk.old.order)
         walk.old.order text.old.items text.new.items walk.new) }
 {
+    let heap = value.heap;
+    let v = value.root;
     if !is_asked(table.shape(at)) {
         put_few(text, b"_")?;
         return Ok(true);
@@ -207,7 +210,8 @@ fn put_value<'a>(
                 walk.value = Some((v, at));
                 return Ok(false);
             }
-            put_object(text, heap, table, walk, o, word, at)?;
+            let placed = Placed { heap, object: o };
+            put_object(text, &placed, table, walk, word, at)?;
             Ok(true)
         }
     }
@@ -217,26 +221,28 @@ fn put_value<'a>(
 #[inline(always)]
 fn put_object<'a>(
     text: &mut Vec<u8>,
-    heap: &'a Heap,
+    placed: &Placed<'a>,
     table: &'a TypeTable,
     walk: &mut Walk<'a>,
-    o: u64,
     word: u64,
     at: usize,
 ) -> Result<(), Memory>
-    requires walk { IsWalk table.now heap.now walk.old }
+    requires walk { IsWalk table.now placed.now.heap.now walk.old }
     requires none { walk.old.value ≡ None }
-    requires unmet { slice_index_or walk.old.marks.items o false ≡ false }
-    requires inside { o < length heap.now }
-    requires word { word ≡ word_of heap.now (vals.Ref o) }
-    requires typed { IsTypedAt (table_of table.now) heap.now (vals.Ref o) at }
+    requires unmet { slice_index_or walk.old.marks.items placed.now.object false ≡ false }
+    requires word { word ≡ word_of placed.now.heap.now (vals.Ref placed.now.object) }
+    requires typed { IsTypedAt (table_of table.now) placed.now.heap.now
+        (vals.Ref placed.now.object) at }
     requires asked { IsTrue (is_asked (shape_in table.now at)) }
     ensures none { OnOk result (walk.new.value ≡ None) }
     ensures put { OnOk result
-        (IsPutOn table.now heap.now
-        (left_of table.now heap.now (levels_of walk.old) (Some (vals.Ref o, at)) walk.old.order)
+        (IsPutOn table.now placed.now.heap.now
+        (left_of table.now placed.now.heap.now (levels_of walk.old)
+        (Some (vals.Ref placed.now.object, at)) walk.old.order)
         walk.old.order text.old.items text.new.items walk.new) }
 {
+    let heap = placed.heap;
+    let o = placed.object;
     walk.marks[o as usize] = true;
     walk.order.push(o)?;
     let Kind::Block(tag, _) = heap.kind_at(word) else {
@@ -244,17 +250,7 @@ fn put_object<'a>(
         return Ok(());
     };
     let outside = walk.ends.len();
-    put_block(
-        text,
-        heap,
-        table,
-        &mut walk.stack,
-        o,
-        word,
-        tag,
-        at,
-        outside,
-    )?;
+    put_block(text, placed, table, &mut walk.stack, word, tag, at, outside)?;
     Ok(())
 }
 
@@ -268,9 +264,8 @@ pub fn put_leaf(
     word: u64,
     at: usize,
 ) -> Result<(), Memory>
-    requires inside { o < length heap.now }
+    requires step { IsStep table.now heap.now (steps.Leaf o at) }
     requires word { word ≡ word_of heap.now (vals.Ref o) }
-    requires number { at < length table.now.nodes }
     ensures { OnOk result
         (text.new.items
         ≡ text.old.items
@@ -284,24 +279,24 @@ pub fn put_leaf(
 #[inline(never)]
 fn put_block<'a>(
     text: &mut Vec<u8>,
-    heap: &'a Heap,
+    placed: &Placed<'a>,
     table: &'a TypeTable,
     stack: &mut Vec<OpenBlock<'a>>,
-    o: u64,
     word: u64,
     tag: u8,
     at: usize,
     outside: usize,
 ) -> Result<(), Memory>
-    requires block { object_at heap.now o ≡ objects.Block tag (fields_of (object_at heap.now o)) }
-    requires inside { o < length heap.now }
-    requires word { word ≡ word_of heap.now (vals.Ref o) }
-    requires typed { IsTypedAt (table_of table.now) heap.now (vals.Ref o) at }
+    requires block { object_at placed.now.heap.now placed.now.object
+        ≡ objects.Block tag (fields_of (object_at placed.now.heap.now placed.now.object)) }
+    requires word { word ≡ word_of placed.now.heap.now (vals.Ref placed.now.object) }
+    requires typed { IsTypedAt (table_of table.now) placed.now.heap.now
+        (vals.Ref placed.now.object) at }
     ensures { OnOk result
-        (IsOpened table.now heap.now o at tag outside stack.old.items stack.new.items
-        text.old.items text.new.items) }
+        (IsOpened table.now placed.now.heap.now placed.now.object at tag outside stack.old.items
+        stack.new.items text.old.items text.new.items) }
 {
-    let block = open_block(heap, table, o, word, tag, at, outside);
+    let block = open_block(placed, table, word, tag, at, outside);
     block.frame.put_opening(text)?;
     stack.push(block)?;
     Ok(())

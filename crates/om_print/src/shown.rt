@@ -2,7 +2,6 @@
 
 ghost use Rattle.std.specs.Prelude.{◌≡◌, ◌<◌, ◌++◌, None, [], length, All, IfSome, IfOk, OnOk};
 ghost use Rattle.std.specs.Prelude.{flat_map, vec_len};
-ghost use Rattle.om_model.specs.Graph.{IsValue};
 ghost use Rattle.om_types.specs.Table.{table_shapes};
 ghost use Rattle.om_types.specs.Typing.{HasType};
 ghost use Rattle.om_type_table.specs.Made.{table_of};
@@ -18,7 +17,7 @@ use crate::ends::put_end;
 use crate::labels::{Labels, mark_again, objects_again, put_label};
 use crate::plain::{put_leaf, put_until_again};
 use crate::walk::{Step, Walk};
-use om_heap::Heap;
+use om_heap::{Heap, Rooted};
 use om_leaves::{put, put_int_at};
 use om_model::Memory;
 use om_model::value::Val;
@@ -29,26 +28,26 @@ use std::alloc::Global;
 pub fn put_shown_at(
     text: &mut Vec<u8>,
     alloc: Global,
-    heap: &Heap,
-    v: Val,
+    value: &Rooted<'_>,
     table: &TypeTable,
     at: usize,
 ) -> Result<(), Memory>
-    requires value { IsValue (length heap.now) v }
     requires number { at < length table.now.nodes }
-    requires typed { HasType (table_shapes (table_of table.now)) heap.now v at }
+    requires typed { HasType (table_shapes (table_of table.now)) value.now.heap.now
+        value.now.root at }
     ensures { OnOk result
         (text.new.items
         ≡ text.old.items
-        ++ shown_text (shape_in table.now) (names_in table.now) heap.now v at) }
+        ++ shown_text (shape_in table.now) (names_in table.now) value.now.heap.now
+        value.now.root at) }
 {
     let before = text.len();
-    let Some(objects) = put_without_labels(text, alloc, heap, v, table, at)? else {
+    let Some(objects) = put_without_labels(text, alloc, value, table, at)? else {
         return Ok(());
     };
     text.truncate(before);
-    let labels = Labels::new(alloc, objects, heap.count())?;
-    put_with_labels(text, alloc, heap, v, table, at, &labels)?;
+    let labels = Labels::new(alloc, objects, value.heap.count())?;
+    put_with_labels(text, alloc, value, table, at, &labels)?;
     Ok(())
 }
 
@@ -57,20 +56,21 @@ pub fn put_shown_at(
 fn put_without_labels(
     text: &mut Vec<u8>,
     alloc: Global,
-    heap: &Heap,
-    v: Val,
+    value: &Rooted<'_>,
     table: &TypeTable,
     at: usize,
 ) -> Result<Option<Vec<u64>>, Memory>
-    requires value { IsValue (length heap.now) v }
-    requires typed { IsTypedAt (table_of table.now) heap.now v at }
+    requires typed { IsTypedAt (table_of table.now) value.now.heap.now value.now.root at }
     ensures text { IfOk result
         (λ found. IsPut found text.old.items text.new.items
-        (pieces_of (shape_in table.now) (names_in table.now) heap.now v at)) }
+        (pieces_of (shape_in table.now) (names_in table.now) value.now.heap.now
+        value.now.root at)) }
     ensures inside { IfOk result
-        (λ found. IfSome found (λ objects. All (λ o. o < length heap.now) objects.items)) }
+        (λ found. IfSome found
+        (λ objects. All (λ o. o < length value.now.heap.now) objects.items)) }
 {
-    let mut walk = Walk::new(alloc, heap, v, table, at)?;
+    let heap = value.heap;
+    let mut walk = Walk::new(alloc, value, table, at)?;
     if put_until_again(text, heap, table, &mut walk)? {
         return Ok(None);
     }
@@ -87,23 +87,23 @@ fn put_without_labels(
 fn put_with_labels(
     text: &mut Vec<u8>,
     alloc: Global,
-    heap: &Heap,
-    v: Val,
+    value: &Rooted<'_>,
     table: &TypeTable,
     at: usize,
     labels: &Labels,
 ) -> Result<(), Memory>
-    requires value { IsValue (length heap.now) v }
-    requires typed { IsTypedAt (table_of table.now) heap.now v at }
+    requires typed { IsTypedAt (table_of table.now) value.now.heap.now value.now.root at }
     requires labels { AreLabels labels.now }
-    requires many { vec_len labels.now.numbers ≡ length heap.now }
+    requires many { vec_len labels.now.numbers ≡ length value.now.heap.now }
     ensures { OnOk result
         (text.new.items
         ≡ text.old.items
         ++ flat_map (piece_text labels.now.objects.items)
-        (pieces_of (shape_in table.now) (names_in table.now) heap.now v at)) }
+        (pieces_of (shape_in table.now) (names_in table.now) value.now.heap.now
+        value.now.root at)) }
 {
-    let mut walk = Walk::new(alloc, heap, v, table, at)?;
+    let heap = value.heap;
+    let mut walk = Walk::new(alloc, value, table, at)?;
     while let Some(step) = walk.next(heap, table)? {
         put_step(text, heap, table, labels, step)?;
     }

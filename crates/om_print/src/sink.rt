@@ -1,7 +1,6 @@
 //! The same texts put to a sink. All memory is taken before the first byte is put.
 
-ghost use Rattle.std.specs.Prelude.{◌≡◌, ◌<◌, length, IsErrOf};
-ghost use Rattle.om_model.specs.Graph.{IsValue};
+ghost use Rattle.std.specs.Prelude.{◌≡◌, IsErrOf};
 ghost use Rattle.om_types.specs.Table.{table_shapes};
 ghost use Rattle.om_types.specs.Typing.{HasType};
 ghost use Rattle.om_type_table.specs.Made.{table_of};
@@ -14,61 +13,40 @@ ghost use Rattle.om_show.specs.Tables.{shape_in, names_in};
 use crate::dumped::put_dump;
 use crate::shown::put_shown_at;
 use om_edge::{Sink, WriteError, put_all};
-use om_heap::Heap;
-use om_model::value::Val;
+use om_heap::Rooted;
 use om_type_table::TypeTable;
 use std::alloc::Global;
 
-/// Puts the text of a value at a type of the table to a sink. After a fault a proper prefix was
-/// put, out of memory nothing.
-pub fn show_at<K: Sink>(
+/// Puts the text of a value at the type that was asked for. After a fault a proper prefix was put,
+/// out of memory nothing.
+pub fn show<K: Sink>(
     alloc: Global,
-    heap: &Heap,
-    v: Val,
+    value: &Rooted<'_>,
     table: &TypeTable,
-    at: usize,
     out: &mut K,
 ) -> Result<(), WriteError>
-    requires value { IsValue (length heap.now) v }
-    requires number { at < length table.now.nodes }
-    requires typed { HasType (table_shapes (table_of table.now)) heap.now v at }
+    requires typed { HasType (table_shapes (table_of table.now)) value.now.heap.now
+        value.now.root 0 }
     ensures puts { Writes (change (K.state out.old) (K.state out.new))
-        (shown_text (shape_in table.now) (names_in table.now) heap.now v at) result }
+        (shown_text (shape_in table.now) (names_in table.now) value.now.heap.now value.now.root 0)
+        result }
     ensures untouched { IsErrOf result WriteError.Memory → out.new ≡ out.old }
 {
+    table.holds();
     let mut text = Vec::new(alloc);
-    put_shown_at(&mut text, alloc, heap, v, table, at)?;
+    put_shown_at(&mut text, alloc, value, table, table.root())?;
     put_all(out, text.as_slice())?;
     Ok(())
 }
 
-/// Puts the text of a value at the type that was asked for.
-pub fn show<K: Sink>(
-    alloc: Global,
-    heap: &Heap,
-    root: Val,
-    table: &TypeTable,
-    out: &mut K,
-) -> Result<(), WriteError>
-    requires value { IsValue (length heap.now) root }
-    requires typed { HasType (table_shapes (table_of table.now)) heap.now root 0 }
-    ensures puts { Writes (change (K.state out.old) (K.state out.new))
-        (shown_text (shape_in table.now) (names_in table.now) heap.now root 0) result }
-    ensures untouched { IsErrOf result WriteError.Memory → out.new ≡ out.old }
-{
-    table.holds();
-    show_at(alloc, heap, root, table, table.root(), out)
-}
-
 /// Puts the lines of a graph as it is to a sink.
-pub fn dump<K: Sink>(alloc: Global, heap: &Heap, root: Val, out: &mut K) -> Result<(), WriteError>
-    requires { IsValue (length heap.now) root }
-    ensures puts { Writes (change (K.state out.old) (K.state out.new)) (dump_text heap.now root)
-        result }
+pub fn dump<K: Sink>(alloc: Global, value: &Rooted<'_>, out: &mut K) -> Result<(), WriteError>
+    ensures puts { Writes (change (K.state out.old) (K.state out.new))
+        (dump_text value.now.heap.now value.now.root) result }
     ensures untouched { IsErrOf result WriteError.Memory → out.new ≡ out.old }
 {
     let mut text = Vec::new(alloc);
-    put_dump(&mut text, heap, root)?;
+    put_dump(&mut text, value)?;
     put_all(out, text.as_slice())?;
     Ok(())
 }

@@ -2,7 +2,6 @@
 //! time compared with what is left.
 
 ghost use Rattle.std.specs.Prelude.{◌≡◌, ◌<◌, ◌++◌, length, IfOk, IfSome, IsTrue};
-ghost use Rattle.om_model.specs.Graph.{IsValue};
 ghost use Rattle.om_types.specs.Table.{table_shapes};
 ghost use Rattle.om_types.specs.Typing.{HasType};
 ghost use Rattle.om_type_table.specs.Made.{table_of};
@@ -11,9 +10,8 @@ ghost use Rattle.om_show.specs.Tables.{shape_in, names_in};
 
 use crate::plain::put_some;
 use crate::walk::Walk;
-use om_heap::Heap;
+use om_heap::Rooted;
 use om_model::Memory;
-use om_model::value::Val;
 use om_type_table::TypeTable;
 use std::alloc::Global;
 
@@ -35,20 +33,21 @@ fn after<'t>(text: &'t [u8], front: &[u8]) -> Option<&'t [u8]>
 /// answer is no, whatever the text.
 pub fn is_shown(
     alloc: Global,
-    heap: &Heap,
-    v: Val,
+    value: &Rooted<'_>,
     table: &TypeTable,
     at: usize,
     text: &[u8],
 ) -> Result<bool, Memory>
-    requires value { IsValue (length heap.now) v }
     requires number { at < length table.now.nodes }
-    requires typed { HasType (table_shapes (table_of table.now)) heap.now v at }
+    requires typed { HasType (table_shapes (table_of table.now)) value.now.heap.now
+        value.now.root at }
     ensures { IfOk result
         (λ same. IsTrue same
-        → shown_text (shape_in table.now) (names_in table.now) heap.now v at ≡ text.now) }
+        → shown_text (shape_in table.now) (names_in table.now) value.now.heap.now value.now.root at
+        ≡ text.now) }
 {
-    let mut walk = Walk::new(alloc, heap, v, table, at)?;
+    let heap = value.heap;
+    let mut walk = Walk::new(alloc, value, table, at)?;
     let mut few = Vec::new(alloc);
     let mut rest = text;
     'piece: for _ in 0..text.len() {

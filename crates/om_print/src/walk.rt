@@ -21,7 +21,7 @@ use crate::block::OpenBlock;
 use crate::ends::end_of;
 use crate::order::Order;
 use om_fits::{Needs, is_asked, known_needs};
-use om_heap::{Heap, Kind};
+use om_heap::{Heap, Kind, Placed, Rooted};
 use om_leaves::{Frame, block_frame};
 use om_model::Memory;
 use om_model::value::Val;
@@ -68,25 +68,23 @@ impl<'a> Walk<'a> {
     /// Before the first piece.
     pub fn new(
         alloc: Global,
-        heap: &Heap,
-        v: Val,
+        value: &Rooted<'_>,
         table: &TypeTable,
         at: usize,
     ) -> Result<Walk<'a>, Memory>
-        requires value { IsValue (length heap.now) v }
-        requires typed { IsTypedAt (table_of table.now) heap.now v at }
-        ensures walk { IfOk result (IsWalk table.now heap.now) }
-        ensures value { IfOk result (λ walk. walk.value ≡ Some (v, at)) }
+        requires typed { IsTypedAt (table_of table.now) value.now.heap.now value.now.root at }
+        ensures walk { IfOk result (IsWalk table.now value.now.heap.now) }
+        ensures value { IfOk result (λ walk. walk.value ≡ Some (value.now.root, at)) }
         ensures blocks { IfOk result (λ walk. walk.stack.items ≡ []) }
         ensures ends { IfOk result (λ walk. walk.ends.items ≡ []) }
         ensures order { IfOk result (λ walk. walk.order ≡ []) }
     {
         Ok(Walk {
-            value: Some((v, at)),
+            value: Some((value.root, at)),
             stack: Vec::new(alloc),
             ends: Vec::new(alloc),
-            marks: vec![in alloc; false; heap.count() as usize]?,
-            order: Order::new(alloc, first_object(v)),
+            marks: vec![in alloc; false; value.heap.count() as usize]?,
+            order: Order::new(alloc, first_object(value.root)),
         })
     }
 
@@ -102,28 +100,30 @@ impl<'a> Walk<'a> {
             return self.go_on(heap, table);
         };
         self.value = None;
-        Ok(Some(self.meet(heap, table, v, at)?))
+        let value = Rooted { heap, root: v };
+        Ok(Some(self.meet(&value, table, at)?))
     }
 
     // The step of a value that comes next.
     #[inline(always)]
     fn meet(
         &mut self,
-        heap: &'a Heap,
+        value: &Rooted<'a>,
         table: &'a TypeTable,
-        v: Val,
         at: usize,
     ) -> Result<Step<'a>, Memory>
-        requires walk { IsWalk table.now heap.now self.old }
+        requires walk { IsWalk table.now value.now.heap.now self.old }
         requires none { self.old.value ≡ None }
-        requires value { IsValue (length heap.now) v }
-        requires typed { IsTypedAt (table_of table.now) heap.now v at }
+        requires typed { IsTypedAt (table_of table.now) value.now.heap.now value.now.root at }
         ensures none { IfOk result (λ _. self.new.value ≡ None) }
         ensures goes { IfOk result
-            (λ step. Goes table.now heap.now
-            (left_of table.now heap.now (levels_of self.old) (Some (v, at)) self.old.order)
+            (λ step. Goes table.now value.now.heap.now
+            (left_of table.now value.now.heap.now (levels_of self.old) (Some (value.now.root, at))
+            self.old.order)
             self.old.order step self.new) }
     {
+        let heap = value.heap;
+        let v = value.root;
         if !is_asked(table.shape(at)) {
             return Ok(Step::Hidden);
         }
@@ -131,7 +131,7 @@ impl<'a> Walk<'a> {
             Val::Int(z) => Ok(Step::Integer(z, at)),
             Val::Atom(_) => Ok(Step::Empty),
             Val::Ref(o) if self.marks[o as usize] => Ok(Step::Again(o)),
-            Val::Ref(o) => self.meet_first(heap, table, o, at),
+            Val::Ref(o) => self.meet_first(&Placed { heap, object: o }, table, at),
         }
     }
 
@@ -139,30 +139,32 @@ impl<'a> Walk<'a> {
     #[inline(always)]
     fn meet_first(
         &mut self,
-        heap: &'a Heap,
+        placed: &Placed<'a>,
         table: &'a TypeTable,
-        o: u64,
         at: usize,
     ) -> Result<Step<'a>, Memory>
-        requires walk { IsWalk table.now heap.now self.old }
+        requires walk { IsWalk table.now placed.now.heap.now self.old }
         requires none { self.old.value ≡ None }
-        requires unmet { slice_index_or self.old.marks.items o false ≡ false }
-        requires inside { o < length heap.now }
-        requires typed { IsTypedAt (table_of table.now) heap.now (vals.Ref o) at }
+        requires unmet { slice_index_or self.old.marks.items placed.now.object false ≡ false }
+        requires typed { IsTypedAt (table_of table.now) placed.now.heap.now
+            (vals.Ref placed.now.object) at }
         requires asked { IsTrue (is_asked (shape_in table.now at)) }
         ensures none { IfOk result (λ _. self.new.value ≡ None) }
         ensures goes { IfOk result
-            (λ step. Goes table.now heap.now
-            (left_of table.now heap.now (levels_of self.old) (Some (vals.Ref o, at)) self.old.order)
+            (λ step. Goes table.now placed.now.heap.now
+            (left_of table.now placed.now.heap.now (levels_of self.old)
+            (Some (vals.Ref placed.now.object, at)) self.old.order)
             self.old.order step self.new) }
     {
+        let heap = placed.heap;
+        let o = placed.object;
         self.marks[o as usize] = true;
         self.order.push(o)?;
         let Kind::Block(tag, _) = heap.kind(o) else {
             return Ok(Step::Leaf(o, at));
         };
         let word = heap.word(Val::Ref(o));
-        let block = open_block(heap, table, o, word, tag, at, self.ends.len());
+        let block = open_block(placed, table, word, tag, at, self.ends.len());
         self.stack.push(block)?;
         Ok(Step::Opening(o, block.frame))
     }
@@ -293,35 +295,38 @@ pub fn value_at(heap: &Heap, fields: &[u64], i: u64, near: u64) -> Val
 // A block before its first part, inside of so many ends.
 #[inline(always)]
 pub fn open_block<'a>(
-    heap: &'a Heap,
+    placed: &Placed<'a>,
     table: &'a TypeTable,
-    o: u64,
     word: u64,
     tag: u8,
     at: usize,
     outside: usize,
 ) -> OpenBlock<'a>
-    requires block { object_at heap.now o ≡ objects.Block tag (fields_of (object_at heap.now o)) }
-    requires inside { o < length heap.now }
-    requires word { word ≡ word_of heap.now (vals.Ref o) }
-    requires typed { IsTypedAt (table_of table.now) heap.now (vals.Ref o) at }
-    ensures object { result.object ≡ o }
+    requires block { object_at placed.now.heap.now placed.now.object
+        ≡ objects.Block tag (fields_of (object_at placed.now.heap.now placed.now.object)) }
+    requires word { word ≡ word_of placed.now.heap.now (vals.Ref placed.now.object) }
+    requires typed { IsTypedAt (table_of table.now) placed.now.heap.now
+        (vals.Ref placed.now.object) at }
+    ensures object { result.object ≡ placed.now.object }
     ensures frame { frame_in result.frame
         ≡ frame_of (shape_in table.now at) (names_in table.now at) tag
-        (fields_of (object_at heap.now o)) }
+        (fields_of (object_at placed.now.heap.now placed.now.object)) }
     ensures needs { needs_in result.needs
-        ≡ or_none (needed_of heap.now (vals.Ref o) (shape_in table.now at)) }
+        ≡ or_none (needed_of placed.now.heap.now (vals.Ref placed.now.object)
+        (shape_in table.now at)) }
     ensures next { result.next ≡ 0 }
     ensures outside { result.outside ≡ outside }
-    ensures open { IsOpen table.now heap.now result }
+    ensures open { IsOpen table.now placed.now.heap.now result }
 {
+    let heap = placed.heap;
+    let o = placed.object;
     table.holds();
     let _count = heap.count();
     let shape = table.shape(at);
     OpenBlock {
         object: o,
         fields: heap.fields_at(word),
-        frame: block_frame(heap, o, tag, shape, table.names(at)),
+        frame: block_frame(placed, tag, shape, table.names(at)),
         needs: needs_or_none(known_needs(heap, o, shape)),
         next: 0,
         outside,

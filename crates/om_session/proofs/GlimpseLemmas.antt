@@ -1,12 +1,11 @@
 -- What looks at the bytes in hand show is said of the next value.
 use Rattle.std.proofs.Common.{◌≡◌, ℕ, Bool, true, false, suc, ◌+◌, ◌^◌, ◌<◌, List, [], ◌∷◌, ◌++◌, length, take, drop, Option, None, Some, Ok, Err, inl, inr, refl, sym, ap, ◌∙◌, subst, append_assoc, append-nil, length-append, arith}
 use Rattle.std.proofs.lemmas.List.{take-append-drop}
-use Rattle.std.specs.Prelude.{codes, Result, IfOk}
+use Rattle.std.specs.Prelude.{codes, ◌&&◌, Result}
 use Rattle.std.specs.Borrow.{Bor}
 use Rattle.om_edge.specs.Sink.{PutsPart}
 use Rattle.om_edge.specs.State.{ByteState, change}
 use Rattle.om_model.specs.Bytes.{AreBytes}
-use Rattle.om_model.specs.declared.out_of_memory.Memory.{Memory}
 use Rattle.om_format.specs.Front.{IsFront}
 use Rattle.om_format.specs.Stream.{cut}
 use Rattle.om_format.specs.Tree.{Tree, root, objects_of}
@@ -27,9 +26,10 @@ use Rattle.om_table.specs.TableDecides.{TheRootIsFirst, TablesDecide}
 use Rattle.om_type_table.specs.Made.{types_of, table_of}
 use Rattle.om_pass_law.specs.OnePass.{IsTypedFront}
 use Rattle.om_glance.specs.declared.glance.Glance.{Glance}
-use Rattle.om_glance.specs.declared.glance.Answer.{Answer}
-use Rattle.om_glance.specs.declared.glance.Answer.TheVariants as answers
-use Rattle.om_glance.specs.Glance.{IsTypedNext, Glances}
+use Rattle.om_glance.specs.Glance.{IsGlance, IsTypedNext, IsMissedNext}
+use Rattle.om_types.specs.Table.{Table}
+use Rattle.om_misfit.specs.declared.misfit.Found.{Found}
+use Rattle.om_misfit.specs.Find.{IsFound}
 use Rattle.om_outcome.specs.RefusalText.{truncated_text}
 use Rattle.om_outcome.specs.Outcome as outcome
 use Rattle.om_outcome.specs.Outcome.{Said, Says, SayFirst, Unedited, line, all_well}
@@ -45,6 +45,7 @@ use Rattle.om_stops.specs.Stops.{IsOrMemory}
 use Rattle.om_work.specs.Works.{HaltsIn, PutsLast}
 use Rattle.om_declared.specs.Language.{declared_types, lines_of_value, bytes_for}
 use Rattle.om_declared.specs.Types.{type_over, IsReady}
+use Rattle.om_declared.specs.Verdict.{PutsNo}
 use Rattle.om_declared.proofs.DoneLemmas.{MakeOf, as_it_came, done_length, done_more}
 use Rattle.om_declared.proofs.GivenLemmas.{ready_each}
 use Rattle.om_declared.proofs.VerdictLemmas.{is_first, made}
@@ -55,14 +56,14 @@ use Rattle.om_session.specs.declared.values.Job.{Job}
 use Rattle.om_session.specs.declared.values.Job.TheVariants as jobs
 use Rattle.om_session.specs.Earlier.{AreEarlier}
 use Rattle.om_session.specs.declared.verdict.Saying.TheVariants as sayings
-use Rattle.om_session.specs.Glimpse.{yes, IsYes, IsGlimpse, IsBetween, verdict_job, IsUnchanged, IsUnchangedNext, IsUnchangedGlimpse, IsLeft}
+use Rattle.om_session.specs.Glimpse.{yes, no_in, IsVerdictOn, IsVerdictNext, IsBetween, verdict_job, IsUnchanged, IsUnchangedNext, IsLeft}
 use Rattle.om_session.specs.Values.{MayTake, HasRead, IsKept, edits_by, task_of, word_limit}
 use Rattle.om_session.proofs.EarlierLemmas.{all_stay, left_needed}
 use Rattle.om_session.proofs.ReadLemmas.{front_goes_on, none_goes_on, spell_count, next_halts, Halts, last_well-snoc}
-use Rattle.om_session.proofs.VerdictLemmas.{puts_yes}
+use Rattle.om_session.proofs.VerdictLemmas.{puts_yes, no_line}
 
 -- a value that a pass shows to have the type has the declared one, and each closed instance of it
-pub yes_front : (r : Prepared) → IsReady r → TheRootIsFirst → TablesDecide → (limit n : ℕ) (bytes : List ℕ) → IsTypedFront (table_of r.table) limit n bytes → IsYes r limit n bytes
+yes_front : (r : Prepared) → IsReady r → TheRootIsFirst → TablesDecide → (limit n : ℕ) (bytes : List ℕ) → IsTypedFront (table_of r.table) limit n bytes → IsVerdictOn r limit n bytes yes
 yes_front r ready first decide limit n bytes f =
     let put = puts_yes r ready first (objects_of f.tree 0) (root f.tree 0) decide f.typed sayings.Verdict refl [] (codes "yes") refl in record {
       within = f.within;
@@ -72,19 +73,45 @@ yes_front r ready first decide limit n bytes f =
     }
 
 -- what a look that goes on with bytes that were kept shows of the type's table, it shows of the type
-pub glimpsed :
-    (r : Prepared) → IsReady r → TheRootIsFirst → TablesDecide → (limit : ℕ) (old : Glance) (piece : List ℕ) (new : Glance) (result : Result Answer Memory) → IfOk result (Glances (table_of r.table) limit old piece new)
-    → IfOk result (IsGlimpse r limit old piece new)
-glimpsed r ready first decide limit old piece new (Err memory) it = it
-glimpsed r ready first decide limit old piece new (Ok (answers.Typed n)) it = record {
+pub yes_next :
+    (r : Prepared) → IsReady r → TheRootIsFirst → TablesDecide → (limit : ℕ) (old : Glance) (piece : List ℕ) (new : Glance) (n : ℕ) → IsTypedNext (table_of r.table) limit old piece new n → IsVerdictNext r limit old piece new n yes
+yes_next r ready first decide limit old piece new n it = record {
   some = it.some;
   within = it.within;
-  yes = yes_front r ready first decide limit (length old.kept.items + n) (old.kept.items ++ piece) it.typed;
+  verdict = yes_front r ready first decide limit (length old.kept.items + n) (old.kept.items ++ piece) it.typed;
   none = it.none;
   glance = it.glance;
 }
-glimpsed r ready first decide limit old piece new (Ok answers.More) it = it
-glimpsed r ready first decide limit old piece new (Ok answers.Untold) it = it
+
+-- the line that is put of the one misfit of a value is the verdict on it
+pub no_front :
+    (r : Prepared) (limit n : ℕ) (bytes : List ℕ) (found : Found) (f : IsFound (table_of r.table) limit n bytes found) (text : List ℕ) → PutsNo (type_over r) (objects_of f.front.tree 0) (root f.front.tree 0) [] text
+    → IsVerdictOn r limit n bytes (no_in (line text))
+no_front r limit n bytes found f text puts =
+    let put = no_line outcome.the_verdict r (objects_of f.front.tree 0) (root f.front.tree 0) [] text puts in record {
+      within = f.front.within;
+      tree = f.front.tree;
+      spelled = f.front.spelled;
+      says = (put.0, put.1, ap line put.2);
+    }
+
+same_found : (found other : Found) (held : Option Found) → held ≡ Some found → Some other ≡ held → found ≡ other
+same_found found other held is took = let same : Some found ≡ Some other = sym is ∙ sym took in cc same
+
+-- the misfit that was held is taken, and its line is told
+pub no_next :
+    (r : Prepared) (limit : ℕ) (old : Glance) (piece : List ℕ) (new after : Glance) (n : ℕ) → IsMissedNext (table_of r.table) limit old piece new n → (found : Found) → Some found ≡ new.found
+    → (text : List ℕ) → ((limit n : ℕ) (bytes : List ℕ) → IsFound (table_of r.table) limit n bytes found → IsVerdictOn r limit n bytes (no_in text)) → after.kept.items ≡ new.kept.items
+    → ((table : Table) (limit : ℕ) → IsGlance table limit new → IsGlance table limit after) → IsVerdictNext r limit old piece after n (no_in text)
+no_next r limit old piece new after n it found took text says kept glance =
+    let same : it.missed.0 ≡ found = same_found it.missed.0 found new.found it.missed.1 took in
+    let all : ℕ = length old.kept.items + n in record {
+      some = it.some;
+      within = it.within;
+      verdict = says limit all (old.kept.items ++ piece) (subst (λ f. IsFound (table_of r.table) limit all (old.kept.items ++ piece) f) same it.missed.2);
+      none = kept ∙ it.none;
+      glance = λ table limit'. glance table limit' (it.glance table limit');
+    }
 
 -- ---- a value of which bytes were kept, and the first n in hand are the others
 
@@ -136,59 +163,59 @@ module _ (w : Job) (before : List ℕ) (said : List Said) (values : Values) (h :
       )
 
 module _ (r : Bor Prepared) (limit : ℕ) (before : List ℕ) (said : List Said) (values : Values) (h : HasRead (verdict_job r limit) values before said) (between : IsBetween values) (kept in_hand : List ℕ) (n : ℕ)
-    (yes' : IsYes r.now limit (length kept + n) (kept ++ in_hand)) where
+    (next : Said) (told : IsVerdictOn r.now limit (length kept + n) (kept ++ in_hand) next) where
   abbrev w : Job
   w = verdict_job r limit
 
   abbrev value_bytes : List ℕ
   value_bytes = kept ++ take n in_hand
 
-  spelled_kept : SpelledUnder limit value_bytes yes'.tree
-  spelled_kept = subst (λ bytes. SpelledUnder limit bytes yes'.tree) (take_kept kept in_hand n) yes'.spelled
+  spelled_kept : SpelledUnder limit value_bytes told.tree
+  spelled_kept = subst (λ bytes. SpelledUnder limit bytes told.tree) (take_kept kept in_hand n) told.spelled
 
   all_taken : (before ++ kept) ++ take n in_hand ≡ before ++ value_bytes
   all_taken = append_assoc before kept (take n in_hand)
 
-  seen_said : SayFirst declared_types (task_of w) ((before ++ kept) ++ take n in_hand) (h.trees ++ yes'.tree ∷ []) (said ++ yes ∷ []) []
-  seen_said =
+  told_said : SayFirst declared_types (task_of w) ((before ++ kept) ++ take n in_hand) (h.trees ++ told.tree ∷ []) (said ++ next ∷ []) []
+  told_said =
       let after : SayFirst declared_types (task_of w) (before ++ value_bytes) h.trees said (h.front ++ value_bytes) = first_after declared_types (task_of w) before h.trees said h.front value_bytes h.first in
       let whole : SayFirst declared_types (task_of w) (before ++ value_bytes) h.trees said value_bytes =
       subst (λ front. SayFirst declared_types (task_of w) (before ++ value_bytes) h.trees said (front ++ value_bytes)) (nothing_taken w before said values h between) after in
-      subst (λ bytes. SayFirst declared_types (task_of w) bytes (h.trees ++ yes'.tree ∷ []) (said ++ yes ∷ []) []) (sym all_taken)
-      (first_more declared_types (task_of w) (before ++ value_bytes) h.trees said value_bytes [] yes'.tree yes
-      (subst (λ b. SayFirst declared_types (task_of w) (before ++ value_bytes) h.trees said b) (sym (append-nil value_bytes)) whole) spelled_kept yes'.says)
+      subst (λ bytes. SayFirst declared_types (task_of w) bytes (h.trees ++ told.tree ∷ []) (said ++ next ∷ []) []) (sym all_taken)
+      (first_more declared_types (task_of w) (before ++ value_bytes) h.trees said value_bytes [] told.tree next
+      (subst (λ b. SayFirst declared_types (task_of w) (before ++ value_bytes) h.trees said b) (sym (append-nil value_bytes)) whole) spelled_kept told.says)
 
   -- out failed
-  pub seen_fault : AreBytes kept → IsFront limit kept → (a b : ByteState) → PutsPart (change a b) yes.text
+  pub told_fault : AreBytes kept → IsFront limit kept → (a b : ByteState) → PutsPart (change a b) next.text
       → HaltsIn (commands declared_types) (task_of w) (before ++ kept) in_hand said (change a b) halts.WriteFault
-  seen_fault are_bytes front a b part =
-      let trees : List Tree = h.trees ++ yes'.tree ∷ [] in
+  told_fault are_bytes front a b part =
+      let trees : List Tree = h.trees ++ told.tree ∷ [] in
       let all : ((before ++ kept) ++ take n in_hand) ++ drop n in_hand ≡ (before ++ kept) ++ in_hand =
       append_assoc (before ++ kept) (take n in_hand) (drop n in_hand) ∙ ap (λ rest. (before ++ kept) ++ rest) (take-append-drop n in_hand) in
-      let more = first_after declared_types (task_of w) ((before ++ kept) ++ take n in_hand) trees (said ++ yes ∷ []) [] (drop n in_hand) seen_said in
-      let here : SayFirst declared_types (task_of w) ((before ++ kept) ++ in_hand) trees (said ++ yes ∷ []) (drop n in_hand) =
-      subst (λ bytes. SayFirst declared_types (task_of w) bytes trees (said ++ yes ∷ []) (drop n in_hand)) all more in (
+      let more = first_after declared_types (task_of w) ((before ++ kept) ++ take n in_hand) trees (said ++ next ∷ []) [] (drop n in_hand) told_said in
+      let here : SayFirst declared_types (task_of w) ((before ++ kept) ++ in_hand) trees (said ++ next ∷ []) (drop n in_hand) =
+      subst (λ bytes. SayFirst declared_types (task_of w) bytes trees (said ++ next ∷ []) (drop n in_hand)) all more in (
         holds_kept w before said values h between kept tt are_bytes front,
-        yes,
-        (items_of trees, drop n in_hand, says_first declared_types (task_of w) ((before ++ kept) ++ in_hand) trees (said ++ yes ∷ []) (drop n in_hand) here),
+        next,
+        (items_of trees, drop n in_hand, says_first declared_types (task_of w) ((before ++ kept) ++ in_hand) trees (said ++ next ∷ []) (drop n in_hand) here),
         part,
       )
 
   -- its line was put, and the reader waits for the next one
-  pub seen_read : HasRead w (record values { last = true; count = values.count + 1 }) ((before ++ kept) ++ take n in_hand) (said ++ yes ∷ [])
-  seen_read =
-      let trees : List Tree = h.trees ++ yes'.tree ∷ [] in
+  pub told_read : HasRead w (record values { well = values.well && next.well; last = next.well; count = values.count + 1 }) ((before ++ kept) ++ take n in_hand) (said ++ next ∷ [])
+  told_read =
+      let trees : List Tree = h.trees ++ told.tree ∷ [] in
       let leads : Leads limit [] values.reader = subst (λ front. Leads limit front values.reader) (nothing_taken w before said values h between) h.leads in record {
         ready = h.ready;
         trees = trees;
         front = [];
-        first = seen_said;
+        first = told_said;
         is_front = nothing_front limit leads.bytes;
         goes_on = λ stop at. none_goes_on w limit trees stop at;
         leads = leads;
-        counted = ap (λ n. n + 1) h.counted ∙ sym (length-append h.trees (yes'.tree ∷ []));
-        well = h.well ∙ (sym (and_true (all_well said)) ∙ sym (all_well-snoc said yes));
-        last = sym (last_well-snoc true said yes);
+        counted = ap (λ n. n + 1) h.counted ∙ sym (length-append h.trees (told.tree ∷ []));
+        well = ap (λ well. well && next.well) h.well ∙ sym (all_well-snoc said next);
+        last = sym (last_well-snoc true said next);
         kept = tt;
       }
 

@@ -185,12 +185,12 @@ module _ (w : Job) (r : Bor Prepared) (limit : ℕ) (is : IsVerdict w r limit) (
       let size : length taken ≡ length h.before + length g.kept.items = ap length h.whole ∙ length-append h.before g.kept.items in
       (h.before, said, h.read, omega (arith, size, short)))
 
-  -- a look showed a value that has the type
-  pub seen_feeds :
+  -- a look showed the verdict on a value
+  pub told_feeds :
       (new : Values) (g' : Glance) (in_hand : List ℕ) (out : Change ByteState) (result : Result ℕ Halt) → g'.kept.items ≡ [] → IsGlance (table_of r.now.table) limit g'
       → Feeds (commands declared_types) (task_of (verdict_job r limit)) (Later g.kept.items (HasRead (verdict_job r limit) values)) (HasRead (verdict_job r limit) new) in_hand out result
       → Feeds (commands declared_types) (task_of w) (HasTaken w values g) (HasTaken w new g') in_hand out result
-  seen_feeds new g' in_hand out result none glance feeds =
+  told_feeds new g' in_hand out result none glance feeds =
       let v : Job = verdict_job r limit in
       let P : Job → Type 0 = λ w. Feeds (commands declared_types) (task_of w) (HasTaken w values g) (HasTaken w new g') in_hand out result in
       subst P (sym is)

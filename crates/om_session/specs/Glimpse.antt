@@ -14,14 +14,16 @@ use Rattle.om_types.specs.Typing.{HasType}
 use Rattle.om_rigid.specs.Rigid.{HasEachInstance}
 use Rattle.om_type_table.specs.Made.{table_of}
 use Rattle.om_glance.specs.declared.glance.Glance.{Glance}
-use Rattle.om_glance.specs.declared.glance.Answer.{Answer}
-use Rattle.om_glance.specs.declared.glance.Answer.TheVariants as answers
 use Rattle.om_glance.specs.Glance.{IsGlance}
 use Rattle.om_declared.specs.Language.{SaysLine, lines_of_value}
 use Rattle.om_declared.specs.Types.{type_over}
 use Rattle.om_declared.specs.declared.requested.Prepared.{Prepared}
 use Rattle.om_session.specs.Earlier.{IsUsedUpTo}
 use Rattle.om_session.specs.declared.edit.Edits.{Edits}
+use Rattle.om_session.specs.declared.glimpse.Seen.{Seen}
+use Rattle.om_session.specs.declared.glimpse.Seen.TheVariants as seen
+use Rattle.om_session.specs.declared.glimpse.Unchanged.{Unchanged}
+use Rattle.om_session.specs.declared.glimpse.Unchanged.TheVariants as unchanged
 use Rattle.om_session.specs.declared.values.Values.{Values}
 use Rattle.om_session.specs.declared.values.Job.{Job}
 use Rattle.om_session.specs.declared.values.Job.TheVariants as jobs
@@ -32,29 +34,37 @@ use Rattle.om_session.specs.declared.verdict.Speech.TheVariants as speeches
 abbrev pub yes : Said
 yes = record { text = line (codes "yes"); well = true }
 
--- the first n bytes spell a value of at most so many words, and its line is `yes`
-pub record IsYes (r : Prepared) (limit n : ℕ) (bytes : List ℕ) : Type 0 where
+-- this is said of one that has not, in a line with its line feed
+abbrev pub no_in : List ℕ → Said
+no_in text = record { text = text; well = false }
+
+-- the first n bytes spell a value of at most so many words, and this is said of it where the
+-- verdict is told
+pub record IsVerdictOn (r : Prepared) (limit n : ℕ) (bytes : List ℕ) (said : Said) : Type 0 where
   pub within : n ≤ length bytes
   pub tree : Tree
   pub spelled : SpelledUnder limit (take n bytes) tree
-  pub says : SaysLine the_verdict (type_over r) (objects_of tree 0) (root tree 0) yes.text yes.well
+  pub says :
+      SaysLine the_verdict (type_over r) (objects_of tree 0) (root tree 0) said.text said.well
 
 -- the bytes that were kept, and the first n of the piece, are such a value; nothing is kept of the
 -- next one
-pub record IsYesNext (r : Prepared) (limit : ℕ) (old : Glance) (piece : List ℕ) (new : Glance)
-    (n : ℕ) : Type 0 where
+pub record IsVerdictNext (r : Prepared) (limit : ℕ) (old : Glance) (piece : List ℕ) (new : Glance)
+    (n : ℕ) (said : Said) : Type 0 where
   pub some : 0 < n
   pub within : n ≤ length piece
-  pub yes : IsYes r limit (length old.kept.items + n) (old.kept.items ++ piece)
+  pub verdict : IsVerdictOn r limit (length old.kept.items + n) (old.kept.items ++ piece) said
   pub none : new.kept.items ≡ []
   pub glance : (table : Table) (limit' : ℕ) → IsGlance table limit' new
 
--- what a look at a piece shows: such a value, or more has to come, or nothing
-abbrev pub IsGlimpse : Prepared → ℕ → Glance → List ℕ → Glance → Answer → Type 0
-IsGlimpse r limit old piece new (answers.Typed n) = IsYesNext r limit old piece new n
-IsGlimpse r limit old piece new answers.More =
+-- what a look at a piece shows: the verdict on such a value, or more has to come, or nothing
+abbrev pub IsGlimpse : Prepared → ℕ → Glance → List ℕ → Glance → Seen → Type 0
+IsGlimpse r limit old piece new (seen.Yes n) = IsVerdictNext r limit old piece new n yes
+IsGlimpse r limit old piece new (seen.No n text) =
+    IsVerdictNext r limit old piece new n (no_in text)
+IsGlimpse r limit old piece new seen.More =
     (new.kept.items ≡ old.kept.items ++ piece) × IsGlance (table_of r.table) limit new
-IsGlimpse r limit old piece new answers.Untold =
+IsGlimpse r limit old piece new seen.Untold =
     (new.kept.items ≡ old.kept.items) × IsGlance (table_of r.table) limit new
 
 -- after the bytes of which this is so these were kept
@@ -93,11 +103,11 @@ pub record IsUnchangedNext (r : Prepared) (limit : ℕ) (piece : List ℕ) (new 
 
 -- what a look at a piece shows, of whose value nothing was kept: such a value, or more has to come,
 -- or nothing
-abbrev pub IsUnchangedGlimpse : Prepared → ℕ → List ℕ → Glance → Answer → Type 0
-IsUnchangedGlimpse r limit piece new (answers.Typed n) = IsUnchangedNext r limit piece new n
-IsUnchangedGlimpse r limit piece new answers.More =
+abbrev pub IsUnchangedGlimpse : Prepared → ℕ → List ℕ → Glance → Unchanged → Type 0
+IsUnchangedGlimpse r limit piece new (unchanged.Whole n) = IsUnchangedNext r limit piece new n
+IsUnchangedGlimpse r limit piece new unchanged.More =
     (new.kept.items ≡ piece) × IsGlance (table_of r.table) limit new
-IsUnchangedGlimpse r limit piece new answers.Untold =
+IsUnchangedGlimpse r limit piece new unchanged.Untold =
     (new.kept.items ≡ []) × IsGlance (table_of r.table) limit new
 
 -- no line edits value k, none copies from it into a later one, and each reader may hold it

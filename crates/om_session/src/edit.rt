@@ -15,6 +15,7 @@ use crate::earlier::{Earlier, earlier_value};
 use om_declared::{Requested, check_type, put_bytes};
 use om_edge::Sink;
 use om_edit::{EditRefusal, apply, graft, refusal_text, tables_answer_lines_alike};
+use om_heap::Rooted;
 use om_lines::Places;
 use om_literal::LiteralFault;
 use om_model::Memory;
@@ -77,9 +78,17 @@ pub fn edit_value<K: Sink>(
         (EditsAll edits.entry.requested.now others number edits.entry.script.now.lines value.old
         value.new) }
 {
-    check_type(alloc, &value.heap, value.root, number, edits.requested)?;
+    let old = Rooted {
+        heap: &value.heap,
+        root: value.root,
+    };
+    check_type(alloc, &old, number, edits.requested)?;
     edit_by_lines(alloc, value, number, edits.requested, edits.script, kept)?;
-    put_bytes(alloc, &value.heap, value.root, number, edits.compat, out)
+    let new = Rooted {
+        heap: &value.heap,
+        root: value.root,
+    };
+    put_bytes(alloc, &new, number, edits.compat, out)
 }
 
 /// Edits the value of this number by its lines of the script, in their order.

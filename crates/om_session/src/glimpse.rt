@@ -1,18 +1,24 @@
-//! A value that has its type, as one look at its bytes shows while they come, without a heap; and
-//! one whose bytes are also those that the runtime writes for it.
+//! The verdict on a value, as one look at its bytes shows it while they come, without a heap; and a
+//! value that has its type and whose bytes are those that the runtime writes for it.
 
 ghost use Rattle.std.specs.Bool.{OnTrue};
-ghost use Rattle.std.specs.Prelude.{◌≡◌, ◌≤◌, [], length, take, IfOk};
+ghost use Rattle.std.specs.Prelude.{◌≡◌, ◌≤◌, ◌<◌, ℕ, List, [], length, take, IfOk};
 ghost use Rattle.om_glance.specs.Glance.{IsGlance};
 ghost use Rattle.om_type_table.specs.Made.{table_of};
-ghost use Rattle.om_session.specs.Glimpse.{IsGlimpse, IsUnchangedGlimpse};
+ghost use Rattle.om_misfit.specs.Find.{IsFound};
+ghost use Rattle.om_session.specs.Glimpse.{IsGlimpse, IsUnchangedGlimpse, IsVerdictOn, no_in};
 ghost use Rattle.om_written.specs.Written.{IsAsWritten};
 
-use om_declared::Requested;
+use crate::verdict::ROOM;
+use om_declared::{Requested, put_missed_no};
 use om_glance::{Answer, Glance};
+use om_misfit::Found;
 use om_model::Memory;
+use om_model::list::List;
+use om_stops::put::put;
 use om_table::tables_decide;
 use om_written::is_as_written;
+use std::alloc::Global;
 
 /// After so many looks in a row that showed nothing most values are not looked at.
 const MISSES: u8 = 8;
@@ -45,7 +51,7 @@ impl Looks {
         false
     }
 
-    /// A look showed that a value has its type.
+    /// A look showed the verdict on a value.
     pub fn hit(&mut self) {
         self.missed = 0;
     }
@@ -61,20 +67,60 @@ impl Looks {
     }
 }
 
-/// A look at the value in hand, of which bytes were kept, with a piece more: whether `yes` is told
-/// of it, or more of it has to come.
+/// What a look shows of the value in hand.
+#[derive(Drop)]
+pub enum Seen {
+    /// So many bytes of the piece complete it, and `yes` is told of it.
+    Yes(usize),
+    /// So many do, and this line, with its line feed, is told of it: it starts with `no`.
+    No(usize, List<u8>),
+    /// All of the piece was taken: more has to come.
+    More,
+    /// Nothing is said, and nothing of the piece was taken.
+    Untold,
+}
+
+/// The line of a value that has one misfit.
+fn missed_line(alloc: Global, requested: &Requested, found: &Found) -> Result<List<u8>, Memory>
+    requires number { found.now.ty < length requested.now.table.nodes }
+    ensures { IfOk result
+        (λ line. (limit n : ℕ) (bytes : List ℕ)
+        → IsFound (table_of requested.now.table) limit n bytes found.now
+        → IsVerdictOn requested.now limit n bytes (no_in line)) }
+{
+    let mut text = Vec::with_capacity(alloc, ROOM)?;
+    put_missed_no(&mut text, alloc, requested, found)?;
+    put(&mut text, b"\n")?;
+    Ok(List::of(text))
+}
+
+/// A look at the value in hand, of which bytes were kept, with a piece more: what is told of it, or
+/// whether more of it has to come.
 pub fn glimpse<'a>(
+    alloc: Global,
     requested: &'a Requested,
     limit: u64,
     glance: &mut Glance<'a>,
     piece: &[u8],
-) -> Result<Answer, Memory>
+) -> Result<Seen, Memory>
     requires glance { IsGlance (table_of requested.now.table) limit glance.old }
     ensures { IfOk result (IsGlimpse requested.now limit glance.old piece.now glance.new) }
 {
     requested.holds();
     tables_decide();
-    glance.feed(requested.table(), limit, piece)
+    let answer = glance.feed(alloc, requested.table(), limit, piece)?;
+    match answer {
+        Answer::Typed(n) => Ok(Seen::Yes(n)),
+        Answer::Missed(n) => {
+            let Some(found) = glance.missed() else {
+                unreachable!()
+            };
+            let line = missed_line(alloc, requested, &found)?;
+            Ok(Seen::No(n, line))
+        }
+        Answer::More => Ok(Seen::More),
+        Answer::Untold => Ok(Seen::Untold),
+    }
 }
 
 /// Whether the first n bytes are what the runtime writes for the value that they spell.
@@ -85,30 +131,43 @@ fn is_front_as_written(bytes: &[u8], n: usize) -> bool
     is_as_written(&bytes[..n])
 }
 
+/// What a look shows of a value that is to be put as it came.
+#[derive(Clone, Copy)]
+pub enum Unchanged {
+    /// So many bytes of the piece are a value that has the type, and what the runtime writes for it.
+    Whole(usize),
+    /// All of the piece was taken: more has to come.
+    More,
+    /// Nothing is said, and nothing of the piece was taken.
+    Untold,
+}
+
 /// A look at a piece, of whose value nothing was kept: whether the value lies whole in it, has the
 /// type, and its bytes are what the runtime writes for it.
 pub fn glimpse_unchanged<'a>(
+    alloc: Global,
     requested: &'a Requested,
     limit: u64,
     glance: &mut Glance<'a>,
     piece: &[u8],
-) -> Result<Answer, Memory>
+) -> Result<Unchanged, Memory>
     requires glance { IsGlance (table_of requested.now.table) limit glance.old }
     requires none { glance.old.kept.items ≡ [] }
     ensures { IfOk result (IsUnchangedGlimpse requested.now limit piece.now glance.new) }
 {
     requested.holds();
     tables_decide();
-    let answer = glance.feed(requested.table(), limit, piece)?;
+    let answer = glance.feed(alloc, requested.table(), limit, piece)?;
     match answer {
         Answer::Typed(n) => {
             if is_front_as_written(piece, n) {
-                Ok(Answer::Typed(n))
+                Ok(Unchanged::Whole(n))
             } else {
-                Ok(Answer::Untold)
+                Ok(Unchanged::Untold)
             }
         }
-        Answer::More => Ok(Answer::More),
-        Answer::Untold => Ok(Answer::Untold),
+        Answer::Missed(_) => Ok(Unchanged::Untold),
+        Answer::More => Ok(Unchanged::More),
+        Answer::Untold => Ok(Unchanged::Untold),
     }
 }

@@ -16,10 +16,10 @@ ghost use Rattle.om_session.specs.Progress.{HasTaken, IsGlanced};
 ghost use Rattle.om_session.specs.Values.{IsReadyJob, HasRead, task_of};
 
 use crate::edit::Edits;
-use crate::glimpse::{Looks, glimpse, glimpse_unchanged};
+use crate::glimpse::{Looks, Seen, Unchanged, glimpse, glimpse_unchanged};
 use crate::values::{Job, Values};
 use om_edge::Sink;
-use om_glance::{Answer, Glance};
+use om_glance::Glance;
 use om_model::Memory;
 use om_picker::Counts;
 use om_stops::made::cut_value;
@@ -159,17 +159,17 @@ impl<'a> Progress<'a> {
         if !is_left_due(&mut self.looks, &self.values, &self.glance, edits) {
             return self.read_on(alloc, in_hand, out);
         }
-        let answer = glimpse_unchanged(edits.requested, limit, &mut self.glance, in_hand)?;
+        let answer = glimpse_unchanged(alloc, edits.requested, limit, &mut self.glance, in_hand)?;
         match answer {
-            Answer::Typed(n) => {
+            Unchanged::Whole(n) => {
                 self.looks.hit();
                 self.values.take_left(edits, limit, in_hand, n, out)
             }
-            Answer::More => {
+            Unchanged::More => {
                 self.looks.miss();
                 Ok(in_hand.len())
             }
-            Answer::Untold => {
+            Unchanged::Untold => {
                 self.looks.miss();
                 self.read_on(alloc, in_hand, out)
             }
@@ -200,14 +200,20 @@ impl Work for Progress<'_> {
         if !is_due(&mut self.looks, &self.values, &self.glance) {
             return self.read_on(alloc, in_hand, out);
         }
-        let answer = glimpse(requested, limit, &mut self.glance, in_hand)?;
-        match answer {
-            Answer::Typed(n) => {
+        let seen = glimpse(alloc, requested, limit, &mut self.glance, in_hand)?;
+        match seen {
+            Seen::Yes(n) => {
                 self.looks.hit();
-                self.values.take_seen(requested, limit, in_hand, n, out)
+                self.values
+                    .take_told(requested, limit, in_hand, n, b"yes\n", true, out)
             }
-            Answer::More => Ok(in_hand.len()),
-            Answer::Untold => {
+            Seen::No(n, line) => {
+                self.looks.hit();
+                self.values
+                    .take_told(requested, limit, in_hand, n, line.as_slice(), false, out)
+            }
+            Seen::More => Ok(in_hand.len()),
+            Seen::Untold => {
                 self.looks.miss();
                 self.read_on(alloc, in_hand, out)
             }

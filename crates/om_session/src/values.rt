@@ -3,7 +3,6 @@
 ghost use Rattle.std.specs.Bool.{OnTrue};
 ghost use Rattle.std.specs.Prelude.{◌≡◌, ◌<◌, ◌≤◌, ◌+◌, ◌^◌, ◌++◌, ◌∷◌, ℕ, List, [], length, OnOk};
 ghost use Rattle.std.specs.Prelude.{IfSome, MatchBool};
-ghost use Rattle.om_model.specs.Graph.{IsValue};
 ghost use Rattle.om_model.specs.Bytes.{AreBytes};
 ghost use Rattle.om_format.specs.Front.{IsFront};
 ghost use Rattle.om_format.specs.Tree.{Tree};
@@ -15,7 +14,7 @@ ghost use Rattle.om_session.specs.declared.values.Job.{Job};
 ghost use Rattle.om_session.specs.declared.values.Job.TheVariants as jobs;
 ghost use Rattle.om_declared.specs.Language.{declared_types};
 ghost use Rattle.om_session.specs.SaidOfValue.{PutsSaid};
-ghost use Rattle.om_session.specs.Glimpse.{IsYes, IsUnchanged, IsLeft, IsBetween, Later};
+ghost use Rattle.om_session.specs.Glimpse.{IsVerdictOn, IsUnchanged, IsLeft, IsBetween, Later};
 ghost use Rattle.om_session.specs.Glimpse.{verdict_job};
 ghost use Rattle.om_session.specs.Values.{IsReadyJob, AreValues, IsFull, MayTake, HasRead};
 ghost use Rattle.om_session.specs.Values.{IsValueRead, KeepsNext, PutsNext, Compares, EndsScript};
@@ -26,10 +25,9 @@ use crate::edit::{Edits, edit_value, line_past};
 use crate::verdict::{Saying, Speech, line_of};
 use om_declared::Requested;
 use om_edge::{Sink, put_all};
-use om_heap::Heap;
+use om_heap::Rooted;
 use om_iso::same;
 use om_model::Memory;
-use om_model::value::Val;
 use om_outcome::stop::Stop;
 use om_read::{Reader, Truncated, Value};
 use om_stops::made::{cut_value, refused_line, refused_value};
@@ -78,16 +76,14 @@ fn keep(kept: &mut Vec<Value>, value: Value) -> Result<(), Memory>
 /// Puts what is said of a value, and answers whether nothing is wrong with it.
 fn put_said<K: Sink>(
     alloc: Global,
-    heap: &Heap,
-    root: Val,
+    value: &Rooted<'_>,
     speech: Speech<'_>,
     out: &mut K,
 ) -> Result<bool, Halt>
-    requires value { IsValue (length heap.now) root }
-    ensures { PutsSaid speech.entry heap.now root (change (K.state out.old) (K.state out.new))
-        result }
+    ensures { PutsSaid speech.entry value.now.heap.now value.now.root
+        (change (K.state out.old) (K.state out.new)) result }
 {
-    let line = line_of(alloc, heap, root, speech)?;
+    let line = line_of(alloc, value, speech)?;
     put_all(out, line.text.as_slice())?;
     Ok(line.well)
 }
@@ -172,7 +168,11 @@ impl Values {
             (change (K.state out.old) (K.state out.new)) self.new result }
     {
         let value = self.reader.lend();
-        let well = put_said(alloc, value.heap, value.root, speech, out)?;
+        let lent = Rooted {
+            heap: value.heap,
+            root: value.root,
+        };
+        let well = put_said(alloc, &lent, speech, out)?;
         self.reader.restart(limit);
         self.well &= well;
         self.last = well;
@@ -266,13 +266,15 @@ impl Values {
     }
 
     /// Takes a value, of which bytes were kept and the first n in hand are the others: looks at them
-    /// showed that it has the type. Its line is put.
-    pub fn take_seen<K: Sink>(
+    /// showed the verdict on it. Its line is put.
+    pub fn take_told<K: Sink>(
         &mut self,
         requested: &Requested,
         limit: u64,
         in_hand: &[u8],
         n: usize,
+        line: &[u8],
+        is_well: bool,
         out: &mut K,
     ) -> Result<usize, Halt>
         requires some { 0 < n }
@@ -281,14 +283,16 @@ impl Values {
             × HasRead (verdict_job requested limit) self.old taken said × (length taken < 2 ^ 63) }
         requires between { IsBetween self.old }
         ensures { (kept : List ℕ) → AreBytes kept → IsFront limit kept
-            → IsYes requested.now limit (length kept + n) (kept ++ in_hand.now)
+            → IsVerdictOn requested.now limit (length kept + n) (kept ++ in_hand.now)
+            (record { text = line.now; well = is_well })
             → Feeds (commands declared_types) (task_of (verdict_job requested.entry limit))
             (Later kept (HasRead (verdict_job requested.entry limit) self.old))
             (HasRead (verdict_job requested.entry limit) self.new) in_hand.now
             (change (K.state out.old) (K.state out.new)) result }
     {
-        put_all(out, b"yes\n")?;
-        self.last = true;
+        put_all(out, line)?;
+        self.well &= is_well;
+        self.last = is_well;
         self.count += 1;
         Ok(n)
     }

@@ -1,7 +1,6 @@
 //! What is said of a value.
 
 ghost use Rattle.std.specs.Prelude.{◌≡◌, ◌<◌, ◌++◌, length, IfOk, OnOk, MatchBool};
-ghost use Rattle.om_model.specs.Graph.{IsValue};
 ghost use Rattle.om_types.specs.Typing.{HasType};
 ghost use Rattle.om_types.specs.Table.{table_shapes};
 ghost use Rattle.om_type_table.specs.Made.{table_of};
@@ -20,11 +19,10 @@ use om_check::Verdict;
 use om_decimal_texts::put_decimal_text;
 use om_declared::{Requested, find_verdict, put_near_no, put_no};
 use om_fault::walk;
-use om_heap::Heap;
+use om_heap::Rooted;
 use om_model::Memory;
 use om_model::list::List;
 use om_model::path::Path;
-use om_model::value::Val;
 use om_outcome::style::Style;
 use om_pretty::put_pretty;
 use om_print::{put_dump, put_shown_at};
@@ -61,26 +59,26 @@ pub struct Line {
 }
 
 /// Most lines on small values have no more bytes.
-const ROOM: usize = 96;
+pub const ROOM: usize = 96;
 
 /// What is said of a value.
-pub fn line_of(alloc: Global, heap: &Heap, root: Val, speech: Speech<'_>) -> Result<Line, Memory>
-    requires value { IsValue (length heap.now) root }
-    ensures { IfOk result (λ line. IsSaidOf speech.entry heap.now root line.text line.well) }
+pub fn line_of(alloc: Global, value: &Rooted<'_>, speech: Speech<'_>) -> Result<Line, Memory>
+    ensures { IfOk result
+        (λ line. IsSaidOf speech.entry value.now.heap.now value.now.root line.text line.well) }
 {
     match speech {
-        Speech::Tell(requested, saying) => told_line(alloc, heap, root, requested, saying),
-        Speech::Dump => dumped_lines(alloc, heap, root),
+        Speech::Tell(requested, saying) => told_line(alloc, value, requested, saying),
+        Speech::Dump => dumped_lines(alloc, value),
     }
 }
 
 /// The lines of a value as it is.
-fn dumped_lines(alloc: Global, heap: &Heap, root: Val) -> Result<Line, Memory>
-    requires value { IsValue (length heap.now) root }
-    ensures { IfOk result (λ line. IsSaidOf speeches.Dump heap.now root line.text line.well) }
+fn dumped_lines(alloc: Global, value: &Rooted<'_>) -> Result<Line, Memory>
+    ensures { IfOk result
+        (λ line. IsSaidOf speeches.Dump value.now.heap.now value.now.root line.text line.well) }
 {
     let mut text = Vec::with_capacity(alloc, ROOM)?;
-    put_dump(&mut text, heap, root)?;
+    put_dump(&mut text, value)?;
     Ok(Line {
         text: List::of(text),
         well: true,
@@ -90,18 +88,16 @@ fn dumped_lines(alloc: Global, heap: &Heap, root: Val) -> Result<Line, Memory>
 /// Checks a value against a type, and says what comes of that.
 fn told_line(
     alloc: Global,
-    heap: &Heap,
-    root: Val,
+    value: &Rooted<'_>,
     requested: &Requested,
     saying: Saying<'_>,
 ) -> Result<Line, Memory>
-    requires value { IsValue (length heap.now) root }
     ensures { IfOk result
-        (λ line. IsSaidOf (speeches.Tell requested.entry saying.entry) heap.now root line.text
-        line.well) }
+        (λ line. IsSaidOf (speeches.Tell requested.entry saying.entry) value.now.heap.now
+        value.now.root line.text line.well) }
 {
     let mut text = Vec::with_capacity(alloc, ROOM)?;
-    let well = put_checked(&mut text, alloc, heap, root, requested, saying)?;
+    let well = put_checked(&mut text, alloc, value, requested, saying)?;
     put(&mut text, b"\n")?;
     Ok(Line {
         text: List::of(text),
@@ -114,22 +110,20 @@ fn told_line(
 fn put_checked(
     text: &mut Vec<u8>,
     alloc: Global,
-    heap: &Heap,
-    root: Val,
+    value: &Rooted<'_>,
     requested: &Requested,
     saying: Saying<'_>,
 ) -> Result<bool, Memory>
-    requires value { IsValue (length heap.now) root }
     ensures { IfOk result
-        (PutsLine (saying_of saying.entry) (type_over requested.now) heap.now root text.old.items
-        text.new.items) }
+        (PutsLine (saying_of saying.entry) (type_over requested.now) value.now.heap.now
+        value.now.root text.old.items text.new.items) }
 {
-    let told = put_soon(text, alloc, heap, root, requested, saying)?;
+    let told = put_soon(text, alloc, value, requested, saying)?;
     if told {
         return Ok(false);
     }
-    let verdict = find_verdict(alloc, heap, root, requested)?;
-    put_line(text, alloc, heap, root, requested, saying, &verdict)
+    let verdict = find_verdict(alloc, value, requested)?;
+    put_line(text, alloc, value, requested, saying, &verdict)
 }
 
 /// Puts `no` and the fault at the end, where the verdict alone is told and the fault is near the
@@ -138,19 +132,18 @@ fn put_checked(
 fn put_soon(
     text: &mut Vec<u8>,
     alloc: Global,
-    heap: &Heap,
-    root: Val,
+    value: &Rooted<'_>,
     requested: &Requested,
     saying: Saying<'_>,
 ) -> Result<bool, Memory>
-    requires value { IsValue (length heap.now) root }
     ensures { IfOk result
         (λ told. MatchBool told
-        (PutsNo (type_over requested.now) heap.now root text.old.items text.new.items)
+        (PutsNo (type_over requested.now) value.now.heap.now value.now.root text.old.items
+        text.new.items)
         (text.new.items ≡ text.old.items)) }
 {
     match saying {
-        Saying::Verdict => put_near_no(text, alloc, heap, root, requested),
+        Saying::Verdict => put_near_no(text, alloc, value, requested),
         _ => Ok(false),
     }
 }
@@ -160,22 +153,20 @@ fn put_soon(
 fn put_line(
     text: &mut Vec<u8>,
     alloc: Global,
-    heap: &Heap,
-    root: Val,
+    value: &Rooted<'_>,
     requested: &Requested,
     saying: Saying<'_>,
     verdict: &Verdict,
 ) -> Result<bool, Memory>
-    requires value { IsValue (length heap.now) root }
-    requires verdict { IsVerdictOf requested.now heap.now root verdict.now }
+    requires verdict { IsVerdictOf requested.now value.now.heap.now value.now.root verdict.now }
     ensures { IfOk result
-        (PutsLine (saying_of saying.entry) (type_over requested.now) heap.now root text.old.items
-        text.new.items) }
+        (PutsLine (saying_of saying.entry) (type_over requested.now) value.now.heap.now
+        value.now.root text.old.items text.new.items) }
 {
     match verdict {
-        Verdict::Yes(_) => put_told(text, alloc, heap, root, requested, saying),
+        Verdict::Yes(_) => put_told(text, alloc, value, requested, saying),
         Verdict::No(fault) => {
-            put_no(text, alloc, heap, root, requested, fault)?;
+            put_no(text, alloc, value, requested, fault)?;
             Ok(false)
         }
     }
@@ -186,16 +177,15 @@ fn put_line(
 fn put_told(
     text: &mut Vec<u8>,
     alloc: Global,
-    heap: &Heap,
-    root: Val,
+    value: &Rooted<'_>,
     requested: &Requested,
     saying: Saying<'_>,
 ) -> Result<bool, Memory>
-    requires value { IsValue (length heap.now) root }
-    requires typed { HasType (table_shapes (table_of requested.now.table)) heap.now root 0 }
+    requires typed { HasType (table_shapes (table_of requested.now.table)) value.now.heap.now
+        value.now.root 0 }
     ensures { IfOk result
-        (PutsLine (saying_of saying.entry) (type_over requested.now) heap.now root text.old.items
-        text.new.items) }
+        (PutsLine (saying_of saying.entry) (type_over requested.now) value.now.heap.now
+        value.now.root text.old.items text.new.items) }
 {
     requested.holds();
     tables_decide();
@@ -208,11 +198,11 @@ fn put_told(
         Saying::Text(style) => {
             let table = requested.table();
             table.holds();
-            put_styled_at(text, alloc, heap, root, table, 0, style)?;
+            put_styled_at(text, alloc, value, table, 0, style)?;
             Ok(true)
         }
-        Saying::Part(path, style) => put_part(text, alloc, heap, root, requested, path, style),
-        Saying::Trees => put_trees(text, alloc, heap, root, requested),
+        Saying::Part(path, style) => put_part(text, alloc, value, requested, path, style),
+        Saying::Trees => put_trees(text, alloc, value, requested),
     }
 }
 
@@ -221,26 +211,26 @@ fn put_told(
 fn put_plain_at(
     text: &mut Vec<u8>,
     alloc: Global,
-    heap: &Heap,
-    v: Val,
+    value: &Rooted<'_>,
     table: &TypeTable,
     at: usize,
     decimal: bool,
 ) -> Result<(), Memory>
-    requires value { IsValue (length heap.now) v }
     requires number { at < length table.now.nodes }
-    requires typed { HasType (table_shapes (table_of table.now)) heap.now v at }
+    requires typed { HasType (table_shapes (table_of table.now)) value.now.heap.now
+        value.now.root at }
     ensures { OnOk result
         (text.new.items
         ≡ text.old.items
         ++ with_decimals decimal
-        (shown_text (shape_in table.now) (names_in table.now) heap.now v at)) }
+        (shown_text (shape_in table.now) (names_in table.now) value.now.heap.now value.now.root
+        at)) }
 {
     if !decimal {
-        return put_shown_at(text, alloc, heap, v, table, at);
+        return put_shown_at(text, alloc, value, table, at);
     }
     let mut bits = Vec::new(alloc);
-    put_shown_at(&mut bits, alloc, heap, v, table, at)?;
+    put_shown_at(&mut bits, alloc, value, table, at)?;
     put_decimal_text(alloc, text, bits.as_slice())
 }
 
@@ -248,25 +238,26 @@ fn put_plain_at(
 fn put_styled_at(
     text: &mut Vec<u8>,
     alloc: Global,
-    heap: &Heap,
-    v: Val,
+    value: &Rooted<'_>,
     table: &TypeTable,
     at: usize,
     style: Style,
 ) -> Result<(), Memory>
-    requires value { IsValue (length heap.now) v }
     requires number { at < length table.now.nodes }
-    requires typed { HasType (table_shapes (table_of table.now)) heap.now v at }
+    requires typed { HasType (table_shapes (table_of table.now)) value.now.heap.now
+        value.now.root at }
     ensures { OnOk result
         (text.new.items
         ≡ text.old.items
-        ++ styled style (shown_text (shape_in table.now) (names_in table.now) heap.now v at)) }
+        ++ styled style
+        (shown_text (shape_in table.now) (names_in table.now) value.now.heap.now value.now.root
+        at)) }
 {
     if !style.pretty {
-        return put_plain_at(text, alloc, heap, v, table, at, style.decimal);
+        return put_plain_at(text, alloc, value, table, at, style.decimal);
     }
     let mut plain = Vec::new(alloc);
-    put_plain_at(&mut plain, alloc, heap, v, table, at, style.decimal)?;
+    put_plain_at(&mut plain, alloc, value, table, at, style.decimal)?;
     put_pretty(text, alloc, plain.as_slice())
 }
 
@@ -275,26 +266,26 @@ fn put_styled_at(
 fn put_part(
     text: &mut Vec<u8>,
     alloc: Global,
-    heap: &Heap,
-    root: Val,
+    value: &Rooted<'_>,
     requested: &Requested,
     path: &Path,
     style: Style,
 ) -> Result<bool, Memory>
-    requires value { IsValue (length heap.now) root }
-    requires typed { HasType (table_shapes (table_of requested.now.table)) heap.now root 0 }
+    requires typed { HasType (table_shapes (table_of requested.now.table)) value.now.heap.now
+        value.now.root 0 }
     ensures { IfOk result
-        (PutsLine (the_part path.now style) (type_over requested.now) heap.now root
-        text.old.items text.new.items) }
+        (PutsLine (the_part path.now style) (type_over requested.now) value.now.heap.now
+        value.now.root text.old.items text.new.items) }
 {
     requested.holds();
     tables_decide();
     roots_show_alike();
     let table = requested.table();
     table.holds();
-    match walk(heap, root, table, path) {
-        Some((value, at)) => {
-            put_styled_at(text, alloc, heap, value, table, at, style)?;
+    match walk(value, table, path) {
+        Some((root, at)) => {
+            let heap = value.heap;
+            put_styled_at(text, alloc, &Rooted { heap, root }, table, at, style)?;
             Ok(true)
         }
         None => {
@@ -318,20 +309,20 @@ fn is_sound(verdict: &TreeVerdict) -> bool
 fn put_trees(
     text: &mut Vec<u8>,
     alloc: Global,
-    heap: &Heap,
-    root: Val,
+    value: &Rooted<'_>,
     requested: &Requested,
 ) -> Result<bool, Memory>
-    requires value { IsValue (length heap.now) root }
-    requires typed { HasType (table_shapes (table_of requested.now.table)) heap.now root 0 }
+    requires typed { HasType (table_shapes (table_of requested.now.table)) value.now.heap.now
+        value.now.root 0 }
     ensures { IfOk result
-        (PutsLine the_trees (type_over requested.now) heap.now root text.old.items text.new.items) }
+        (PutsLine the_trees (type_over requested.now) value.now.heap.now value.now.root
+        text.old.items text.new.items) }
 {
     requested.holds();
     tables_decide();
     tables_judge_trees();
     tables_have_the_verdict();
-    let verdict = trees(alloc, heap, root, requested.table())?;
+    let verdict = trees(alloc, value, requested.table())?;
     put_verdict(text, alloc, &verdict)?;
     Ok(is_sound(&verdict))
 }

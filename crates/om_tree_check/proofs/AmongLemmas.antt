@@ -17,7 +17,7 @@ use Rattle.om_types.specs.Typing.{HasType}
 use Rattle.om_typing.proofs.SearchedLemmas.{before_transitive}
 use Rattle.om_equal.proofs.TableLemmas.{mapped_some}
 use Rattle.om_type_table.specs.declared.tabled.Tabled.{Tabled}
-use Rattle.om_type_table.specs.Made.{table_of}
+use Rattle.om_type_table.specs.Made.{table_of, IsLawful}
 use Rattle.om_check.specs.declared.visits.Visit.{Visit}
 use Rattle.om_check.specs.Told.{IsPathOf}
 use Rattle.om_check.specs.Met.{AreAllMet}
@@ -46,7 +46,8 @@ abbrev pair_of : Option (Entry ℕ) → ℕ × ℕ
 pair_of None = (0, 0)
 pair_of (Some e) = (e.object, e.type)
 
-module _ (table : Tabled) (graph : List Obj) (root : Val) (its : IsTreeTable table)
+module _ (table : Tabled) (graph : List Obj) (root : Val)
+    (lawful : IsLawful (table_of table)) (its : IsTreeTable table)
     (has : HasType (table_shapes (table_of table)) graph root 0)
     (all : List Visit) (met : AreAllMet (table_of table) graph root all)
     (nodes : Nodes) (among : AreNodeVisits (IsTreeNumber table) all (length all) nodes) where
@@ -116,7 +117,7 @@ module _ (table : Tabled) (graph : List Obj) (root : Val) (its : IsTreeTable tab
   met_at path o u node =
       let entered = met.least path o u node.leads in
       let e = entered.0 in
-      let tree = its.alike e.type u (sym entered.3) node.tree in
+      let tree = its e.type u (sym entered.3) node.tree in
       let k = Contains-place met.told e entered.1 in
       let inside = slice_get_within met.told k.0 e k.1 in
       let told = met.are_told.many in
@@ -158,7 +159,7 @@ module _ (table : Tabled) (graph : List Obj) (root : Val) (its : IsTreeTable tab
       slice_get-Contains objects at.place m at.node.listed
 
   alike : (i j : ℕ) → Unit {0} → SameClass table i j → IsTreeNumber table j → IsTreeNumber table i
-  alike i j any same tree = its.alike i j same tree
+  alike i j any same tree = its i j same tree
 
   pub closed : AreClosed graph objects
   closed = record {
@@ -166,7 +167,7 @@ module _ (table : Tabled) (graph : List Obj) (root : Val) (its : IsTreeTable tab
         let n = node_there i o at in
         let node = leads_there i o n in
         let object = object_of (shape_in table) (names_in table) (SameClass table) Everything
-        its.lawful.lawful alike graph root 0 tt has
+        lawful.lawful alike graph root 0 tt has
         n.entry.path o n.entry.type node.leads node.tree in
         slice_get_within graph o object.object object.at);
     left = λ o listed.
@@ -174,26 +175,26 @@ module _ (table : Tabled) (graph : List Obj) (root : Val) (its : IsTreeTable tab
         let n = node_there i.0 o i.1 in
         let node = leads_there i.0 o n in
         let object = object_of (shape_in table) (names_in table) (SameClass table) Everything
-        its.lawful.lawful alike graph root 0 tt has
+        lawful.lawful alike graph root 0 tt has
         n.entry.path o n.entry.type node.leads node.tree in
         part_among (node_at graph o).left (n.entry.path ++ 0 ∷ []) node.tree.left
         (left_leads (shape_in table) (names_in table) (SameClass table) Everything
-        its.lawful.lawful alike graph root 0 tt has
+        lawful.lawful alike graph root 0 tt has
         n.entry.path o n.entry.type node.leads node.tree object)
-        (its.alike node.tree.left n.entry.type node.tree.left_same node.tree);
+        (its node.tree.left n.entry.type node.tree.left_same node.tree);
     right = λ o listed.
         let i = Contains-place objects o listed in
         let n = node_there i.0 o i.1 in
         let node = leads_there i.0 o n in
         let object = object_of (shape_in table) (names_in table) (SameClass table) Everything
-        its.lawful.lawful alike graph root 0 tt has
+        lawful.lawful alike graph root 0 tt has
         n.entry.path o n.entry.type node.leads node.tree in
         part_among (node_at graph o).right (n.entry.path ++ place_of_right node.tree.kept ∷ [])
         node.tree.right
         (right_leads (shape_in table) (names_in table) (SameClass table) Everything
-        its.lawful.lawful alike graph root 0 tt has
+        lawful.lawful alike graph root 0 tt has
         n.entry.path o n.entry.type node.leads node.tree object)
-        (its.alike node.tree.right n.entry.type node.tree.right_same node.tree);
+        (its node.tree.right n.entry.type node.tree.right_same node.tree);
   }
 
   -- ---- faults

@@ -17,7 +17,7 @@ use Rattle.om_types.specs.Typing.{IsHeld, HasType}
 use Rattle.om_types.proofs.FaultLemmas.{place_is_held}
 use Rattle.om_typing.specs.StepLaws.{AreApart, key_of}
 use Rattle.om_type_table.specs.declared.tabled.Tabled.{Tabled}
-use Rattle.om_type_table.specs.Made.{table_of}
+use Rattle.om_type_table.specs.Made.{table_of, IsLawful}
 use Rattle.om_scan.specs.Paths.{HasPath}
 use Rattle.om_check.specs.Verdict.{IsYes}
 use Rattle.om_trees.specs.declared.node.TreeKind.{TreeKind}
@@ -105,7 +105,8 @@ never_before_root [] (inr same) = same.1
 never_before_root (i ∷ path) (inl less) = omega (arith, less)
 never_before_root (i ∷ path) (inr same) = same.1
 
-module _ (table : Tabled) (graph : List Obj) (root : Val) (its : IsTreeTable table)
+module _ (table : Tabled) (graph : List Obj) (root : Val)
+    (lawful : IsLawful (table_of table)) (its : IsTreeTable table)
     (has : HasType (table_shapes (table_of table)) graph root 0) where
   abbrev IsNodeHere : List ℕ → ℕ → ℕ → Type 0
   IsNodeHere path o u = IsNode (shape_in table) (names_in table) (SameClass table) graph root 0
@@ -135,12 +136,12 @@ module _ (table : Tabled) (graph : List Obj) (root : Val) (its : IsTreeTable tab
           let p = paths o u k.0 in
           (p.0, record { leads = p.1; tree = (marked u).0 k.1 });
       all = λ path o u node.
-          let held = place_is_held (table_shapes (table_of table)) Everything its.lawful.lawful
+          let held = place_is_held (table_shapes (table_of table)) Everything lawful.lawful
           graph typing yes.typing path root 0 (vals.Ref o) u tt root_held node.leads in
           let other = held.1.listed in (
             other.0,
             Contains-filter (is_node_pair found) typing (o, other.0) other.1
-                ((marked other.0).1 (its.alike other.0 u other.2 node.tree)),
+                ((marked other.0).1 (its other.0 u other.2 node.tree)),
             other.2,
           );
       apart = λ j k o u w at_j at_k same.
@@ -180,7 +181,7 @@ module _ (table : Tabled) (graph : List Obj) (root : Val) (its : IsTreeTable tab
 
     alike : (i j : ℕ) → Unit {0} → SameClass table i j → IsTreeNumber table j → IsTreeNumber table
         i
-    alike i j any same tree = its.alike i j same tree
+    alike i j any same tree = its i j same tree
 
     part_among : (v : Val) (path : List ℕ) (u : ℕ)
         → value_at (table_shapes (table_of table)) graph root 0 path ≡ Some (v, u)
@@ -195,25 +196,25 @@ module _ (table : Tabled) (graph : List Obj) (root : Val) (its : IsTreeTable tab
       inside = all_are (λ o. o < length graph) objects (λ i o at.
           let n = node_of o (slice_get-Contains objects i o at) in
           let object = object_of (shape_in table) (names_in table) (SameClass table) Everything
-          its.lawful.lawful alike graph root 0 tt has n.0 o n.1 n.2.leads n.2.tree in
+          lawful.lawful alike graph root 0 tt has n.0 o n.1 n.2.leads n.2.tree in
           slice_get_within graph o object.object object.at);
       left = λ o listed.
           let n = node_of o listed in
           let object = object_of (shape_in table) (names_in table) (SameClass table) Everything
-          its.lawful.lawful alike graph root 0 tt has n.0 o n.1 n.2.leads n.2.tree in
+          lawful.lawful alike graph root 0 tt has n.0 o n.1 n.2.leads n.2.tree in
           part_among (node_at graph o).left (n.0 ++ 0 ∷ []) n.2.tree.left
           (left_leads (shape_in table) (names_in table) (SameClass table) Everything
-          its.lawful.lawful alike graph root 0 tt has n.0 o n.1 n.2.leads n.2.tree object)
-          (its.alike n.2.tree.left n.1 n.2.tree.left_same n.2.tree);
+          lawful.lawful alike graph root 0 tt has n.0 o n.1 n.2.leads n.2.tree object)
+          (its n.2.tree.left n.1 n.2.tree.left_same n.2.tree);
       right = λ o listed.
           let n = node_of o listed in
           let object = object_of (shape_in table) (names_in table) (SameClass table) Everything
-          its.lawful.lawful alike graph root 0 tt has n.0 o n.1 n.2.leads n.2.tree in
+          lawful.lawful alike graph root 0 tt has n.0 o n.1 n.2.leads n.2.tree in
           part_among (node_at graph o).right (n.0 ++ place_of_right n.2.tree.kept ∷ [])
           n.2.tree.right
           (right_leads (shape_in table) (names_in table) (SameClass table) Everything
-          its.lawful.lawful alike graph root 0 tt has n.0 o n.1 n.2.leads n.2.tree object)
-          (its.alike n.2.tree.right n.1 n.2.tree.right_same n.2.tree);
+          lawful.lawful alike graph root 0 tt has n.0 o n.1 n.2.leads n.2.tree object)
+          (its n.2.tree.right n.1 n.2.tree.right_same n.2.tree);
     }
 
     -- ---- faults

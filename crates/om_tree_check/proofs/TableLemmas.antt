@@ -20,7 +20,7 @@ use Rattle.om_equal.proofs.SoundLemmas.{known_by_hash}
 use Rattle.om_equal.proofs.TableLemmas.{slice_get-mapped, mapped_some, table_says, types_say}
 use Rattle.om_table.proofs.DecideLemmas.{root_is_first}
 use Rattle.om_type_table.specs.declared.tabled.Tabled.{Tabled}
-use Rattle.om_type_table.specs.Made.{types_of, table_of, IsTypeTable, IsLawful}
+use Rattle.om_type_table.specs.Made.{types_of, table_of, IsTypeTable}
 use Rattle.om_trees.specs.declared.verdict.TreeVerdict.{TreeVerdict}
 use Rattle.om_trees.specs.Laws.{IsVerdictOf}
 use Rattle.om_trees.specs.TreeType.{IsTreeType, IsTreeNumber, SameClass, shape_in, names_in, names_or_none, names_with, field_names, layout_of, fields_in, tree_shape}
@@ -258,22 +258,15 @@ module _ (decls : List Decl) (t : Ty) (table : Tabled) (is : IsTypeTable decls t
       let inside = slice_get_within table.classes i class.0 (same ∙ class.1) in
       slice_get_there (types_of table) i (omega (arith, inside, many))
 
-  pub judges_trees : AreWellFormed decls → IsSoundType decls t → IsLawful (table_of table) →
-      IsTreeTable table
-  judges_trees well sound lawful = record {
-    lawful = lawful;
-    named = ap length is.named ∙ length-map (types_of table) (names_of decls) ∙ sym as_many;
-    alike = alike;
-  } where
-    alike : (i j : ℕ) → SameClass table i j → IsTreeNumber table j → IsTreeNumber table i
-    alike i j same tree =
-        let u = number_known j tree in
-        let w = class_known i j u.0 same u.1 in
-        let equal = is.made.same_class i j w.0 u.0 w.1 u.1 same in
-        tree_back i w.0 w.1
-        (tree_too decls well.sound t (types_of table) is.reached
-        (known_by_hash decls well t sound (types_of table) is.reached)
-        w.0 u.0 (slice_get-Contains (types_of table) j u.0 u.1) equal (tree_forth j u.0 u.1 tree))
+  pub judges_trees : AreWellFormed decls → IsSoundType decls t → IsTreeTable table
+  judges_trees well sound i j same tree =
+      let u = number_known j tree in
+      let w = class_known i j u.0 same u.1 in
+      let equal = is.made.same_class i j w.0 u.0 w.1 u.1 same in
+      tree_back i w.0 w.1
+      (tree_too decls well.sound t (types_of table) is.reached
+      (known_by_hash decls well t sound (types_of table) is.reached)
+      w.0 u.0 (slice_get-Contains (types_of table) j u.0 u.1) equal (tree_forth j u.0 u.1 tree))
 
   -- ---- the verdict
 

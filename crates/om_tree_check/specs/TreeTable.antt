@@ -1,19 +1,16 @@
 -- Tables by which the sets and maps in a value can be judged.
-use Rattle.std.specs.Prelude.{ℕ, ◌≡◌, ◌↔◌, Bool, false, List, length, IsTrue, slice_index_or}
+use Rattle.std.specs.Prelude.{ℕ, ◌↔◌, Bool, false, List, IsTrue, slice_index_or}
 use Rattle.om_model.specs.declared.value.Val.{Val}
 use Rattle.om_model.specs.declared.value.Obj.{Obj}
 use Rattle.om_type_table.specs.declared.tabled.Tabled.{Tabled}
-use Rattle.om_type_table.specs.Made.{table_of, IsLawful}
 use Rattle.om_trees.specs.declared.verdict.TreeVerdict.{TreeVerdict}
 use Rattle.om_trees.specs.TreeType.{shape_in, names_in, SameClass, IsTreeNumber}
 use Rattle.om_trees.specs.Verdict.{IsTreeVerdict}
 
--- Values can be checked by the table, each of its types has names, and a type that is equal to that
--- of a set or a map is one too.
-pub record IsTreeTable (table : Tabled) : Type 0 where
-  pub lawful : IsLawful (table_of table)
-  pub named : length table.names ≡ length table.nodes
-  pub alike : (i j : ℕ) → SameClass table i j → IsTreeNumber table j → IsTreeNumber table i
+-- A type that is equal to that of a set or a map is one too.
+abbrev pub IsTreeTable : Tabled → Type 0
+IsTreeTable table =
+    (i j : ℕ) → SameClass table i j → IsTreeNumber table j → IsTreeNumber table i
 
 -- the types of sets and maps are marked, and no others
 abbrev pub AreMarked : Tabled → List Bool → Type 0

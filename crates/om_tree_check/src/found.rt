@@ -1,7 +1,6 @@
 //! The nodes as a check found them, without paths.
 
 ghost use Rattle.std.specs.Prelude.{◌≡◌, ◌+◌, ◌<◌, length, take, IfOk, OnOk, slice_index_or, false};
-ghost use Rattle.om_model.specs.Graph.{IsValue};
 ghost use Rattle.om_types.specs.Table.{table_shapes};
 ghost use Rattle.om_types.specs.Typing.{HasType};
 ghost use Rattle.om_type_table.specs.Made.{table_of};
@@ -9,28 +8,27 @@ ghost use Rattle.om_tree_check.specs.NodePairs.{AreNodeObjects, marked_objects};
 ghost use Rattle.om_tree_check.specs.TreeTable.{IsTreeTable, AreMarked};
 
 use om_check::{Steps, Typing, Verdict, check};
-use om_heap::Heap;
+use om_heap::Rooted;
 use om_model::Memory;
-use om_model::value::Val;
 use om_type_table::TypeTable;
 use std::alloc::Global;
 
 /// The objects of the nodes in a value that has its type, each once at each class.
 pub fn nodes_found(
     alloc: Global,
-    heap: &Heap,
-    root: Val,
+    value: &Rooted<'_>,
     table: &TypeTable,
     found: &[bool],
 ) -> Result<Vec<usize>, Memory>
-    requires value { IsValue (length heap.now) root }
     requires table { IsTreeTable table.now }
-    requires has { HasType (table_shapes (table_of table.now)) heap.now root 0 }
+    requires has { HasType (table_shapes (table_of table.now)) value.now.heap.now value.now.root 0 }
     requires found { AreMarked table.now found.now }
-    ensures { IfOk result (λ nodes. AreNodeObjects table.now heap.now root nodes.items) }
+    ensures { IfOk result
+        (λ nodes. AreNodeObjects table.now value.now.heap.now value.now.root nodes.items) }
 {
+    table.holds();
     let mut steps = Steps::new();
-    match check(alloc, heap, root, table, &mut steps)? {
+    match check(alloc, value.heap, value.root, table, &mut steps)? {
         Verdict::Yes(typing) => objects_at(alloc, &typing, found),
         Verdict::No(_) => unreachable!(),
     }

@@ -2,7 +2,6 @@
 
 ghost use Rattle.std.specs.Prelude.{◌≡◌, ◌<◌, ◌↔◌, length, All, IfOk, IfSome, IsTrue};
 ghost use Rattle.om_model.specs.declared.value.Val.TheVariants as vals;
-ghost use Rattle.om_model.specs.Graph.{IsValue};
 ghost use Rattle.om_types.specs.Table.{table_shapes};
 ghost use Rattle.om_types.specs.Typing.{HasType};
 ghost use Rattle.om_type_table.specs.Made.{table_of};
@@ -14,7 +13,7 @@ ghost use Rattle.om_tree_check.specs.TreeTable.{IsTreeTable, AreMarked, IsTableV
 use crate::found::{is_marked, nodes_found};
 use crate::nodes::{Nodes, nodes_among};
 use om_check::{AllMet, met};
-use om_heap::Heap;
+use om_heap::{Heap, Rooted};
 use om_model::Memory;
 use om_model::path::Path;
 use om_model::value::Val;
@@ -25,24 +24,18 @@ use std::alloc::Global;
 /// What is said of the sets and maps in a value that has the type that is number 0: the least
 /// fault, or how many nodes there are, each object once at each class of types. Where the table
 /// has no such type, the value is not looked at.
-pub fn trees(
-    alloc: Global,
-    heap: &Heap,
-    root: Val,
-    table: &TypeTable,
-) -> Result<TreeVerdict, Memory>
-    requires value { IsValue (length heap.now) root }
+pub fn trees(alloc: Global, value: &Rooted<'_>, table: &TypeTable) -> Result<TreeVerdict, Memory>
     requires table { IsTreeTable table.now }
-    requires has { HasType (table_shapes (table_of table.now)) heap.now root 0 }
-    ensures { IfOk result (IsTableVerdict table.now heap.now root) }
+    requires has { HasType (table_shapes (table_of table.now)) value.now.heap.now value.now.root 0 }
+    ensures { IfOk result (IsTableVerdict table.now value.now.heap.now value.now.root) }
 {
     let found = tree_types(alloc, table)?;
     if has_none(found.as_slice()) {
         return Ok(TreeVerdict::Sound(0));
     }
-    match verdict_found(alloc, heap, root, table, found.as_slice())? {
+    match verdict_found(alloc, value, table, found.as_slice())? {
         Some(verdict) => Ok(verdict),
-        None => verdict_by(alloc, heap, root, table, found.as_slice()),
+        None => verdict_by(alloc, value, table, found.as_slice()),
     }
 }
 
@@ -61,22 +54,22 @@ fn has_none(found: &[bool]) -> bool
 /// The verdict, where it asks for no path but that of the root.
 fn verdict_found(
     alloc: Global,
-    heap: &Heap,
-    root: Val,
+    value: &Rooted<'_>,
     table: &TypeTable,
     found: &[bool],
 ) -> Result<Option<TreeVerdict>, Memory>
-    requires value { IsValue (length heap.now) root }
     requires table { IsTreeTable table.now }
-    requires has { HasType (table_shapes (table_of table.now)) heap.now root 0 }
+    requires has { HasType (table_shapes (table_of table.now)) value.now.heap.now value.now.root 0 }
     requires found { AreMarked table.now found.now }
-    ensures { IfOk result (λ told. IfSome told (IsTableVerdict table.now heap.now root)) }
+    ensures { IfOk result
+        (λ told. IfSome told (IsTableVerdict table.now value.now.heap.now value.now.root)) }
 {
-    let nodes = nodes_found(alloc, heap, root, table, found)?;
-    match judge(alloc, heap, nodes.as_slice())? {
+    table.holds();
+    let nodes = nodes_found(alloc, value, table, found)?;
+    match judge(alloc, value.heap, nodes.as_slice())? {
         Judgement::Sound => Ok(Some(TreeVerdict::Sound(nodes.len() as u64))),
         Judgement::Faulty(kind, i) => {
-            if is_marked(found, 0) && is_object(root, nodes[i]) {
+            if is_marked(found, 0) && is_object(value.root, nodes[i]) {
                 return Ok(Some(TreeVerdict::Faulty(kind, Path::new(alloc))));
             }
             Ok(None)
@@ -97,20 +90,19 @@ fn is_object(v: Val, o: usize) -> bool
 /// The verdict by the types of sets and maps.
 fn verdict_by(
     alloc: Global,
-    heap: &Heap,
-    root: Val,
+    value: &Rooted<'_>,
     table: &TypeTable,
     found: &[bool],
 ) -> Result<TreeVerdict, Memory>
-    requires value { IsValue (length heap.now) root }
     requires table { IsTreeTable table.now }
-    requires has { HasType (table_shapes (table_of table.now)) heap.now root 0 }
+    requires has { HasType (table_shapes (table_of table.now)) value.now.heap.now value.now.root 0 }
     requires found { AreMarked table.now found.now }
-    ensures { IfOk result (IsTableVerdict table.now heap.now root) }
+    ensures { IfOk result (IsTableVerdict table.now value.now.heap.now value.now.root) }
 {
-    let all = met(alloc, heap, root, table)?;
+    table.holds();
+    let all = met(alloc, value.heap, value.root, table)?;
     let nodes = nodes_among(alloc, &all, found)?;
-    verdict_among(alloc, heap, &all, &nodes)
+    verdict_among(alloc, value.heap, &all, &nodes)
 }
 
 /// The verdict on nodes among what is met.

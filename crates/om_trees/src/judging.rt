@@ -9,7 +9,7 @@ use crate::levels::{by_height, settle_all};
 use crate::node::{TreeKind, is_miscounted, is_unbalanced};
 use crate::span::Settled;
 use crate::sweep::sweep;
-use om_heap::Heap;
+use om_heap::{Heap, Placed};
 use om_model::Memory;
 use std::alloc::Global;
 
@@ -56,7 +56,10 @@ fn first_miscounted(heap: &Heap, nodes: &[usize]) -> Option<usize>
     ensures { IsFirst (IsMiscounted heap.now) nodes.now result }
 {
     for (i, o) in nodes.iter().enumerate() {
-        if is_miscounted(heap, *o) {
+        if is_miscounted(&Placed {
+            heap,
+            object: *o as u64,
+        }) {
             return Some(i);
         }
     }
@@ -69,7 +72,10 @@ fn first_unbalanced(heap: &Heap, nodes: &[usize]) -> Option<usize>
     ensures { IsFirst (IsUnbalanced heap.now) nodes.now result }
 {
     for (i, o) in nodes.iter().enumerate() {
-        if is_unbalanced(heap, *o) {
+        if is_unbalanced(&Placed {
+            heap,
+            object: *o as u64,
+        }) {
             return Some(i);
         }
     }

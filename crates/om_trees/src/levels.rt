@@ -8,7 +8,7 @@ ghost use Rattle.om_trees.specs.Span.{IsSettled};
 
 use crate::node::node_at;
 use crate::span::{Settled, Span, settle};
-use om_heap::Heap;
+use om_heap::{Heap, Placed};
 use om_model::Memory;
 use std::alloc::Global;
 
@@ -20,19 +20,26 @@ pub fn by_height(alloc: Global, heap: &Heap, nodes: &[usize]) -> Result<Vec<Vec<
 {
     let mut levels = Vec::new(alloc);
     for o in nodes {
-        put(alloc, &mut levels, level_of(heap, *o), *o)?;
+        put(
+            alloc,
+            &mut levels,
+            level_of(&Placed {
+                heap,
+                object: *o as u64,
+            }),
+            *o,
+        )?;
     }
     Ok(levels)
 }
 
 /// The height of a node, which is not negative.
-fn level_of(heap: &Heap, o: usize) -> usize
-    requires inside { o < length heap.now }
-    requires level { HasLevel heap.now o }
-    ensures level { (parts.node_at heap.now o).height ≡ pos result }
+fn level_of(node: &Placed<'_>) -> usize
+    requires { HasLevel node.now.heap.now node.now.object }
+    ensures level { (parts.node_at node.now.heap.now node.now.object).height ≡ pos result }
     ensures small { result < 2 ^ 62 }
 {
-    node_at(heap, o).height.unsigned_abs() as usize
+    node_at(node).height.unsigned_abs() as usize
 }
 
 /// Puts a node into a level.

@@ -9,7 +9,7 @@ ghost use Rattle.om_trees.specs.Parts.{node_of};
 ghost use Rattle.om_trees.specs.Valid.{IsValid};
 ghost use Rattle.om_trees.specs.TreeFault.{IsMiscounted, IsUnbalanced};
 
-use om_heap::{Heap, Kind};
+use om_heap::{Heap, Kind, Placed, Rooted};
 use om_model::value::Val;
 
 /// The parts of a node: two trees, the element between them, and the height that it states.
@@ -34,14 +34,13 @@ pub enum TreeKind {
 
 /// The node that an object is.
 #[inline(always)]
-pub fn node_at(heap: &Heap, o: usize) -> Node
-    requires { o < length heap.now }
-    ensures node { result ≡ parts.node_at heap.now o }
-    ensures valid { IsValid (length heap.now) result }
+pub fn node_at(placed: &Placed<'_>) -> Node
+    ensures node { result ≡ parts.node_at placed.now.heap.now placed.now.object }
+    ensures valid { IsValid (length placed.now.heap.now) result }
 {
-    match heap.kind(o as u64) {
-        Kind::Block(_, 4) => with_right_at(heap, o as u64, 2),
-        Kind::Block(_, 5) => with_right_at(heap, o as u64, 3),
+    match placed.heap.kind(placed.object) {
+        Kind::Block(_, 4) => with_right_at(placed, 2),
+        Kind::Block(_, 5) => with_right_at(placed, 3),
         _ => Node {
             left: Val::Int(0),
             element: Val::Int(0),
@@ -53,88 +52,89 @@ pub fn node_at(heap: &Heap, o: usize) -> Node
 
 /// The node of a block whose right part is in this field, and the height in the next one.
 #[inline(always)]
-fn with_right_at(heap: &Heap, o: u64, right: u64) -> Node
-    requires object { o < length heap.now }
+fn with_right_at(block: &Placed<'_>, right: u64) -> Node
     requires place { (right ≡ 2) ⊎ (right ≡ 3) }
-    requires last { right + 2 ≡ length (fields_of (object_at heap.now o)) }
-    ensures node { result ≡ node_of (fields_of (object_at heap.now o)) }
-    ensures valid { IsValid (length heap.now) result }
+    requires last { right + 2
+        ≡ length (fields_of (object_at block.now.heap.now block.now.object)) }
+    ensures node { result ≡ node_of (fields_of (object_at block.now.heap.now block.now.object)) }
+    ensures valid { IsValid (length block.now.heap.now) result }
 {
-    let words = heap.fields(o);
+    let words = block.heap.fields(block.object);
     Node {
-        left: value_at(heap, o, words, 0),
-        element: value_at(heap, o, words, 1),
-        right: value_at(heap, o, words, right as usize),
-        height: number_in(value_at(heap, o, words, right as usize + 1)),
+        left: value_at(block, words, 0),
+        element: value_at(block, words, 1),
+        right: value_at(block, words, right as usize),
+        height: number_in(value_at(block, words, right as usize + 1)),
     }
 }
 
 /// The element of the node that an object is.
 #[inline(always)]
-pub fn element_at(heap: &Heap, o: usize) -> Val
-    requires { o < length heap.now }
-    ensures element { result ≡ (parts.node_at heap.now o).element }
-    ensures valid { IsValue (length heap.now) result }
+pub fn element_at(placed: &Placed<'_>) -> Val
+    ensures element { result ≡ (parts.node_at placed.now.heap.now placed.now.object).element }
+    ensures valid { IsValue (length placed.now.heap.now) result }
 {
-    match heap.kind(o as u64) {
-        Kind::Block(_, 4) => element_in(heap, o as u64, 2),
-        Kind::Block(_, 5) => element_in(heap, o as u64, 3),
+    match placed.heap.kind(placed.object) {
+        Kind::Block(_, 4) => element_in(placed, 2),
+        Kind::Block(_, 5) => element_in(placed, 3),
         _ => Val::Int(0),
     }
 }
 
 /// The element of a block whose right part is in this field, and the height in the next one.
 #[inline(always)]
-fn element_in(heap: &Heap, o: u64, _right: u64) -> Val
-    requires object { o < length heap.now }
+fn element_in(block: &Placed<'_>, _right: u64) -> Val
     requires place { (_right ≡ 2) ⊎ (_right ≡ 3) }
-    requires last { _right + 2 ≡ length (fields_of (object_at heap.now o)) }
-    ensures element { result ≡ (node_of (fields_of (object_at heap.now o))).element }
-    ensures valid { IsValue (length heap.now) result }
+    requires last { _right + 2
+        ≡ length (fields_of (object_at block.now.heap.now block.now.object)) }
+    ensures element { result
+        ≡ (node_of (fields_of (object_at block.now.heap.now block.now.object))).element }
+    ensures valid { IsValue (length block.now.heap.now) result }
 {
-    let words = heap.fields(o);
-    value_at(heap, o, words, 1)
+    let words = block.heap.fields(block.object);
+    value_at(block, words, 1)
 }
 
 /// The value that the node that an object is has for its height.
 #[inline(always)]
-fn height_at(heap: &Heap, o: usize) -> Val
-    requires { o < length heap.now }
-    ensures height { parts.number_in result ≡ (parts.node_at heap.now o).height }
-    ensures valid { IsValue (length heap.now) result }
+fn height_at(placed: &Placed<'_>) -> Val
+    ensures height { parts.number_in result
+        ≡ (parts.node_at placed.now.heap.now placed.now.object).height }
+    ensures valid { IsValue (length placed.now.heap.now) result }
 {
-    match heap.kind(o as u64) {
-        Kind::Block(_, 4) => height_in(heap, o as u64, 2),
-        Kind::Block(_, 5) => height_in(heap, o as u64, 3),
+    match placed.heap.kind(placed.object) {
+        Kind::Block(_, 4) => height_in(placed, 2),
+        Kind::Block(_, 5) => height_in(placed, 3),
         _ => Val::Int(0),
     }
 }
 
 /// The same of a block whose right part is in this field, and the height in the next one.
 #[inline(always)]
-fn height_in(heap: &Heap, o: u64, right: u64) -> Val
-    requires object { o < length heap.now }
+fn height_in(block: &Placed<'_>, right: u64) -> Val
     requires place { (right ≡ 2) ⊎ (right ≡ 3) }
-    requires last { right + 2 ≡ length (fields_of (object_at heap.now o)) }
-    ensures height { parts.number_in result ≡ (node_of (fields_of (object_at heap.now o))).height }
-    ensures valid { IsValue (length heap.now) result }
+    requires last { right + 2
+        ≡ length (fields_of (object_at block.now.heap.now block.now.object)) }
+    ensures height { parts.number_in result
+        ≡ (node_of (fields_of (object_at block.now.heap.now block.now.object))).height }
+    ensures valid { IsValue (length block.now.heap.now) result }
 {
-    let words = heap.fields(o);
-    value_at(heap, o, words, right as usize + 1)
+    let words = block.heap.fields(block.object);
+    value_at(block, words, right as usize + 1)
 }
 
 /// Field i of a block whose fields have these words.
 #[inline(always)]
-fn value_at(heap: &Heap, o: u64, words: &[u64], i: usize) -> Val
-    requires object { o < length heap.now }
-    requires field { i < length (fields_of (object_at heap.now o)) }
-    requires words { words.now ≡ map (word_of heap.now) (fields_of (object_at heap.now o)) }
-    requires valid { All (IsFieldWord heap.now) words.now }
-    ensures field { result ≡ field_at heap.now o i }
-    ensures valid { IsValue (length heap.now) result }
+fn value_at(block: &Placed<'_>, words: &[u64], i: usize) -> Val
+    requires field { i < length (fields_of (object_at block.now.heap.now block.now.object)) }
+    requires words { words.now ≡ map (word_of block.now.heap.now)
+        (fields_of (object_at block.now.heap.now block.now.object)) }
+    requires valid { All (IsFieldWord block.now.heap.now) words.now }
+    ensures field { result ≡ field_at block.now.heap.now block.now.object i }
+    ensures valid { IsValue (length block.now.heap.now) result }
 {
-    let _count = heap.count();
-    heap.value_of(words[i])
+    let _count = block.heap.count();
+    block.heap.value_of(words[i])
 }
 
 /// The number that a value is, and 0 where it is none.
@@ -149,37 +149,49 @@ pub fn number_in(v: Val) -> i64
 
 /// The height of a value.
 #[inline(always)]
-pub fn height_of(heap: &Heap, v: Val) -> i64
-    requires { IsValue (length heap.now) v }
-    ensures height { result ≡ parts.height_of heap.now v }
+pub fn height_of(value: &Rooted<'_>) -> i64
+    ensures height { result ≡ parts.height_of value.now.heap.now value.now.root }
     ensures small { IsInteger result }
 {
-    match v {
-        Val::Ref(o) => number_in(height_at(heap, o as usize)),
+    let heap = value.heap;
+    match value.root {
+        Val::Ref(object) => number_in(height_at(&Placed { heap, object })),
         _ => 0,
     }
 }
 
 /// Whether a node's height is not one more than that of its higher part.
-pub fn is_miscounted(heap: &Heap, o: usize) -> bool
-    requires { o < length heap.now }
-    ensures { IsTrue result ↔ IsMiscounted heap.now o }
+pub fn is_miscounted(placed: &Placed<'_>) -> bool
+    ensures { IsTrue result ↔ IsMiscounted placed.now.heap.now placed.now.object }
 {
-    let node = node_at(heap, o);
-    let left = height_of(heap, node.left);
-    let right = height_of(heap, node.right);
-    is_count_wrong(heap, o, node, left, right)
+    let heap = placed.heap;
+    let node = node_at(placed);
+    let left = height_of(&Rooted {
+        heap,
+        root: node.left,
+    });
+    let right = height_of(&Rooted {
+        heap,
+        root: node.right,
+    });
+    is_count_wrong(heap, placed.object as usize, node, left, right)
 }
 
 /// Whether the heights of a node's parts differ by more than two.
-pub fn is_unbalanced(heap: &Heap, o: usize) -> bool
-    requires { o < length heap.now }
-    ensures { IsTrue result ↔ IsUnbalanced heap.now o }
+pub fn is_unbalanced(placed: &Placed<'_>) -> bool
+    ensures { IsTrue result ↔ IsUnbalanced placed.now.heap.now placed.now.object }
 {
-    let node = node_at(heap, o);
-    let left = height_of(heap, node.left);
-    let right = height_of(heap, node.right);
-    is_lopsided(heap, o, node, left, right)
+    let heap = placed.heap;
+    let node = node_at(placed);
+    let left = height_of(&Rooted {
+        heap,
+        root: node.left,
+    });
+    let right = height_of(&Rooted {
+        heap,
+        root: node.right,
+    });
+    is_lopsided(heap, placed.object as usize, node, left, right)
 }
 
 /// Whether the height of a node is not one more than the greater of these, which its parts have.

@@ -4,32 +4,70 @@ ghost use Rattle.std.specs.Prelude.{◌≡◌, ◌<◌, ◌↔◌, List, length,
 ghost use Rattle.om_model.specs.declared.value.Obj.{Obj};
 ghost use Rattle.om_model.specs.Graph.{IsValue};
 ghost use Rattle.om_heap.specs.Heap.{object_at, bytes_of};
+ghost use Rattle.om_heap.specs.Lent.{IsValue-prop};
 ghost use Rattle.om_trees.specs.Parts as parts;
-ghost use Rattle.om_trees.specs.Parts.{number, text, key_of, is_key_less, are_before};
+ghost use Rattle.om_trees.specs.Parts.{number, key_of, is_key_less, are_before};
 ghost use Rattle.om_trees.specs.TreeFault.{IsElementLess};
 
 use crate::node::{element_at, number_in};
-use om_heap::{Heap, Kind};
+use om_heap::{Heap, Kind, Placed};
 use om_model::value::Val;
 
-/// Whether the element of a node is less than that of another one.
-pub fn is_element_less(heap: &Heap, o: usize, p: usize) -> bool
-    requires first { o < length heap.now }
-    requires second { p < length heap.now }
-    ensures { IsTrue result ↔ IsElementLess heap.now o p }
-{
-    is_less(heap, element_at(heap, o), element_at(heap, p))
+/// Two objects of a heap.
+#[derive(Clone, Copy)]
+pub struct Objects<'a> {
+    pub heap: &'a Heap,
+    pub first: u64,
+    pub second: u64,
+    pub ghost first_there: { first < length heap.now },
+    pub ghost second_there: { second < length heap.now },
 }
 
-/// Whether a value is less than another one.
-fn is_less(heap: &Heap, v: Val, w: Val) -> bool
-    requires first { IsValue (length heap.now) v }
-    requires second { IsValue (length heap.now) w }
-    ensures { result ≡ parts.is_less heap.now v w }
+/// Two values of a heap.
+#[derive(Clone, Copy)]
+struct Values<'a> {
+    heap: &'a Heap,
+    first: Val,
+    second: Val,
+    ghost first_in: { IsValue (length heap.now) first } by { IsValue-prop (length heap.now) first },
+    ghost second_in: { IsValue (length heap.now) second } by { IsValue-prop (length heap.now) second },
+}
+
+/// Whether the element of the first node is less than that of the second.
+pub fn is_element_less(nodes: &Objects<'_>) -> bool
+    ensures { IsTrue result
+        ↔ IsElementLess nodes.now.heap.now nodes.now.first nodes.now.second }
 {
-    match v {
-        Val::Ref(o) => is_string_less(heap, o, w),
-        _ => is_number_less(number_in(v), w),
+    let heap = nodes.heap;
+    let first = element_at(&Placed {
+        heap,
+        object: nodes.first,
+    });
+    let second = element_at(&Placed {
+        heap,
+        object: nodes.second,
+    });
+    is_less(&Values {
+        heap,
+        first,
+        second,
+    })
+}
+
+/// Whether the first value is less than the second.
+fn is_less(values: &Values<'_>) -> bool
+    ensures { result ≡ parts.is_less values.now.heap.now values.now.first values.now.second }
+{
+    match values.first {
+        Val::Ref(first) => match values.second {
+            Val::Ref(second) => is_before(&Objects {
+                heap: values.heap,
+                first,
+                second,
+            }),
+            _ => false,
+        },
+        _ => is_number_less(number_in(values.first), values.second),
     }
 }
 
@@ -43,30 +81,18 @@ fn is_number_less(z: i64, w: Val) -> bool
     }
 }
 
-/// Whether a string is less than a value.
-fn is_string_less(heap: &Heap, o: u64, w: Val) -> bool
-    requires first { o < length heap.now }
-    requires second { IsValue (length heap.now) w }
-    ensures { result ≡ is_key_less (text (bytes_of (object_at heap.now o))) (key_of heap.now w) }
+/// Whether the bytes of the first string come before those of the second.
+fn is_before(strings: &Objects<'_>) -> bool
+    ensures { result ≡ are_before (bytes_of (object_at strings.now.heap.now strings.now.first))
+        (bytes_of (object_at strings.now.heap.now strings.now.second)) }
 {
-    match w {
-        Val::Ref(p) => is_before(heap, o, p),
-        _ => false,
-    }
-}
-
-/// Whether the bytes of a string come before those of another one.
-fn is_before(heap: &Heap, o: u64, p: u64) -> bool
-    requires first { o < length heap.now }
-    requires second { p < length heap.now }
-    ensures { result
-        ≡ are_before (bytes_of (object_at heap.now o)) (bytes_of (object_at heap.now p)) }
-{
+    let heap = strings.heap;
+    let (o, p) = (strings.first, strings.second);
     if o == p {
         return false;
     }
-    let first = len_of(heap, o);
-    let second = len_of(heap, p);
+    let first = len_of(&Placed { heap, object: o });
+    let second = len_of(&Placed { heap, object: p });
     for i in 0..first.min(second) {
         let a = heap.byte(o, i);
         let b = heap.byte(p, i);
@@ -78,11 +104,10 @@ fn is_before(heap: &Heap, o: u64, p: u64) -> bool
 }
 
 /// How many bytes a string has; no other object has any.
-fn len_of(heap: &Heap, o: u64) -> u64
-    requires { o < length heap.now }
-    ensures { result ≡ length (bytes_of (object_at heap.now o)) }
+fn len_of(placed: &Placed<'_>) -> u64
+    ensures { result ≡ length (bytes_of (object_at placed.now.heap.now placed.now.object)) }
 {
-    match heap.kind(o) {
+    match placed.heap.kind(placed.object) {
         Kind::Bytes(len) => len,
         _ => 0,
     }

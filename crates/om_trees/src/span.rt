@@ -1,6 +1,6 @@
 //! The least and the greatest elements at and below nodes.
 
-ghost use Rattle.std.specs.Prelude.{ℕ, ◌≡◌, ◌<◌, ◌↔◌, length, IsTrue, Contains, vec_len};
+ghost use Rattle.std.specs.Prelude.{ℕ, ◌≡◌, ◌↔◌, length, IsTrue, Contains, vec_len};
 ghost use Rattle.om_model.specs.declared.value.Val.TheVariants as vals;
 ghost use Rattle.om_trees.specs.Parts as parts;
 ghost use Rattle.om_trees.specs.Parts.{IsAtOrBelow};
@@ -11,8 +11,8 @@ ghost use Rattle.om_trees.specs.Span.{IsLeftOver, IsRightUnder, IsSettledAs, IsS
 ghost use Rattle.om_trees.specs.Span.{IsPartSettled, IsReady};
 
 use crate::node::{Node, node_at};
-use crate::order::is_element_less;
-use om_heap::Heap;
+use crate::order::{Objects, is_element_less};
+use om_heap::{Heap, Placed};
 use om_model::value::Val;
 
 /// Of some nodes the one with the least element and the one with the greatest.
@@ -37,7 +37,12 @@ fn joined(heap: &Heap, first: Span, second: Span) -> (Span, bool)
     ensures greatest { IsGreater heap.now first.greatest second.greatest result.0.greatest }
     ensures over { IsTrue result.1 ↔ (¬ IsElementLess heap.now first.greatest second.least) }
 {
-    if is_element_less(heap, first.greatest, second.least) {
+    let met = Objects {
+        heap,
+        first: first.greatest as u64,
+        second: second.least as u64,
+    };
+    if is_element_less(&met) {
         (apart(first, second), false)
     } else {
         (across(heap, first, second), true)
@@ -62,61 +67,83 @@ fn across(heap: &Heap, first: Span, second: Span) -> Span
     ensures least { IsLesser heap.now first.least second.least result.least }
     ensures greatest { IsGreater heap.now first.greatest second.greatest result.greatest }
 {
+    let least = Objects {
+        heap,
+        first: first.least as u64,
+        second: second.least as u64,
+    };
+    let greatest = Objects {
+        heap,
+        first: first.greatest as u64,
+        second: second.greatest as u64,
+    };
     Span {
-        least: lesser(heap, first.least, second.least),
-        greatest: greater(heap, first.greatest, second.greatest),
+        least: lesser(&least),
+        greatest: greater(&greatest),
     }
 }
 
 /// The one of two nodes whose element is not greater.
-fn lesser(heap: &Heap, o: usize, p: usize) -> usize
-    requires first { o < length heap.now }
-    requires second { p < length heap.now }
-    ensures { IsLesser heap.now o p result }
+fn lesser(nodes: &Objects<'_>) -> usize
+    ensures { IsLesser nodes.now.heap.now nodes.now.first nodes.now.second result }
 {
-    if is_element_less(heap, p, o) { p } else { o }
+    let turned = Objects {
+        heap: nodes.heap,
+        first: nodes.second,
+        second: nodes.first,
+    };
+    if is_element_less(&turned) {
+        nodes.second as usize
+    } else {
+        nodes.first as usize
+    }
 }
 
 /// The one of two nodes whose element is not less.
-fn greater(heap: &Heap, o: usize, p: usize) -> usize
-    requires first { o < length heap.now }
-    requires second { p < length heap.now }
-    ensures { IsGreater heap.now o p result }
+fn greater(nodes: &Objects<'_>) -> usize
+    ensures { IsGreater nodes.now.heap.now nodes.now.first nodes.now.second result }
 {
-    if is_element_less(heap, o, p) { p } else { o }
+    if is_element_less(nodes) {
+        nodes.second as usize
+    } else {
+        nodes.first as usize
+    }
 }
 
 /// The span of a node and what is on its left, and whether something there is not less.
-fn with_left(heap: &Heap, all: &[Settled], o: usize, node: Node) -> (Span, bool)
-    requires inside { o < length heap.now }
-    requires node { node ≡ parts.node_at heap.now o }
-    requires valid { IsValid (length heap.now) node }
-    requires left { IsPartSettled heap.now all.now (parts.node_at heap.now o).left }
-    ensures span { IsSpan heap.now (IsOnLeftOrAt heap.now o) result.0 }
-    ensures over { IsTrue result.1 ↔ IsLeftOver heap.now o }
+fn with_left(placed: &Placed<'_>, all: &[Settled], node: Node) -> (Span, bool)
+    requires node { node ≡ parts.node_at placed.now.heap.now placed.now.object }
+    requires valid { IsValid (length placed.now.heap.now) node }
+    requires left { IsPartSettled placed.now.heap.now all.now
+        (parts.node_at placed.now.heap.now placed.now.object).left }
+    ensures span { IsSpan placed.now.heap.now
+        (IsOnLeftOrAt placed.now.heap.now placed.now.object) result.0 }
+    ensures over { IsTrue result.1 ↔ IsLeftOver placed.now.heap.now placed.now.object }
 {
     let own = Span {
-        least: o,
-        greatest: o,
+        least: placed.object as usize,
+        greatest: placed.object as usize,
     };
     match node.left {
-        Val::Ref(p) => joined(heap, all[p as usize].span, own),
+        Val::Ref(p) => joined(placed.heap, all[p as usize].span, own),
         _ => (own, false),
     }
 }
 
 /// The span of a node and all below it, and whether something on the right is not greater.
-fn with_right(heap: &Heap, all: &[Settled], o: usize, node: Node, span: Span) -> (Span, bool)
-    requires inside { o < length heap.now }
-    requires node { node ≡ parts.node_at heap.now o }
-    requires valid { IsValid (length heap.now) node }
-    requires right { IsPartSettled heap.now all.now (parts.node_at heap.now o).right }
-    requires span { IsSpan heap.now (IsOnLeftOrAt heap.now o) span }
-    ensures span { IsSpan heap.now (IsAtOrBelow heap.now (vals.Ref o)) result.0 }
-    ensures under { IsTrue result.1 ↔ IsRightUnder heap.now o }
+fn with_right(placed: &Placed<'_>, all: &[Settled], node: Node, span: Span) -> (Span, bool)
+    requires node { node ≡ parts.node_at placed.now.heap.now placed.now.object }
+    requires valid { IsValid (length placed.now.heap.now) node }
+    requires right { IsPartSettled placed.now.heap.now all.now
+        (parts.node_at placed.now.heap.now placed.now.object).right }
+    requires span { IsSpan placed.now.heap.now
+        (IsOnLeftOrAt placed.now.heap.now placed.now.object) span }
+    ensures span { IsSpan placed.now.heap.now
+        (IsAtOrBelow placed.now.heap.now (vals.Ref placed.now.object)) result.0 }
+    ensures under { IsTrue result.1 ↔ IsRightUnder placed.now.heap.now placed.now.object }
 {
     match node.right {
-        Val::Ref(p) => joined(heap, span, all[p as usize].span),
+        Val::Ref(p) => joined(placed.heap, span, all[p as usize].span),
         _ => (span, false),
     }
 }
@@ -129,8 +156,12 @@ pub fn settle_node(heap: &Heap, all: &[Settled], o: usize, node: Node) -> Settle
     requires valid { IsValid (length heap.now) node }
     ensures { IsSettledAs heap.now o result }
 {
-    let left = with_left(heap, all, o, node);
-    let whole = with_right(heap, all, o, node, left.0);
+    let placed = Placed {
+        heap,
+        object: o as u64,
+    };
+    let left = with_left(&placed, all, node);
+    let whole = with_right(&placed, all, node, left.0);
     Settled {
         span: whole.0,
         disordered: left.1 || whole.1,
@@ -147,7 +178,10 @@ pub fn settle(heap: &Heap, nodes: &[usize], all: &mut Vec<Settled>)
         → IsSettled heap.now all.new.items o }
 {
     for o in nodes {
-        let node = node_at(heap, *o);
+        let node = node_at(&Placed {
+            heap,
+            object: *o as u64,
+        });
         let known = settle_node(heap, all.as_slice(), *o, node);
         all[*o] = known;
     }

@@ -1,6 +1,6 @@
 //! What is wrong with nodes, each of which comes before its parts.
 
-ghost use Rattle.std.specs.Prelude.{◌≡◌, ◌<◌, ◌↔◌, List, length, Some, IfOk, IfSome, IsTrue};
+ghost use Rattle.std.specs.Prelude.{◌≡◌, ◌↔◌, List, length, Some, IfOk, IfSome, IsTrue};
 ghost use Rattle.std.specs.Prelude.{vec_len};
 ghost use Rattle.std.specs.Bool.{OnTrue};
 ghost use Rattle.om_model.specs.declared.value.Obj.{Obj};
@@ -17,7 +17,7 @@ ghost use Rattle.om_trees.specs.Valid.{IsValid};
 use crate::judging::Judgement;
 use crate::node::{Node, TreeKind, height_of, is_count_wrong, is_lopsided, node_at};
 use crate::span::{Settled, Span, settle_node};
-use om_heap::Heap;
+use om_heap::{Heap, Placed, Rooted};
 use om_model::Memory;
 use om_model::value::Val;
 use std::alloc::Global;
@@ -40,7 +40,13 @@ pub fn sweep(alloc: Global, heap: &Heap, nodes: &[usize]) -> Result<Option<Judge
     for k in 0..nodes.len() {
         let i = nodes.len() - 1 - k;
         let o = nodes[i];
-        match sweep_node(heap, &mut all, o) {
+        match sweep_node(
+            &Placed {
+                heap,
+                object: o as u64,
+            },
+            &mut all,
+        ) {
             Some(fault) => gravest = graver(gravest, fault, i),
             None => return Ok(None),
         }
@@ -50,21 +56,21 @@ pub fn sweep(alloc: Global, heap: &Heap, nodes: &[usize]) -> Result<Option<Judge
 
 /// Settles a node whose parts are settled, and answers what is wrong with it.
 #[inline(always)]
-fn sweep_node(heap: &Heap, all: &mut Vec<Settled>, o: usize) -> Option<Option<TreeKind>>
-    requires inside { o < length heap.now }
-    requires many { vec_len all.old ≡ length heap.now }
-    requires known { AreKnown heap.now all.old.items }
-    ensures many { vec_len all.new ≡ length heap.now }
-    ensures known { AreKnown heap.now all.new.items }
-    ensures fault { IfSome result (IsGravest heap.now o) }
+fn sweep_node(placed: &Placed<'_>, all: &mut Vec<Settled>) -> Option<Option<TreeKind>>
+    requires many { vec_len all.old ≡ length placed.now.heap.now }
+    requires known { AreKnown placed.now.heap.now all.old.items }
+    ensures many { vec_len all.new ≡ length placed.now.heap.now }
+    ensures known { AreKnown placed.now.heap.now all.new.items }
+    ensures fault { IfSome result (IsGravest placed.now.heap.now placed.now.object) }
 {
-    let node = node_at(heap, o);
+    let node = node_at(placed);
     if !is_part_known(all.as_slice(), node.left) || !is_part_known(all.as_slice(), node.right) {
         return None;
     }
-    let settled = settle_node(heap, all.as_slice(), o, node);
+    let o = placed.object as usize;
+    let settled = settle_node(placed.heap, all.as_slice(), o, node);
     all[o] = settled;
-    Some(fault_of(heap, o, node, settled.disordered))
+    Some(fault_of(placed.heap, o, node, settled.disordered))
 }
 
 /// Whether a part of a node is settled.
@@ -88,8 +94,14 @@ fn fault_of(heap: &Heap, o: usize, node: Node, disordered: bool) -> Option<TreeK
     requires disordered { IsTrue disordered ↔ IsDisordered heap.now o }
     ensures { IsGravest heap.now o result }
 {
-    let left = height_of(heap, node.left);
-    let right = height_of(heap, node.right);
+    let left = height_of(&Rooted {
+        heap,
+        root: node.left,
+    });
+    let right = height_of(&Rooted {
+        heap,
+        root: node.right,
+    });
     if is_count_wrong(heap, o, node, left, right) {
         return Some(TreeKind::Height);
     }

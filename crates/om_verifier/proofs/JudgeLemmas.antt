@@ -12,8 +12,7 @@ use Rattle.om_types.specs.Table.{Table, table_shapes}
 use Rattle.om_types.specs.VerdictText.{IsFaultText}
 use Rattle.om_equal.specs.TableLaws.{TablesHaveTheFaults}
 use Rattle.om_table.specs.TableDecides.{TheRootIsFirst, TablesDecide, NeverBoth}
-use Rattle.om_type_table.specs.Made.{types_of, table_of}
-use Rattle.om_type_table.specs.Laws.{MadeAreLawful}
+use Rattle.om_type_table.specs.Made.{types_of, table_of, IsLawful}
 use Rattle.om_fault.specs.Text.{text_at}
 use Rattle.om_fault.specs.Laws.{TextsAreOfTypes}
 use Rattle.om_section.specs.declared.section.Section.{Section}
@@ -28,7 +27,7 @@ use Rattle.om_declared.specs.declared.requested.Prepared.{Prepared}
 use Rattle.om_declared.specs.Language.{TypeOver}
 use Rattle.om_declared.specs.Types.{type_over, IsReady}
 use Rattle.om_declared.proofs.GivenLemmas.{ready_each, ready_some_not}
-use Rattle.om_declared.proofs.VerdictLemmas.{ready_lawful, is_first, made}
+use Rattle.om_declared.proofs.VerdictLemmas.{is_first, made}
 use Rattle.om_verifier.specs.declared.judge.Judged.{Judged}
 use Rattle.om_verifier.specs.declared.judge.Judged.TheVariants.{Line, Uncertified}
 use Rattle.om_verifier.specs.Shown.{why_text, Answers}
@@ -66,21 +65,20 @@ module _ (r : Prepared) (ready : IsReady r) (graph : List Obj) (root : Val) (sec
       → IsFault (table_shapes (table_of r.table)) graph root 0 fault
   stated fault is = stated_fault (table_of r.table) graph root section fault is
 
-  module _ (root_first : TheRootIsFirst) (lawful : MadeAreLawful) where
+  module _ (root_first : TheRootIsFirst) where
     -- `yes`
     pub judged_yes :
-        TablesDecide → (verified : Verified) → verified ≡ Yes
+        IsLawful (table_of r.table) → TablesDecide → (verified : Verified) → verified ≡ Yes
         → IsVerified (table_of r.table) graph root section verified
         → (text : List ℕ) → text ≡ codes "yes\n"
         → Judges (type_over r) section graph root (Line text true)
-    judged_yes decide verified same is text spelled =
+    judged_yes lawful decide verified same is text spelled =
         let yes : IsVerified (table_of r.table) graph root section Yes =
         subst (IsVerified (table_of r.table) graph root section) same is in
         let has = (decide r.decls r.ty (types_of r.table) (table_of r.table)
         (made r ready root_first graph root) graph root 0 r.ty
         (is_first r ready root_first graph root)).0
-        (shown_is_so (table_of r.table) (ready_lawful r ready lawful).lawful graph root section
-        Yes yes) in (
+        (shown_is_so (table_of r.table) lawful.lawful graph root section Yes yes) in (
           codes "yes",
           record {
             accepted = answer_at Yes yes;

@@ -1,7 +1,6 @@
 //! What the section with a number shows of a value.
 
-ghost use Rattle.std.specs.Prelude.{length, IfOk};
-ghost use Rattle.om_model.specs.Graph.{IsValue};
+ghost use Rattle.std.specs.Prelude.{IfOk};
 ghost use Rattle.om_type_table.specs.Made.{table_of};
 ghost use Rattle.om_cert.specs.Verified.{IsVerified};
 ghost use Rattle.om_cert.specs.declared.verified.Verified.TheVariants.{No};
@@ -14,14 +13,12 @@ use om_declared::Requested;
 use om_equal::table::tables_have_the_faults;
 use om_fault::fault_text;
 use om_fault::laws::texts_are_of_types;
-use om_heap::Heap;
+use om_heap::Rooted;
 use om_model::Memory;
 use om_model::list::List;
-use om_model::value::Val;
 use om_section::Section;
 use om_stops::put::put;
 use om_table::{tables_decide, type_or_fault};
-use om_type_table::laws::tables_are_lawful;
 use om_types::fault::Fault;
 use std::alloc::Global;
 
@@ -36,55 +33,51 @@ pub enum Judged {
 /// What the section with the number shows of a value, if there is one.
 pub fn judge(
     alloc: Global,
-    heap: &Heap,
-    root: Val,
+    value: &Rooted<'_>,
     requested: &Requested,
     sections: &[Section],
     number: u64,
 ) -> Result<Judged, Memory>
-    requires value { IsValue (length heap.now) root }
     ensures { IfOk result
-        (JudgesAt (type_over requested.now) sections.now number heap.now root) }
+        (JudgesAt (type_over requested.now) sections.now number value.now.heap.now value.now.root) }
 {
     if number >= sections.len() as u64 {
         let mut reason = Vec::new(alloc);
         put(&mut reason, b"no section")?;
         return Ok(Judged::Uncertified(List::of(reason)));
     }
-    judge_by(alloc, heap, root, requested, &sections[number as usize])
+    judge_by(alloc, value, requested, &sections[number as usize])
 }
 
 /// What a section shows of a value.
 fn judge_by(
     alloc: Global,
-    heap: &Heap,
-    root: Val,
+    value: &Rooted<'_>,
     requested: &Requested,
     section: &Section,
 ) -> Result<Judged, Memory>
-    requires value { IsValue (length heap.now) root }
-    ensures { IfOk result (Judges (type_over requested.now) section.now heap.now root) }
+    ensures { IfOk result (Judges (type_over requested.now) section.now value.now.heap.now
+        value.now.root) }
 {
-    let verified = verify(alloc, heap, root, requested.table(), section)?;
-    told(alloc, heap, root, requested, section, &verified)
+    let verified = verify(alloc, value, requested.table(), section)?;
+    told(alloc, value, requested, section, &verified)
 }
 
 /// What is said of a value by what came of its section.
 fn told(
     alloc: Global,
-    heap: &Heap,
-    root: Val,
+    value: &Rooted<'_>,
     requested: &Requested,
     section: &Section,
     verified: &Verified,
 ) -> Result<Judged, Memory>
-    requires value { IsValue (length heap.now) root }
-    requires verified { IsVerified (table_of requested.now.table) heap.now root section.now
-        verified.now }
-    ensures { IfOk result (Judges (type_over requested.now) section.now heap.now root) }
+    requires { IsVerified (table_of requested.now.table) value.now.heap.now value.now.root
+        section.now verified.now }
+    ensures { IfOk result (Judges (type_over requested.now) section.now value.now.heap.now
+        value.now.root) }
 {
-    tables_are_lawful();
     requested.holds();
+    requested.table().holds();
     tables_decide();
     match verified {
         Verified::Yes => {
@@ -92,7 +85,7 @@ fn told(
             put(&mut text, b"yes\n")?;
             Ok(Judged::Line(List::of(text), true))
         }
-        Verified::No(fault) => told_fault(alloc, heap, root, requested, section, fault),
+        Verified::No(fault) => told_fault(alloc, value, requested, section, fault),
         Verified::Rejected(why) => {
             let mut text = Vec::new(alloc);
             put(&mut text, b"certificate ")?;
@@ -105,24 +98,22 @@ fn told(
 /// What is said of a value whose section states a fault.
 fn told_fault(
     alloc: Global,
-    heap: &Heap,
-    root: Val,
+    value: &Rooted<'_>,
     requested: &Requested,
     section: &Section,
     fault: &Fault,
 ) -> Result<Judged, Memory>
-    requires value { IsValue (length heap.now) root }
-    requires verified { IsVerified (table_of requested.now.table) heap.now root section.now
-        (No fault.now) }
-    ensures { IfOk result (Judges (type_over requested.now) section.now heap.now root) }
+    requires { IsVerified (table_of requested.now.table) value.now.heap.now value.now.root
+        section.now (No fault.now) }
+    ensures { IfOk result (Judges (type_over requested.now) section.now value.now.heap.now
+        value.now.root) }
 {
-    tables_are_lawful();
     requested.holds();
     tables_decide();
     tables_have_the_faults();
     texts_are_of_types();
     type_or_fault();
-    let why = fault_text(alloc, heap, root, requested.table(), fault)?;
+    let why = fault_text(alloc, value, requested.table(), fault)?;
     let mut text = Vec::new(alloc);
     put(&mut text, b"no ")?;
     put(&mut text, why.as_slice())?;

@@ -1,7 +1,6 @@
 //! The values of the input, one by one, as their bytes come, each verified by its section.
 
 ghost use Rattle.std.specs.Prelude.{◌≡◌, ◌<◌, ◌+◌, ◌^◌, ℕ, List, [], length, true};
-ghost use Rattle.om_model.specs.Graph.{IsValue};
 ghost use Rattle.om_outcome.specs.Outcome.{Said};
 ghost use Rattle.om_edge.specs.State.{change};
 ghost use Rattle.om_declared.specs.Types.{type_over};
@@ -11,8 +10,7 @@ ghost use Rattle.om_verifier.specs.Reading.{HasRead, IsValueRead, PutsNext, cert
 use crate::judge::{Judged, judge};
 use om_declared::Requested;
 use om_edge::{Sink, put_all};
-use om_heap::Heap;
-use om_model::value::Val;
+use om_heap::Rooted;
 use om_outcome::stop::Stop;
 use om_read::{Reader, Truncated};
 use om_section::Section;
@@ -26,18 +24,16 @@ use std::mem;
 /// with it; a value that is not certified stops the run.
 fn put_shown<K: Sink>(
     alloc: Global,
-    heap: &Heap,
-    root: Val,
+    value: &Rooted<'_>,
     requested: &Requested,
     sections: &[Section],
     number: u64,
     out: &mut K,
 ) -> Result<bool, Halt>
-    requires value { IsValue (length heap.now) root }
-    ensures { PutsShown (type_over requested.now) sections.now number heap.now root
-        (change (K.state out.old) (K.state out.new)) result }
+    ensures { PutsShown (type_over requested.now) sections.now number value.now.heap.now
+        value.now.root (change (K.state out.old) (K.state out.new)) result }
 {
-    match judge(alloc, heap, root, requested, sections, number)? {
+    match judge(alloc, value, requested, sections, number)? {
         Judged::Line(text, well) => {
             put_all(out, text.as_slice())?;
             Ok(well)
@@ -101,15 +97,11 @@ impl<'a> Certified<'a> {
     {
         let reader = mem::replace(&mut self.reader, Reader::new(alloc, self.limit));
         let value = reader.finish();
-        let well = put_shown(
-            alloc,
-            &value.heap,
-            value.root,
-            self.requested,
-            self.sections,
-            self.count,
-            out,
-        )?;
+        let lent = Rooted {
+            heap: &value.heap,
+            root: value.root,
+        };
+        let well = put_shown(alloc, &lent, self.requested, self.sections, self.count, out)?;
         self.reader = Reader::over(alloc, self.limit, value.heap);
         self.well &= well;
         self.count += 1;

@@ -1,7 +1,7 @@
 //! Of the lines of a graph as it is: that they are put to a sink, which the program does by itself.
 
 use om_edge::MemSink;
-use om_heap::Heap;
+use om_heap::{Heap, Rooted};
 use om_model::value::Val;
 use om_print::dump;
 use std::test::Fail;
@@ -14,7 +14,11 @@ fn lines_are_put(rt: HostRuntime) -> Result<(), Fail> {
     let block = heap.add_block(3, 2)?;
     assert!(rt; block < heap.count());
     let mut sink = MemSink::new(alloc, 100, Vec::new(alloc))?;
-    dump(alloc, &heap, Val::Ref(block), &mut sink)?;
+    let value = Rooted {
+        heap: &heap,
+        root: Val::Ref(block),
+    };
+    dump(alloc, &value, &mut sink)?;
     assert!(rt; sink.written() == b"root #0\n#0 block 3: 0 0\n".as_slice());
     Ok(())
 }

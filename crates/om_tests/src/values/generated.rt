@@ -3,6 +3,7 @@
 ghost use Rattle.std.specs.Prelude.{◌<◌, ◌≤◌, ◌^◌};
 
 use om_generate::{declarations, generate, generated_line};
+use om_heap::Rooted;
 use om_model::Memory;
 use std::alloc::Global;
 use std::test::Fail;
@@ -13,7 +14,11 @@ fn is_line(alloc: Global, number: u64, count: u64, wanted: &[u8]) -> Result<bool
     requires count { count ≤ 1000000 }
 {
     let made = generate(alloc, number, count)?;
-    let line = generated_line(alloc, &made.heap, made.root, b"yes")?;
+    let value = Rooted {
+        heap: &made.heap,
+        root: made.root,
+    };
+    let line = generated_line(alloc, &value, b"yes")?;
     Ok(line.as_slice() == wanted)
 }
 

@@ -130,53 +130,67 @@ fn one_look_types_a_value(rt: HostRuntime) -> Result<(), Fail> {
     Ok(())
 }
 
-// How many bytes are kept of the first of two pieces, and how many of the second end the value,
-// where it has the type and neither piece has all of it.
+// How many bytes are kept of the first of two pieces, how many of the second end the value, and
+// whether it has the type or one misfit, where neither piece has all of it.
 fn looked_in_two(
     alloc: Global,
     text: &[u8],
     first: &[u8],
     second: &[u8],
-) -> Result<Option<(usize, usize)>, Memory> {
+) -> Result<Option<(usize, usize, bool)>, Memory> {
     let Some(table) = table_in(alloc, b"", text)? else {
         return Ok(None);
     };
     let mut glance = Glance::new(alloc);
-    let Answer::More = glance.feed(&table, 1000, first)? else {
+    let Answer::More = glance.feed(alloc, &table, 1000, first)? else {
         return Ok(None);
     };
     let kept = glance.kept().len();
-    match glance.feed(&table, 1000, second)? {
-        Answer::Typed(n) => Ok(Some((kept, n))),
+    match glance.feed(alloc, &table, 1000, second)? {
+        Answer::Typed(n) => Ok(Some((kept, n, true))),
+        Answer::Missed(n) => Ok(Some((kept, n, false))),
         Answer::More | Answer::Untold => Ok(None),
     }
 }
 
 // TYPE, two pieces, and what came of them: a string that is cut in its bytes and in its header, a
-// list that is cut between two tokens, and a string at another type.
-static LOOKS_IN_TWO: [(&[u8], &[u8], &[u8], Option<(usize, usize)>); 4] = [
+// list that is cut between two tokens, a string at another type, a list with one in the place of an
+// integer, and one with two.
+static LOOKS_IN_TWO: [(&[u8], &[u8], &[u8], Option<(usize, usize, bool)>); 6] = [
     (
         b"string",
         b"\x84\x95\xa6\xbe\0\0\0\x03\0\0\0\x01\0\0\0\x02\0\0\0\x02\x22a",
         b"b",
-        Some((22, 1)),
+        Some((22, 1, true)),
     ),
     (
         b"string",
         b"\x84\x95\xa6\xbe\0\0\0",
         b"\x03\0\0\0\x01\0\0\0\x02\0\0\0\x02\x22ab",
-        Some((7, 16)),
+        Some((7, 16, true)),
     ),
     (
         b"int list",
         b"\x84\x95\xa6\xbe\0\0\0\x05\0\0\0\x02\0\0\0\x06\0\0\0\x06\xa0\x41",
         b"\xa0\x42\x40",
-        Some((22, 3)),
+        Some((22, 3, true)),
     ),
     (
         b"int",
         b"\x84\x95\xa6\xbe\0\0\0\x03\0\0\0\x01\0\0\0\x02\0\0\0\x02\x22a",
         b"b",
+        Some((22, 1, false)),
+    ),
+    (
+        b"int list",
+        b"\x84\x95\xa6\xbe\0\0\0\x06\0\0\0\x03\0\0\0\x08\0\0\0\x08\xa0\x41",
+        b"\xa0\x21a\x40",
+        Some((22, 4, false)),
+    ),
+    (
+        b"int list",
+        b"\x84\x95\xa6\xbe\0\0\0\x07\0\0\0\x04\0\0\0\x0a\0\0\0\x0a\xa0\x21a",
+        b"\xa0\x21b\x40",
         None,
     ),
 ];

@@ -9,6 +9,7 @@ use om_cert::{Verified, Why, verify};
 use om_certify::section_of;
 use om_check::{AllMet, Steps, Verdict, check, met};
 use om_edit::{EditRefusal, graft};
+use om_heap::Rooted;
 use om_model::Memory;
 use om_model::path::Path;
 use om_path::{PathFault, read_path};
@@ -58,7 +59,11 @@ fn shown_by(
 ) -> Result<Answer, Memory>
     requires value { IsValue (length value.now.heap) value.now.root }
 {
-    let verified = verify(alloc, &value.heap, value.root, table, section)?;
+    let lent = Rooted {
+        heap: &value.heap,
+        root: value.root,
+    };
+    let verified = verify(alloc, &lent, table, section)?;
     Ok(word_of(&verified))
 }
 

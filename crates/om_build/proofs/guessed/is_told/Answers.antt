@@ -2,16 +2,16 @@ use Rattle.std.proofs.Common.{arith}
 use Rattle.om_build.proofs.GuessLemmas.{each_ok, is_right}
 use Rattle.om_build.proofs.guessed.is_told.Goals as goal
 
-pub has_text-requires-clause-typed : goal.has_text-requires-clause-typed
-has_text-requires-clause-typed c = rw c.table.ensures.same c.requires.typed
+pub has_text-requires : goal.has_text-requires
+has_text-requires c = record { typed = rw c.table.ensures.same c.requires.typed }
 
 pub returns : goal.returns
 returns c =
     let shown = rw c.table.ensures.same at c.has_text.ensures in
     each_ok c.has_text.result _ _ (λ same told is.
-    is_right c.args.requested.now c.holds.ensures c.args.line.now c.args.heap.now c.args.root
+    is_right c.args.requested.now c.holds.ensures c.args.line.now c.args.value.now.heap.now c.args.value.now.root
     c.tables_decide.ensures.root c.tables_decide.ensures.decide c.roots_show_alike.ensures
     c.the_same_has_the_same_types.ensures.declared c.the_same_has_the_same_text.ensures.declared
     c.spelled_are_readable.ensures c.texts_are_read_again.ensures c.requires.spelled
     c.count.ensures.heap.is_graph (omega (arith, c.if-count.false, c.count.ensures.count))
-    c.requires.value c.requires.typed (told is)) shown
+    c.args.value.now.value c.requires.typed (told is)) shown

@@ -9,4 +9,4 @@ returns-in_ok-second-in-Clash c =
     let stated : sections.Clash c.in_ok-first-in-Clash.first c.in_ok-second-in-Clash.second ≡ c.args.section.now =
     ap (λ p. sections.Clash p c.in_ok-second-in-Clash.second) c.in_ok-first-in-Clash.ensures
     ∙ (ap (λ p. sections.Clash c.in-Clash.first p) c.in_ok-second-in-Clash.ensures ∙ sym c.in-Clash.is) in
-    subst (λ s. IsVerified (table_of c.args.table.now) c.args.heap.now c.args.root s c.verify_fault-in-Clash.result) stated c.verify_fault-in-Clash.ensures
+    subst (λ s. IsVerified (table_of c.args.table.now) c.args.value.now.heap.now c.args.value.now.root s c.verify_fault-in-Clash.result) stated c.verify_fault-in-Clash.ensures

@@ -4,8 +4,8 @@ use Rattle.om_cert.proofs.judge.verify.Goals as goal
 
 pub returns-clause-shows : goal.returns-clause-shows
 returns-clause-shows c =
-    answers_show (table_of c.args.table.now) c.args.heap.now c.args.root c.args.section.now c.answer_of.result c.holds.ensures.lawful.lawful c.answer_of.ensures
+    answers_show (table_of c.args.table.now) c.args.value.now.heap.now c.args.value.now.root c.args.section.now c.answer_of.result c.holds.ensures.lawful.lawful c.answer_of.ensures
 
 pub returns-clause-one : goal.returns-clause-one
 returns-clause-one c =
-    answers_are_single (table_of c.args.table.now) c.args.heap.now c.args.root c.args.section.now c.answer_of.result c.answer_of.ensures
+    answers_are_single (table_of c.args.table.now) c.args.value.now.heap.now c.args.value.now.root c.args.section.now c.answer_of.result c.answer_of.ensures

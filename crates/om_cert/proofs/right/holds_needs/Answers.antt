@@ -1,11 +1,10 @@
 use Rattle.std.proofs.Common.{subst, ap}
 use Rattle.std.specs.Prelude.{IsSome}
-use Rattle.std.proofs.lemmas.Bool.{OnTrue_at, OnTrue_from}
 use Rattle.om_model.specs.declared.value.Val.TheVariants as vals
 use Rattle.om_type_table.specs.Made.{table_of}
 use Rattle.om_types.specs.Fitting.{fields_of}
 use Rattle.om_types.specs.Table.{node_or_none}
-use Rattle.om_cert.proofs.RightLemmas.{worded_there, right_with_all}
+use Rattle.om_cert.proofs.RightLemmas.{worded_there}
 use Rattle.om_cert.proofs.right.holds_needs.Goals as goal
 
 pub known_needs-requires-clause-object : goal.known_needs-requires-clause-object
@@ -14,14 +13,3 @@ known_needs-requires-clause-object c = (worded_there (table_of c.args.stated.fit
 pub known_needs-requires-clause-fits : goal.known_needs-requires-clause-fits
 known_needs-requires-clause-fits c =
     subst IsSome (ap (λ n. fields_of c.args.stated.heap.now (vals.Ref c.args.own.object) (node_or_none n)) c.requires.shape) c.requires.fits
-
-pub are_backed-requires-clause-object : goal.are_backed-requires-clause-object
-are_backed-requires-clause-object c = (worded_there (table_of c.args.stated.fitting.table.now) c.args.stated.heap.now c.args.stated.pairs.now c.args._i c.args.own c.args.stated.there c.requires.own).0
-
-pub are_backed-requires-clause-ty : goal.are_backed-requires-clause-ty
-are_backed-requires-clause-ty c = (worded_there (table_of c.args.stated.fitting.table.now) c.args.stated.heap.now c.args.stated.pairs.now c.args._i c.args.own c.args.stated.there c.requires.own).1
-
-pub returns : goal.returns
-returns c = OnTrue_from c.are_backed.result _ (λ yes'.
-    right_with_all (table_of c.args.stated.fitting.table.now) c.args.stated.heap.now c.args.stated.pairs.now c.args._i c.args.own.object c.args.own.ty
-    (c.requires.own.at c.requires.in_range) c.requires.fits (λ all. OnTrue_at yes' c.are_backed.ensures all) c.requires.one_type)

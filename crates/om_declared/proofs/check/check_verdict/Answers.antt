@@ -3,5 +3,5 @@ use Rattle.om_declared.proofs.check.check_verdict.Goals as goal
 
 pub returns-in-Yes : goal.returns-in-Yes
 returns-in-Yes c =
-    yes_declared c.args.requested.now c.holds.ensures c.tables_decide.ensures.root c.tables_decide.ensures.decide c.args.heap.now c.args.root c.args.verdict.now
+    yes_declared c.args.requested.now c.holds.ensures c.tables_decide.ensures.root c.tables_decide.ensures.decide c.args.value.now.heap.now c.args.value.now.root c.args.verdict.now
     c.requires.verdict _ c.in-Yes.is

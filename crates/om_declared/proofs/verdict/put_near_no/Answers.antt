@@ -17,12 +17,12 @@ put_near-requires-clause-number c = c.in-Some.ensures.there.node
 pub returns : goal.returns
 returns c =
     let r = c.args.requested.now in
-    let graph = c.args.heap.now in
+    let graph = c.args.value.now.heap.now in
     let near = c.in-Some.near in
     let is_near = rw c.table-table.ensures.same at c.in-Some.ensures in
     let put = rw c.table-table.ensures.same at c.in_ok-put_near.ensures in
     let why = misfit_text (text_at r.table) graph (path_in near.way) near.value near.at in
-    puts_no r c.holds.ensures c.tables_decide.ensures.root graph c.args.root
+    puts_no r c.holds.ensures c.tables_decide.ensures.root graph c.args.value.now.root
     c.tables_have_the_faults.ensures.least c.texts_are_of_types.ensures
     (Misfit (path_in near.way)) is_near.least why (near.value, near.at, is_near.there.leads, refl) _ _
     (put

@@ -4,13 +4,13 @@ use Rattle.std.proofs.lemmas.List.{append_assoc}
 use Rattle.om_declared.proofs.VerdictLemmas.{puts_no}
 use Rattle.om_declared.proofs.verdict.put_no.Goals as goal
 
-pub put_fault-requires-clause-fault : goal.put_fault-requires-clause-fault
-put_fault-requires-clause-fault c = rw c.table.ensures.same c.requires.least.is_fault
+pub put_fault-requires : goal.put_fault-requires
+put_fault-requires c = record { fault = rw c.table.ensures.same c.requires.least.is_fault }
 
 pub returns : goal.returns
 returns c =
     let (why, is_text, added) = rw c.table.ensures.same at c.in_ok-put_fault.ensures in
-    puts_no c.args.requested.now c.holds.ensures c.tables_decide.ensures.root c.args.heap.now c.args.root
+    puts_no c.args.requested.now c.holds.ensures c.tables_decide.ensures.root c.args.value.now.heap.now c.args.value.now.root
     c.tables_have_the_faults.ensures.least c.texts_are_of_types.ensures
     c.args.fault.now c.requires.least why is_text _ _
     (added ∙ (ap (λ front. front ++ why) c.in_ok-put.ensures ∙ append_assoc c.args.text.now.items (codes "no ") why))

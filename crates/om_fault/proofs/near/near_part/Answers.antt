@@ -4,5 +4,5 @@ use Rattle.om_fault.proofs.near.near_part.Goals as goal
 
 pub returns-in-Some : goal.returns-in-Some
 returns-in-Some c =
-    near_part (table_of c.args.table.now) c.args.heap.now c.args.root c.in-Some.i c.in-Some.unfit c.requires.fits
+    near_part (table_of c.args.table.now) c.args.value.now.heap.now c.args.value.now.root c.in-Some.i c.in-Some.unfit c.requires.fits
     c.requires.fields c.in-Some.ensures

@@ -10,6 +10,6 @@ returns-clause-is c = c.type_of.ensures ∙ ap (λ fields. type_of_field fields 
 
 pub returns-clause-number : goal.returns-clause-number
 returns-clause-number c =
-    let node = slice_get_there c.args.table.now.nodes c.args._at c.requires.number in
-    types_below (table_of c.args.table.now) c.args._heap.now c.args._value c.args._at node.0 node.1 c.holds.ensures.lawful c.args.i
+    let node = slice_get_there c.args.tried.now.table.now.nodes c.args.tried.now.at c.args.tried.now.number in
+    types_below (table_of c.args.tried.now.table.now) c.args.tried.now.heap.now c.args.tried.now.value c.args.tried.now.at node.0 node.1 c.holds.ensures.lawful c.args.i
     c.type_of.result (c.type_of.ensures ∙ ap (λ fields. type_of_field fields c.args.i) c.requires.needs)

@@ -9,15 +9,15 @@ loop-i-init c = λ j less. absurd (omega (arith, less))
 
 pub loop-i-preserved : goal.loop-i-preserved
 loop-i-preserved c =
-    field_more (table_shapes (table_of c.args.table.now)) c.args.heap.now c.args.value c.args.at c.loop-i.i
+    field_more (table_shapes (table_of c.args.tried.now.table.now)) c.args.tried.now.heap.now c.args.tried.now.value c.args.tried.now.at c.loop-i.i
     c.loop-i.invariant c.in_default.ensures
 
 pub returns-in-Some : goal.returns-in-Some
 returns-in-Some c =
-    field_found (table_of c.args.table.now) c.args.heap.now c.args.value c.args.at c.loop-i.i c.in-Some.unfit
+    field_found (table_of c.args.tried.now.table.now) c.args.tried.now.heap.now c.args.tried.now.value c.args.tried.now.at c.loop-i.i c.in-Some.unfit
     c.loop-i.invariant c.in-Some.ensures
 
 pub returns : goal.returns
 returns c =
-    all_fields (table_shapes (table_of c.args.table.now)) c.args.heap.now c.args.value c.args.at 0 c.loop-i.i
+    all_fields (table_shapes (table_of c.args.tried.now.table.now)) c.args.tried.now.heap.now c.args.tried.now.value c.args.tried.now.at 0 c.loop-i.i
     c.loop-i.invariant (λ i past. c.field_count-count.ensures i (omega (arith, past, c.loop-i-test.false)))

@@ -7,4 +7,4 @@ use Rattle.om_fault.proofs.near.unfit_field.Given as goal
 -- no field so far has a misfit
 abbrev pub invariant-loop-i : goal.invariant-loop-i
 invariant-loop-i l =
-    NoneBelow (IsMisfit (table_shapes (table_of l.table)) l.heap l.value l.at) 0 l.i
+    NoneBelow (IsMisfit (table_shapes (table_of l.tried.table.now)) l.tried.heap.now l.tried.value l.tried.at) 0 l.i

@@ -5,10 +5,10 @@ use Rattle.om_fault.proofs.near.unfit_in.Goals as goal
 
 pub returns-in_default : goal.returns-in_default
 returns-in_default c =
-    nothing_behind (table_shapes (table_of c.args.table.now)) c.args.heap.now c.args.value c.args.at c.args.i 1
+    nothing_behind (table_shapes (table_of c.args.tried.now.table.now)) c.args.tried.now.heap.now c.args.tried.now.value c.args.tried.now.at c.args.i 1
     c.in_default.ensures.place
 
 pub returns : goal.returns
 returns c =
-    found_behind (table_of c.args.table.now) c.args.heap.now c.args.value c.args.at c.args.i c.in-Some.next c.in-Some.ty
+    found_behind (table_of c.args.tried.now.table.now) c.args.tried.now.heap.now c.args.tried.now.value c.args.tried.now.at c.args.i c.in-Some.value c.in-Some.at
     c.unfit_field_of.result c.in-Some.ensures.place c.unfit_field_of.ensures

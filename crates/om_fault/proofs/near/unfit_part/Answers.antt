@@ -10,17 +10,17 @@ loop-i-init c = λ j less. absurd (omega (arith, less))
 
 pub loop-i-preserved : goal.loop-i-preserved
 loop-i-preserved c =
-    none_more (IsMisfit (table_shapes (table_of c.args.table.now)) c.args.heap.now c.args.value c.args.at) 1 c.loop-i.i
+    none_more (IsMisfit (table_shapes (table_of c.args.tried.now.table.now)) c.args.tried.now.heap.now c.args.tried.now.value c.args.tried.now.at) 1 c.loop-i.i
     c.loop-i.invariant c.in_default.ensures
 
 pub returns-in-Some : goal.returns-in-Some
 returns-in-Some c = (
-  first_by (IsMisfit (table_shapes (table_of c.args.table.now)) c.args.heap.now c.args.value c.args.at) c.loop-i.i
+  first_by (IsMisfit (table_shapes (table_of c.args.tried.now.table.now)) c.args.tried.now.heap.now c.args.tried.now.value c.args.tried.now.at) c.loop-i.i
       (c.in-Some.unfit.field ∷ []) c.loop-i.invariant c.in-Some.ensures.0,
   c.in-Some.ensures.1,
 )
 
 pub returns : goal.returns
 returns c =
-    all_fields (table_shapes (table_of c.args.table.now)) c.args.heap.now c.args.value c.args.at 1 c.loop-i.i
+    all_fields (table_shapes (table_of c.args.tried.now.table.now)) c.args.tried.now.heap.now c.args.tried.now.value c.args.tried.now.at 1 c.loop-i.i
     c.loop-i.invariant (λ i past. c.field_count-count.ensures i (omega (arith, past, c.loop-i-test.false)))

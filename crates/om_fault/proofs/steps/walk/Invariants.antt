@@ -8,6 +8,6 @@ use Rattle.om_fault.proofs.steps.walk.Given as goal
 -- from here the rest of the path leads where the whole path leads
 abbrev pub invariant-loop-i : goal.invariant-loop-i
 invariant-loop-i l =
-    (value_at (table_shapes (table_of l.table)) l.heap l.fn.root 0 l.path
-    ≡ value_at (table_shapes (table_of l.table)) l.heap l.value l.at (drop l.i l.path))
-    × IsValue (length l.heap) l.value × (l.at < length l.table.nodes)
+    (value_at (table_shapes (table_of l.table)) l.heap l.fn.value.root 0 l.path
+    ≡ value_at (table_shapes (table_of l.table)) l.heap l.found l.at (drop l.i l.path))
+    × IsValue (length l.heap) l.found × (l.at < length l.table.nodes)

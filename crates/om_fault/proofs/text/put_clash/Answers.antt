@@ -32,7 +32,7 @@ returns c =
     let p6 = more old f (codes " and ") x5 x6 p5 c.in_ok-put-3.ensures in
     let p7 = more old g (text_at table c.in-Some-walk.other) x6 x7 p6 c.in_ok-put_type-2.ensures in
     on_ok_weaker c.put-4.result
-    (λ put. clash_put table c.args.heap.now c.args.root c.args.first.now c.args.second.now c.requires.clash
+    (λ put. clash_put table c.args.value.now.heap.now c.args.value.now.root c.args.first.now c.args.second.now c.requires.clash
     (c.in-Some.field-0-0, c.in-Some.one) (c.in-Some-walk.field-0-0, c.in-Some-walk.other) old c.put-4.new.text.items
     c.in-Some.ensures.place c.in-Some-walk.ensures.place
     (more old h (codes " share a mutable object") x7 c.put-4.new.text.items p7 put))

@@ -6,5 +6,5 @@ use Rattle.om_generate.proofs.line.tally_of.Goals as goal
 pub returns-in-Ok : goal.returns-in-Ok
 returns-in-Ok c = λ tree is_tree.
     let put = c.in-Ok.ensures.puts in
-    written_is c.args.heap.now c.args.root c.new-tally.result c.write.new.out put.0 tree c.count-graph.ensures.heap c.requires
+    written_is c.args.value.now.heap.now c.args.value.now.root c.new-tally.result c.write.new.out put.0 tree c.count-graph.ensures.heap c.args.value.now.value
     (ap (λ (t : Told). t.written) c.new-tally.ensures) put.1 put.2 is_tree

@@ -5,4 +5,4 @@ use Rattle.om_leaves.specs.Dumped.{spaced_float}
 use Rattle.om_leaves.proofs.dump.put_doubles.Given as goal
 
 abbrev pub invariant-loop-i : goal.invariant-loop-i
-invariant-loop-i l = l.text.items ≡ l.fn.text.items ++ flat_map spaced_float (take l.i (doubles_of (object_at l.heap l.o)))
+invariant-loop-i l = l.text.items ≡ l.fn.text.items ++ flat_map spaced_float (take l.i (doubles_of (object_at l.placed.heap.now l.placed.object)))

@@ -10,15 +10,15 @@ use Rattle.om_leaves.proofs.dump.put_object.Goals as goal
 
 pub put_string_of-requires : goal.put_string_of-requires
 put_string_of-requires c =
-    let object = object_at c.args.heap.now c.args.o in
+    let object = object_at c.args.placed.now.heap.now c.args.placed.now.object in
     let of = subst (λ kind. IsOfKind kind object) c.in-Bytes.is c.requires.kind in
-    (string_body c.args.heap.now object _ c.body_at.result.now c.in-Bytes.len (c.body_at.ensures.valid c.args.o c.requires.object c.word.ensures) of.0 (c.body_at.ensures.words c.args.o c.requires.object c.word.ensures) of.1).reach
+    (string_body c.args.placed.now.heap.now object _ c.body_at.result.now c.in-Bytes.len (c.body_at.ensures.valid c.args.placed.now.object c.args.placed.now.there c.word.ensures) of.0 (c.body_at.ensures.words c.args.placed.now.object c.args.placed.now.there c.word.ensures) of.1).reach
 
 pub returns-in_ok-put-in-Bytes : goal.returns-in_ok-put-in-Bytes
 returns-in_ok-put-in-Bytes c =
-    let object = object_at c.args.heap.now c.args.o in
+    let object = object_at c.args.placed.now.heap.now c.args.placed.now.object in
     let of = subst (λ kind. IsOfKind kind object) c.in-Bytes.is c.requires.kind in
-    let body = string_body c.args.heap.now object _ c.body_at.result.now c.in-Bytes.len (c.body_at.ensures.valid c.args.o c.requires.object c.word.ensures) of.0 (c.body_at.ensures.words c.args.o c.requires.object c.word.ensures) of.1 in
+    let body = string_body c.args.placed.now.heap.now object _ c.body_at.result.now c.in-Bytes.len (c.body_at.ensures.valid c.args.placed.now.object c.args.placed.now.there c.word.ensures) of.0 (c.body_at.ensures.words c.args.placed.now.object c.args.placed.now.there c.word.ensures) of.1 in
     let old = c.args.text.now.items in
     let put = take c.in-Bytes.len (flat_map (to_le_bytes w64) c.body_at.result.now) in
     subst (λ t. OnOk c.put_string_of.result (c.put_string_of.new.text.items ≡ t))

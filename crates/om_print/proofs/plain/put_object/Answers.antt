@@ -14,13 +14,13 @@ use Rattle.om_print.proofs.plain.put_object.Goals as goal
 pub returns-in_default : goal.returns-in_default
 returns-in_default c =
     let table = c.args.table.now in
-    let graph = c.args.heap.now in
+    let graph = c.args.placed.now.heap.now in
     record {
       none = c.requires.none;
-      put = put_goes table graph _ c.args.walk.now.order c.args.text.now.items c.put_leaf.new.text.items (steps.Leaf c.args.o c.args.at) _
-          (leaf_goes table graph c.args.walk.now _ c.args.o c.args.at c.requires.walk c.requires.inside c.requires.typed.number c.requires.unmet
+      put = put_goes table graph _ c.args.walk.now.order c.args.text.now.items c.put_leaf.new.text.items (steps.Leaf c.args.placed.now.object c.args.at) _
+          (leaf_goes table graph c.args.walk.now _ c.args.placed.now.object c.args.at c.requires.walk c.args.placed.now.there c.requires.typed.number c.requires.unmet
           (record { value = c.requires.none; blocks = refl; ends = refl; marks = refl; order = c.in_ok-push.ensures })
-          (λ tag values is. c.in_default.not-Block tag (length values) (c.kind_at.ensures c.args.o c.requires.inside c.requires.word ∙ ap kind_of is)) c.requires.asked)
+          (λ tag values is. c.in_default.not-Block tag (length values) (c.kind_at.ensures c.args.placed.now.object c.args.placed.now.there c.requires.word ∙ ap kind_of is)) c.requires.asked)
           refl
           (one_text c.args.text.now.items c.put_leaf.new.text.items _ c.in_ok-put_leaf.ensures);
     }
@@ -28,16 +28,19 @@ returns-in_default c =
 pub returns-clause-put : goal.returns-clause-put
 returns-clause-put c =
     let table = c.args.table.now in
-    let graph = c.args.heap.now in
+    let graph = c.args.placed.now.heap.now in
     let walk = c.args.walk.now in
     let opened = c.in_ok-put_block.ensures in
     let outside : c.len-outside.result ≡ length walk.ends.items = first_of (search rules, grind (arith, common_steps)) in
-    let begun = subst (λ n. IsBegun table graph c.args.o c.args.at c.in-Block.tag n opened.block) outside opened.begun in
-    let of = of_kind (kinds.Block c.in-Block.tag c.in-Block.field-1) (object_at graph c.args.o) (sym c.in-Block.is ∙ c.kind_at.ensures c.args.o c.requires.inside c.requires.word) in
-    put_goes table graph _ walk.order c.args.text.now.items c.put_block.new.text.items (steps.Opening c.args.o opened.block.frame) _
-    (opening_goes table graph walk (record { value = walk.value; stack = walk.stack; ends = walk.ends; marks = with_item walk.marks c.args.o true; order = c.push.new.self })
-    _ opened.block c.args.o c.args.at c.in-Block.tag c.requires.walk c.requires.inside c.requires.unmet
+    let begun = subst (λ n. IsBegun table graph c.args.placed.now.object c.args.at c.in-Block.tag n opened.block) outside opened.begun in
+    let of = of_kind (kinds.Block c.in-Block.tag c.in-Block.field-1) (object_at graph c.args.placed.now.object) (sym c.in-Block.is ∙ c.kind_at.ensures c.args.placed.now.object c.args.placed.now.there c.requires.word) in
+    put_goes table graph _ walk.order c.args.text.now.items c.put_block.new.text.items (steps.Opening c.args.placed.now.object opened.block.frame) _
+    (opening_goes table graph walk (record { value = walk.value; stack = walk.stack; ends = walk.ends; marks = with_item walk.marks c.args.placed.now.object true; order = c.push.new.self })
+    _ opened.block c.args.placed.now.object c.args.at c.in-Block.tag c.requires.walk c.args.placed.now.there c.requires.unmet
     (record { value = c.requires.none; blocks = refl; ends = refl; marks = refl; order = c.in_ok-push.ensures })
     of.0 begun c.requires.none refl refl opened.stack refl c.requires.asked)
     refl
     (one_text c.args.text.now.items c.put_block.new.text.items (frame_in opened.block.frame).opening opened.put)
+
+pub put_leaf-requires-clause-step : goal.put_leaf-requires-clause-step
+put_leaf-requires-clause-step c = (c.args.placed.now.there, c.requires.typed.number)

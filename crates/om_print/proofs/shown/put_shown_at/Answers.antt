@@ -10,22 +10,24 @@ use Rattle.om_type_table.specs.Made.{table_of}
 use Rattle.om_print.proofs.TypedLemmas.{typed_at}
 use Rattle.om_print.proofs.shown.put_shown_at.Goals as goal
 
-pub put_without_labels-requires-clause-typed : goal.put_without_labels-requires-clause-typed
-put_without_labels-requires-clause-typed c = typed_at (table_of c.args.table.now) c.args.heap.now c.args.v c.args.at c.requires.number c.requires.typed
+pub put_without_labels-requires : goal.put_without_labels-requires
+put_without_labels-requires c = record {
+  typed = typed_at (table_of c.args.table.now) c.args.value.now.heap.now c.args.value.now.root c.args.at c.requires.number c.requires.typed;
+}
 
 pub put_with_labels-requires-clause-typed : goal.put_with_labels-requires-clause-typed
-put_with_labels-requires-clause-typed c = typed_at (table_of c.args.table.now) c.args.heap.now c.args.v c.args.at c.requires.number c.requires.typed
+put_with_labels-requires-clause-typed c = typed_at (table_of c.args.table.now) c.args.value.now.heap.now c.args.value.now.root c.args.at c.requires.number c.requires.typed
 
 pub returns-in_default : goal.returns-in_default
 unfolding shown_text
 returns-in_default c =
-    let pieces = pieces_of (shape_in c.args.table.now) (names_in c.args.table.now) c.args.heap.now c.args.v c.args.at in
+    let pieces = pieces_of (shape_in c.args.table.now) (names_in c.args.table.now) c.args.value.now.heap.now c.args.value.now.root c.args.at in
     subst (λ found. IsPut found c.args.text.now.items c.put_without_labels.new.text.items pieces) c.in_default.is c.in_ok-objects.ensures.text
 
 pub returns : goal.returns
 unfolding shown_text
 returns c =
-    let pieces = pieces_of (shape_in c.args.table.now) (names_in c.args.table.now) c.args.heap.now c.args.v c.args.at in
+    let pieces = pieces_of (shape_in c.args.table.now) (names_in c.args.table.now) c.args.value.now.heap.now c.args.value.now.root c.args.at in
     let put = subst (λ found. IsPut found c.args.text.now.items c.put_without_labels.new.text.items pieces) c.in-Some.is c.in_ok-objects.ensures.text in
     let before : c.len-before.result ≡ length c.args.text.now.items = first_of (search rules, grind (arith, common_steps)) in
     let again : c.truncate.new.self.items ≡ c.args.text.now.items =

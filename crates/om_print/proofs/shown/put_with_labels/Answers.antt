@@ -9,7 +9,7 @@ use Rattle.om_print.proofs.shown.put_with_labels.Goals as goal
 pub loop-walk-preserved : goal.loop-walk-preserved
 loop-walk-preserved c =
     let table = c.args.table.now in
-    let graph = c.args.heap.now in
+    let graph = c.args.value.now.heap.now in
     let walk = c.loop-walk.walk in
     let left = pieces_left table graph walk in
     let goes = subst (Gives table graph left walk.order c.next.new.self) c.in-Some.is c.in_ok-step.ensures in (
@@ -21,9 +21,9 @@ loop-walk-preserved c =
 pub returns : goal.returns
 returns c =
     let table = c.args.table.now in
-    let graph = c.args.heap.now in
+    let graph = c.args.value.now.heap.now in
     let walk = c.loop-walk.walk in
     let left = pieces_left table graph walk in
     let ends = subst (Gives table graph left walk.order c.next.new.self) c.in_default.is c.in_ok-step.ensures in
-    text_all c.args.labels.now.objects.items left (left_of table graph [] (Some (c.args.v, c.args.at)) []) (pieces_of (shape_in table) (names_in table) graph c.args.v c.args.at)
-    c.args.text.now.items c.loop-walk.text.items ends.0 (start_left table graph c.args.v c.args.at) c.loop-walk.invariant.1
+    text_all c.args.labels.now.objects.items left (left_of table graph [] (Some (c.args.value.now.root, c.args.at)) []) (pieces_of (shape_in table) (names_in table) graph c.args.value.now.root c.args.at)
+    c.args.text.now.items c.loop-walk.text.items ends.0 (start_left table graph c.args.value.now.root c.args.at) c.loop-walk.invariant.1

@@ -16,27 +16,27 @@ use Rattle.om_print.proofs.shown.put_without_labels.Goals as goal
 pub returns-then-branch-clause-text : goal.returns-then-branch-clause-text
 returns-then-branch-clause-text c =
     let table = c.args.table.now in
-    let graph = c.args.heap.now in
+    let graph = c.args.value.now.heap.now in
     let walk = c.in_ok-walk.walk in
-    let all = left_of table graph [] (Some (c.args.v, c.args.at)) [] in
-    let pieces = pieces_of (shape_in table) (names_in table) graph c.args.v c.args.at in
-    whole_put table graph walk c.put_until_again.new.walk c.args.text.now.items c.put_until_again.new.text.items all pieces (start_left table graph c.args.v c.args.at)
-    (first_left table graph walk c.args.v c.args.at c.in_ok-walk.ensures.value c.in_ok-walk.ensures.blocks c.in_ok-walk.ensures.ends c.in_ok-walk.ensures.order)
+    let all = left_of table graph [] (Some (c.args.value.now.root, c.args.at)) [] in
+    let pieces = pieces_of (shape_in table) (names_in table) graph c.args.value.now.root c.args.at in
+    whole_put table graph walk c.put_until_again.new.walk c.args.text.now.items c.put_until_again.new.text.items all pieces (start_left table graph c.args.value.now.root c.args.at)
+    (first_left table graph walk c.args.value.now.root c.args.at c.in_ok-walk.ensures.value c.in_ok-walk.ensures.blocks c.in_ok-walk.ensures.ends c.in_ok-walk.ensures.order)
     (c.in_ok-put_until_again.ensures.all c.if-branch.true) c.in_ok-put_until_again.ensures.put
 
 pub loop-again-init : goal.loop-again-init
 loop-again-init c =
-    let graph = c.args.heap.now in
+    let graph = c.args.value.now.heap.now in
     let marks : c.in_ok-again.again.items ≡ replicate (length graph) false = first_of (search rules, grind (arith, common_steps)) in
-    counted_put c.args.table.now graph c.in_ok-walk.walk c.put_until_again.new.walk c.args.v c.args.at c.in_ok-again.again.items c.args.text.now.items c.put_until_again.new.text.items
+    counted_put c.args.table.now graph c.in_ok-walk.walk c.put_until_again.new.walk c.args.value.now.root c.args.at c.in_ok-again.again.items c.args.text.now.items c.put_until_again.new.text.items
     c.in_ok-walk.ensures.value c.in_ok-walk.ensures.blocks c.in_ok-walk.ensures.ends c.in_ok-walk.ensures.order marks c.in_ok-put_until_again.ensures.put
 
 pub loop-again-preserved : goal.loop-again-preserved
 loop-again-preserved c =
     let table = c.args.table.now in
-    let graph = c.args.heap.now in
+    let graph = c.args.value.now.heap.now in
     let walk = c.loop-again.walk in
-    let all = left_of table graph [] (Some (c.args.v, c.args.at)) [] in
+    let all = left_of table graph [] (Some (c.args.value.now.root, c.args.at)) [] in
     let goes = subst (Gives table graph (pieces_left table graph walk) walk.order c.next.new.self) c.in-Some.is c.in_ok-step.ensures in
     subst (AreCounted table graph all c.next.new.self) (sym c.mark_again.ensures.marks)
     (counted_more table graph all walk c.next.new.self c.loop-again.again.items c.in-Some.step c.loop-again.invariant goes)
@@ -44,22 +44,22 @@ loop-again-preserved c =
 pub returns-clause-text : goal.returns-clause-text
 returns-clause-text c =
     let table = c.args.table.now in
-    let graph = c.args.heap.now in
+    let graph = c.args.value.now.heap.now in
     let walk = c.loop-again.walk in
-    let all = left_of table graph [] (Some (c.args.v, c.args.at)) [] in
+    let all = left_of table graph [] (Some (c.args.value.now.root, c.args.at)) [] in
     let put = c.in_ok-put_until_again.ensures.put in
     let ends = subst (Gives table graph (pieces_left table graph walk) walk.order c.next.new.self) c.in_default.is c.in_ok-step.ensures in (
       c.in_ok-objects.ensures
           ∙ ap (λ marks. filter (λ o. get_or marks o false) c.as_slice.result.now) c.deref.ensures.value
           ∙ counted_all table graph all walk c.loop-again.again.items c.as_slice.result.now c.loop-again.invariant ends.0 (c.as_slice.ensures.value ∙ c.in_ok-order.ensures ∙ ends.1)
-          ∙ ap labelled (start_left table graph c.args.v c.args.at),
+          ∙ ap labelled (start_left table graph c.args.value.now.root c.args.at),
       (flat_map (piece_text []) put.now, put.put),
     )
 
 pub returns-clause-inside : goal.returns-clause-inside
 returns-clause-inside c =
     let table = c.args.table.now in
-    let graph = c.args.heap.now in
+    let graph = c.args.value.now.heap.now in
     let walk = c.loop-again.walk in
     let ends = subst (Gives table graph (pieces_left table graph walk) walk.order c.next.new.self) c.in_default.is c.in_ok-step.ensures in
     let order : c.as_slice.result.now ≡ walk.order = c.as_slice.ensures.value ∙ c.in_ok-order.ensures ∙ ends.1 in

@@ -10,15 +10,15 @@ use Rattle.om_print.proofs.walk.open_block.Goals as goal
 pub returns-clause-open : goal.returns-clause-open
 returns-clause-open c =
     let table = c.args.table.now in
-    let graph = c.args.heap.now in
-    let needs : needs_in c.needs_or_none.result ≡ or_none (fields_of graph (vals.Ref c.args.o) (shape_in table c.args.at)) =
+    let graph = c.args.placed.now.heap.now in
+    let needs : needs_in c.needs_or_none.result ≡ or_none (fields_of graph (vals.Ref c.args.placed.now.object) (shape_in table c.args.at)) =
     first_of (search rules, grind (arith, common_steps)) in record {
-      inside = c.requires.inside;
-      words = c.fields_at.ensures.words c.args.o c.requires.inside c.requires.word;
+      inside = c.args.placed.now.there;
+      words = c.fields_at.ensures.words c.args.placed.now.object c.args.placed.now.there c.requires.word;
       valid = c.fields_at.ensures.valid;
-      parts = open_parts table graph c.args.o c.args.at (needs_in c.needs_or_none.result) c.count-count.ensures.heap.is_graph c.requires.inside c.holds.ensures.lawful c.requires.typed needs;
+      parts = open_parts table graph c.args.placed.now.object c.args.at (needs_in c.needs_or_none.result) c.count-count.ensures.heap.is_graph c.args.placed.now.there c.holds.ensures.lawful c.requires.typed needs;
     }
 
 pub fields_at-requires : goal.fields_at-requires
 fields_at-requires c =
-    (c.args.o, c.requires.inside, c.requires.word, some_fields c.args.table.now c.args.heap.now c.args.o c.args.tag c.count-count.ensures.heap.is_graph c.requires.inside c.requires.block)
+    (c.args.placed.now.object, c.args.placed.now.there, c.requires.word, some_fields c.args.table.now c.args.placed.now.heap.now c.args.placed.now.object c.args.tag c.count-count.ensures.heap.is_graph c.args.placed.now.there c.requires.block)

@@ -12,8 +12,8 @@ returns-in_err-edit_by_lines-clause-puts g c = λ others are.
     lines_halt c.args.edits others c.args.number c.args.value.now c.in_ok-check_type.ensures c.edit_by_lines.new.value (g.K.Sink.state c.args.out.now) halt
     c.from_residual-in_err-edit_by_lines.result c.from_residual-in_err-edit_by_lines.ensures.1 (c.in_err-edit_by_lines.ensures others are)
 
-pub put_bytes-requires : goal.put_bytes-requires
-put_bytes-requires g c = (c.in_ok-edit_by_lines.ensures c.requires.kept.0 c.requires.kept.1).valid
+pub invariant_of-new : goal.invariant_of-new
+invariant_of-new g c = record { value = (c.in_ok-edit_by_lines.ensures c.requires.kept.0 c.requires.kept.1).valid }
 
 pub returns-clause-puts : goal.returns-clause-puts
 returns-clause-puts g c = λ others are.

@@ -1,9 +1,15 @@
-use Rattle.om_session.proofs.GlimpseLemmas.{glimpsed}
+use Rattle.om_session.proofs.GlimpseLemmas.{yes_next, no_next}
 use Rattle.om_session.proofs.glimpse.glimpse.Goals as goal
 
 pub feed-requires : goal.feed-requires
 feed-requires c = record { glance = rw c.table.ensures.same c.requires.glance }
 
-pub returns : goal.returns
-returns c =
-    glimpsed c.args.requested.now c.holds.ensures c.tables_decide.ensures.root c.tables_decide.ensures.decide c.args.limit c.args.glance.now c.args.piece.now c.feed.new.self c.feed.result (rw c.table.ensures.same at c.feed.ensures)
+pub returns-in-Typed : goal.returns-in-Typed
+returns-in-Typed c =
+    yes_next c.args.requested.now c.holds.ensures c.tables_decide.ensures.root c.tables_decide.ensures.decide c.args.limit c.args.glance.now c.args.piece.now c.feed.new.self c.in-Typed.n
+    (rw (c.table.ensures.same, c.in-Typed.is) at c.in_ok-answer.ensures)
+
+pub returns-in_ok-line-in-Missed : goal.returns-in_ok-line-in-Missed
+returns-in_ok-line-in-Missed c =
+    no_next c.args.requested.now c.args.limit c.args.glance.now c.args.piece.now c.feed.new.self c.missed.new.self c.in-Missed.n (rw (c.table.ensures.same, c.in-Missed.is) at c.in_ok-answer.ensures)
+    c.in-Some.found c.in-Some.ensures.found c.in_ok-line-in-Missed.line c.in_ok-line-in-Missed.ensures c.missed.ensures.kept c.missed.ensures.glance

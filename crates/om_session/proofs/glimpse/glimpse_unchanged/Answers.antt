@@ -25,3 +25,7 @@ returns-in-More c =
 pub returns-in-Untold : goal.returns-in-Untold
 returns-in-Untold c =
     let untold = rw (c.table.ensures.same, c.in-Untold.is) at c.in_ok-answer.ensures in (untold.0 ∙ c.requires.none, untold.1)
+
+pub returns-in-Missed : goal.returns-in-Missed
+returns-in-Missed c =
+    let missed = rw (c.table.ensures.same, c.in-Missed.is) at c.in_ok-answer.ensures in (missed.none, missed.glance (table_of c.args.requested.now.table) c.args.limit)

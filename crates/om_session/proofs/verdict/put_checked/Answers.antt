@@ -11,8 +11,8 @@ returns-then-told c =
     let r = c.args.requested.now in
     let old = c.args.text.now.items in
     let new = c.put_soon.new.text.items in
-    no_line (saying_of c.args.saying) r c.args.heap.now c.args.root old new
-    (subst (λ (told : Bool). MatchBool told (PutsNo (type_over r) c.args.heap.now c.args.root old new) (new ≡ old)) c.if-told.true
+    no_line (saying_of c.args.saying) r c.args.value.now.heap.now c.args.value.now.root old new
+    (subst (λ (told : Bool). MatchBool told (PutsNo (type_over r) c.args.value.now.heap.now c.args.value.now.root old new) (new ≡ old)) c.if-told.true
     c.in_ok-told.ensures)
 
 pub returns : goal.returns
@@ -20,7 +20,7 @@ returns c =
     let r = c.args.requested.now in
     let old = c.args.text.now.items in
     let mid = c.put_soon.new.text.items in
-    let same = subst (λ (told : Bool). MatchBool told (PutsNo (type_over r) c.args.heap.now c.args.root old mid) (mid ≡ old)) c.if-told.false
+    let same = subst (λ (told : Bool). MatchBool told (PutsNo (type_over r) c.args.value.now.heap.now c.args.value.now.root old mid) (mid ≡ old)) c.if-told.false
     c.in_ok-told.ensures in
-    subst (λ (front : List ℕ). IfOk c.put_line.result (PutsLine (saying_of c.args.saying) (type_over r) c.args.heap.now c.args.root front c.put_line.new.text.items))
+    subst (λ (front : List ℕ). IfOk c.put_line.result (PutsLine (saying_of c.args.saying) (type_over r) c.args.value.now.heap.now c.args.value.now.root front c.put_line.new.text.items))
     same c.put_line.ensures

@@ -9,10 +9,10 @@ put_styled_at-requires-clause-typed c = rw c.table-table.ensures.same c.requires
 
 pub returns-in_ok-put-in-Verdict : goal.returns-in_ok-put-in-Verdict
 returns-in_ok-put-in-Verdict c =
-    puts_yes c.args.requested.now c.holds.ensures c.tables_decide.ensures.root c.args.heap.now c.args.root c.tables_decide.ensures.decide c.requires.typed
+    puts_yes c.args.requested.now c.holds.ensures c.tables_decide.ensures.root c.args.value.now.heap.now c.args.value.now.root c.tables_decide.ensures.decide c.requires.typed
     c.args.saying c.in-Verdict.is _ _ c.in_ok-put-in-Verdict.ensures
 
 pub returns-in_ok-put_styled_at-in-Text : goal.returns-in_ok-put_styled_at-in-Text
 returns-in_ok-put_styled_at-in-Text c =
-    puts_text c.args.requested.now c.holds.ensures c.tables_decide.ensures.root c.args.heap.now c.args.root c.tables_decide.ensures.decide c.requires.typed
+    puts_text c.args.requested.now c.holds.ensures c.tables_decide.ensures.root c.args.value.now.heap.now c.args.value.now.root c.tables_decide.ensures.decide c.requires.typed
     c.roots_show_alike.ensures c.in-Text.style c.args.saying c.in-Text.is _ _ (rw c.table-table.ensures.same at c.in_ok-put_styled_at-in-Text.ensures)

@@ -13,5 +13,5 @@ trees-requires-clause-has c = rw c.table.ensures.same c.requires.typed
 pub returns : goal.returns
 returns c =
     rw c.is_sound.ensures
-    (puts_trees c.args.requested.now c.holds.ensures c.tables_decide.ensures.root c.args.heap.now c.args.root c.tables_decide.ensures.decide c.requires.typed
+    (puts_trees c.args.requested.now c.holds.ensures c.tables_decide.ensures.root c.args.value.now.heap.now c.args.value.now.root c.tables_decide.ensures.decide c.requires.typed
     c.tables_have_the_verdict.ensures _ (rw c.table.ensures.same at c.in_ok-verdict.ensures) _ _ c.in_ok-put_verdict.ensures)

@@ -6,7 +6,7 @@ use Rattle.om_tree_check.proofs.verdict.trees.Goals as goal
 
 pub returns-then-has_none : goal.returns-then-has_none
 returns-then-has_none c =
-    none_there c.args.table.now c.args.heap.now c.args.root
+    none_there c.args.table.now c.args.value.now.heap.now c.args.value.now.root
     (λ t tree. subst NoneMarked c.as_slice.ensures.value (c.has_none.ensures.0 c.if-has_none.true)
     t ((c.in_ok-found.ensures t).1 tree))
 

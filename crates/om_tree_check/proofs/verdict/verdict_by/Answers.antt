@@ -9,7 +9,7 @@ use Rattle.om_tree_check.proofs.verdict.verdict_by.Goals as goal
 pub verdict_among-requires-clause-closed : goal.verdict_among-requires-clause-closed
 verdict_among-requires-clause-closed c =
     let table = c.args.table.now in
-    closed table c.args.heap.now c.args.root c.requires.table c.requires.has c.in_ok-all.all
+    closed table c.args.value.now.heap.now c.args.value.now.root c.holds.ensures.lawful c.requires.table c.requires.has c.in_ok-all.all
     c.in_ok-all.ensures c.in_ok-nodes.nodes
     (same_visits (IsMarked c.args.found.now) (IsTreeNumber table) c.in_ok-all.all _
     c.in_ok-nodes.nodes c.requires.found c.in_ok-nodes.ensures)
@@ -17,10 +17,10 @@ verdict_among-requires-clause-closed c =
 pub returns : goal.returns
 returns c =
     let table = c.args.table.now in
-    let graph = c.args.heap.now in
+    let graph = c.args.value.now.heap.now in
     IfOk-weaker c.verdict_among.result (IsVerdictAmong graph c.in_ok-all.all c.in_ok-nodes.nodes)
-    (IsTableVerdict table graph c.args.root)
-    (verdict_is table graph c.args.root c.requires.table c.requires.has c.in_ok-all.all
+    (IsTableVerdict table graph c.args.value.now.root)
+    (verdict_is table graph c.args.value.now.root c.holds.ensures.lawful c.requires.table c.requires.has c.in_ok-all.all
     c.in_ok-all.ensures c.in_ok-nodes.nodes
     (same_visits (IsMarked c.args.found.now) (IsTreeNumber table) c.in_ok-all.all _
     c.in_ok-nodes.nodes c.requires.found c.in_ok-nodes.ensures))

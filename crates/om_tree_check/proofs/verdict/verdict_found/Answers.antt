@@ -10,14 +10,14 @@ use Rattle.om_tree_check.proofs.verdict.verdict_found.Goals as goal
 
 pub judge-requires : goal.judge-requires
 judge-requires c =
-    subst (AreClosed c.args.heap.now) (sym c.as_slice.ensures.value)
-    (found_closed c.args.table.now c.args.heap.now c.args.root c.requires.table c.requires.has
+    subst (AreClosed c.args.value.now.heap.now) (sym c.as_slice.ensures.value)
+    (found_closed c.args.table.now c.args.value.now.heap.now c.args.value.now.root c.holds.ensures.lawful c.requires.table c.requires.has
     c.in_ok-nodes.nodes.items c.in_ok-nodes.ensures)
 
 pub returns-in-Sound : goal.returns-in-Sound
 returns-in-Sound c =
-    let graph = c.args.heap.now in
-    found_sound c.args.table.now graph c.args.root c.requires.table c.requires.has
+    let graph = c.args.value.now.heap.now in
+    found_sound c.args.table.now graph c.args.value.now.root c.holds.ensures.lawful c.requires.table c.requires.has
     c.in_ok-nodes.nodes.items c.in_ok-nodes.ensures c.len.result
     (subst (λ (xs : List ℕ). IsJudgement graph xs Sound) c.as_slice.ensures.value
     (subst (IsJudgement graph c.as_slice.result.now) c.in-Sound.is c.in_ok-judge.ensures))
@@ -25,7 +25,7 @@ returns-in-Sound c =
 
 pub index-requires : goal.index-requires
 index-requires c =
-    let graph = c.args.heap.now in
+    let graph = c.args.value.now.heap.now in
     let judged : IsJudgement graph c.in_ok-nodes.nodes.items (Faulty c.in-Faulty.kind c.in-Faulty.i)
     = subst (λ (xs : List ℕ). IsJudgement graph xs (Faulty c.in-Faulty.kind c.in-Faulty.i))
     c.as_slice.ensures.value
@@ -36,16 +36,16 @@ index-requires c =
 
 pub returns-then-is_object : goal.returns-then-is_object
 returns-then-is_object c =
-    let graph = c.args.heap.now in
+    let graph = c.args.value.now.heap.now in
     let nodes = c.in_ok-nodes.nodes.items in
     let judged : IsJudgement graph nodes (Faulty c.in-Faulty.kind c.in-Faulty.i)
     = subst (λ (xs : List ℕ). IsJudgement graph xs (Faulty c.in-Faulty.kind c.in-Faulty.i))
     c.as_slice.ensures.value
     (subst (IsJudgement graph c.as_slice.result.now) c.in-Faulty.is c.in_ok-judge.ensures) in
     let inside = fault_inside graph nodes c.in-Faulty.kind c.in-Faulty.i judged.0 in
-    subst (λ (path : List ℕ). IsTableVerdict c.args.table.now graph c.args.root
+    subst (λ (path : List ℕ). IsTableVerdict c.args.table.now graph c.args.value.now.root
     (verdicts.Faulty c.in-Faulty.kind path)) (sym c.new.ensures)
-    (found_at_root c.args.table.now graph c.args.root c.requires.table c.requires.has
+    (found_at_root c.args.table.now graph c.args.value.now.root c.holds.ensures.lawful c.requires.table c.requires.has
     nodes c.in_ok-nodes.ensures c.in-Faulty.kind c.in-Faulty.i c.index.result.now judged
     (slice_get_read nodes (length nodes) c.in-Faulty.i c.index.result.now refl
     (omega (arith, inside)) c.index.ensures)

@@ -7,5 +7,5 @@ use Rattle.om_trees.proofs.node.height_in.Goals as goal
 pub returns-clause-height : goal.returns-clause-height
 returns-clause-height c =
     ap number_in c.value_at.ensures.field
-    ∙ sym (height_read (fields_of (object_at c.args.heap.now c.args.o)) c.args.right
+    ∙ sym (height_read (fields_of (object_at c.args.block.now.heap.now c.args.block.now.object)) c.args.right
     c.requires.place c.requires.last)

@@ -5,13 +5,13 @@ use Rattle.om_trees.proofs.order.is_before.Goals as goal
 
 pub returns-then-o-p : goal.returns-then-o-p
 returns-then-o-p c =
-    same_not_before (bytes_of (object_at c.args.heap.now c.args.o)) (bytes_of (object_at c.args.heap.now c.args.p))
-    (ap (λ q. bytes_of (object_at c.args.heap.now q)) c.if-o-p.true)
+    same_not_before (bytes_of (object_at c.args.strings.now.heap.now c.args.strings.now.first)) (bytes_of (object_at c.args.strings.now.heap.now c.args.strings.now.second))
+    (ap (λ q. bytes_of (object_at c.args.strings.now.heap.now q)) c.if-o-p.true)
 
 pub returns : goal.returns
 returns c =
-    let xs = bytes_of (object_at c.args.heap.now c.args.o) in
-    let ys = bytes_of (object_at c.args.heap.now c.args.p) in
+    let xs = bytes_of (object_at c.args.strings.now.heap.now c.args.strings.now.first) in
+    let ys = bytes_of (object_at c.args.strings.now.heap.now c.args.strings.now.second) in
     let first = c.len_of-first.ensures in
     let second = c.len_of-second.ensures in
     let end : c.loop-i.i ≡ min (length xs) (length ys) = omega (arith, first, second) in

@@ -25,13 +25,13 @@ settle_node-known-requires c =
       valid = c.node_at-node.ensures.valid;
     }
 
-pub node_at-node-requires : goal.node_at-node-requires
-node_at-node-requires c =
+pub invariant_of-node_at : goal.invariant_of-node_at
+invariant_of-node_at c =
     let nodes = c.args.nodes.now in
     let i = c.loop-o.o-index in
     let o = get_or nodes i 0 in
-    (c.requires.ready o
-    (slice_get-Contains nodes i o (slice_get-get_or nodes i 0 c.loop-o-test.true))).inside
+    let among = slice_get-Contains nodes i o (slice_get-get_or nodes i 0 c.loop-o-test.true) in
+    record { there = (c.requires.ready o among).inside }
 
 pub index_mut-requires : goal.index_mut-requires
 index_mut-requires c =

@@ -12,37 +12,37 @@ abbrev unknown : Settled
 unknown = record { span = record { least = 0; greatest = 0 }; disordered = false }
 
 pub joined-requires-clause-first : goal.joined-requires-clause-first
-joined-requires-clause-first c = spread c.args.heap.now (IsOnLeftOrAt c.args.heap.now c.args.o) c.args.span c.requires.span
+joined-requires-clause-first c = spread c.args.placed.now.heap.now (IsOnLeftOrAt c.args.placed.now.heap.now c.args.placed.now.object) c.args.span c.requires.span
 
 pub joined-requires-clause-second : goal.joined-requires-clause-second
 joined-requires-clause-second c =
-    let graph = c.args.heap.now in
-    let is : (node_at graph c.args.o).right ≡ vals.Ref c.in-Ref.p = sym (ap (λ (n : Node). n.right) c.requires.node) ∙ c.in-Ref.is in
-    let known = settled_part graph c.args.all.now (node_at graph c.args.o).right c.in-Ref.p unknown is c.requires.right in
+    let graph = c.args.placed.now.heap.now in
+    let is : (node_at graph c.args.placed.now.object).right ≡ vals.Ref c.in-Ref.p = sym (ap (λ (n : Node). n.right) c.requires.node) ∙ c.in-Ref.is in
+    let known = settled_part graph c.args.all.now (node_at graph c.args.placed.now.object).right c.in-Ref.p unknown is c.requires.right in
     spread graph (IsAtOrBelow graph (vals.Ref c.in-Ref.p)) (get_or c.args.all.now c.in-Ref.p unknown).span known.span
 
 pub returns-in-Ref-clause-span : goal.returns-in-Ref-clause-span
 returns-in-Ref-clause-span c =
-    let graph = c.args.heap.now in
-    let is : (node_at graph c.args.o).right ≡ vals.Ref c.in-Ref.p = sym (ap (λ (n : Node). n.right) c.requires.node) ∙ c.in-Ref.is in
-    let known = settled_part graph c.args.all.now (node_at graph c.args.o).right c.in-Ref.p unknown is c.requires.right in
-    right_span graph c.args.o c.args.span c.requires.span c.in-Ref.p (get_or c.args.all.now c.in-Ref.p unknown) c.joined.result.0 is known
+    let graph = c.args.placed.now.heap.now in
+    let is : (node_at graph c.args.placed.now.object).right ≡ vals.Ref c.in-Ref.p = sym (ap (λ (n : Node). n.right) c.requires.node) ∙ c.in-Ref.is in
+    let known = settled_part graph c.args.all.now (node_at graph c.args.placed.now.object).right c.in-Ref.p unknown is c.requires.right in
+    right_span graph c.args.placed.now.object c.args.span c.requires.span c.in-Ref.p (get_or c.args.all.now c.in-Ref.p unknown) c.joined.result.0 is known
     c.joined.ensures.least c.joined.ensures.greatest
 
 pub returns-in-Ref-clause-under : goal.returns-in-Ref-clause-under
 returns-in-Ref-clause-under c =
-    let graph = c.args.heap.now in
-    let is : (node_at graph c.args.o).right ≡ vals.Ref c.in-Ref.p = sym (ap (λ (n : Node). n.right) c.requires.node) ∙ c.in-Ref.is in
-    let known = settled_part graph c.args.all.now (node_at graph c.args.o).right c.in-Ref.p unknown is c.requires.right in
-    let under = right_under graph c.args.o c.args.span c.requires.span c.in-Ref.p (get_or c.args.all.now c.in-Ref.p unknown) is known in
+    let graph = c.args.placed.now.heap.now in
+    let is : (node_at graph c.args.placed.now.object).right ≡ vals.Ref c.in-Ref.p = sym (ap (λ (n : Node). n.right) c.requires.node) ∙ c.in-Ref.is in
+    let known = settled_part graph c.args.all.now (node_at graph c.args.placed.now.object).right c.in-Ref.p unknown is c.requires.right in
+    let under = right_under graph c.args.placed.now.object c.args.span c.requires.span c.in-Ref.p (get_or c.args.all.now c.in-Ref.p unknown) is known in
     (λ is. under.0 (c.joined.ensures.over.0 is), λ wrong. c.joined.ensures.over.1 (under.1 wrong))
 
 pub returns-in_default : goal.returns-in_default
 returns-in_default c =
-    let graph = c.args.heap.now in
-    let none : (p : ℕ) → IsAtOrBelow graph (node_at graph c.args.o).right p → ⊥ =
-    none_below graph (node_at graph c.args.o).right (λ q is. c.in_default.not-Ref q (ap (λ (n : Node). n.right) c.requires.node ∙ is)) in
+    let graph = c.args.placed.now.heap.now in
+    let none : (p : ℕ) → IsAtOrBelow graph (node_at graph c.args.placed.now.object).right p → ⊥ =
+    none_below graph (node_at graph c.args.placed.now.object).right (λ q is. c.in_default.not-Ref q (ap (λ (n : Node). n.right) c.requires.node ∙ is)) in
     record {
-      span = no_right graph c.args.o c.args.span c.requires.span none;
+      span = no_right graph c.args.placed.now.object c.args.span c.requires.span none;
       under = (λ is. absurd (false≢true is), λ wrong. absurd (none wrong.1 wrong.3));
     }

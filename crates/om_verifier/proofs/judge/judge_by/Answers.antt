@@ -1,4 +1,4 @@
 use Rattle.om_verifier.proofs.judge.judge_by.Goals as goal
 
-pub told-requires-clause-verified : goal.told-requires-clause-verified
-told-requires-clause-verified c = rw c.table.ensures.same at c.in_ok-verified.ensures.answer
+pub told-requires : goal.told-requires
+told-requires c = rw c.table.ensures.same at c.in_ok-verified.ensures.answer

@@ -3,18 +3,19 @@ use Rattle.std.specs.Prelude.{codes}
 use Rattle.om_verifier.proofs.JudgeLemmas.{stated, judged_no}
 use Rattle.om_verifier.proofs.judge.told_fault.Goals as goal
 
-pub fault_text-requires-clause-fault : goal.fault_text-requires-clause-fault
-fault_text-requires-clause-fault c =
-    rw c.table.ensures.same
-    (stated c.args.requested.now c.holds.ensures c.args.heap.now c.args.root c.args.section.now
-    c.args.fault.now c.requires.verified)
+pub fault_text-requires : goal.fault_text-requires
+fault_text-requires c = record {
+  fault = rw c.table.ensures.same
+      (stated c.args.requested.now c.holds.ensures c.args.value.now.heap.now c.args.value.now.root
+      c.args.section.now c.args.fault.now c.requires);
+}
 
 pub returns : goal.returns
 returns c =
-    judged_no c.args.requested.now c.holds.ensures c.args.heap.now c.args.root c.args.section.now
-    c.tables_decide.ensures.root c.tables_are_lawful.ensures c.tables_have_the_faults.ensures.all
-    c.texts_are_of_types.ensures c.type_or_fault.ensures.never_both c.args.fault.now
-    c.requires.verified c.in_ok-why.why (rw c.table.ensures.same at c.in_ok-why.ensures) c.of.result
+    judged_no c.args.requested.now c.holds.ensures c.args.value.now.heap.now c.args.value.now.root
+    c.args.section.now c.tables_decide.ensures.root c.tables_have_the_faults.ensures.all
+    c.texts_are_of_types.ensures c.type_or_fault.ensures.never_both c.args.fault.now c.requires
+    c.in_ok-why.why (rw c.table.ensures.same at c.in_ok-why.ensures) c.of.result
     (c.of.ensures ∙ (c.in_ok-put-3.ensures
     ∙ ap (λ items. items ++ 10 ∷ [])
     (c.in_ok-put-2.ensures ∙ (ap (λ items. items ++ c.as_slice.result.now)

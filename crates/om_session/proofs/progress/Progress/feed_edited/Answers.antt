@@ -23,7 +23,7 @@ pub glimpse_unchanged-requires-clause-none : goal.glimpse_unchanged-requires-cla
 glimpse_unchanged-requires-clause-none g c = c.if-not-is_left_due.ensures.0
 
 pub take_left-requires-clause-some : goal.take_left-requires-clause-some
-take_left-requires-clause-some g c = (rw c.in-Typed.is at c.in_ok-answer.ensures).some
+take_left-requires-clause-some g c = (rw c.in-Whole.is at c.in_ok-answer.ensures).some
 
 pub take_left-requires-clause-short : goal.take_left-requires-clause-short
 take_left-requires-clause-short g c =
@@ -37,7 +37,7 @@ pub take_left-requires-clause-left : goal.take_left-requires-clause-left
 take_left-requires-clause-left g c = c.if-not-is_left_due.ensures.2
 
 pub take_left-requires-clause-unchanged : goal.take_left-requires-clause-unchanged
-take_left-requires-clause-unchanged g c = (rw c.in-Typed.is at c.in_ok-answer.ensures).unchanged
+take_left-requires-clause-unchanged g c = (rw c.in-Whole.is at c.in_ok-answer.ensures).unchanged
 
 pub read_on-requires-in-Untold-clause-has : goal.read_on-requires-in-Untold-clause-has
 read_on-requires-in-Untold-clause-has g c =
@@ -53,10 +53,10 @@ returns-in_err-answer-clause-feeds g c =
     (change (g.K.Sink.state c.args.out.now) (g.K.Sink.state c.args.out.now)) (Stop Memory) c.from_residual.result c.from_residual.ensures.1
     (λ taken said h. memory_halts_taken p.job p.values p.glance taken said h c.args.in_hand.now (g.K.Sink.state c.args.out.now))
 
-pub returns-in-Typed-clause-feeds : goal.returns-in-Typed-clause-feeds
-returns-in-Typed-clause-feeds g c =
+pub returns-in-Whole-clause-feeds : goal.returns-in-Whole-clause-feeds
+returns-in-Whole-clause-feeds g c =
     let p = c.args.self.now in
-    let seen = rw c.in-Typed.is at c.in_ok-answer.ensures in
+    let seen = rw c.in-Whole.is at c.in_ok-answer.ensures in
     left_feeds p.job c.args.edits c.args.limit c.requires.job p.values p.glance c.take_left.new.self c.glimpse_unchanged.new.glance c.args.in_hand.now
     (change (g.K.Sink.state c.args.out.now) (g.K.Sink.state c.take_left.new.out)) c.take_left.result c.if-not-is_left_due.ensures.0
     seen.none (seen.glance (table_of c.args.edits.requested.now.table) c.args.limit) c.take_left.ensures

@@ -1,4 +1,4 @@
-use Rattle.std.proofs.Common.{length, ap}
+use Rattle.std.proofs.Common.{length, ap, subst, sym, ◌+◌, ◌++◌}
 use Rattle.om_outcome.specs.declared.stop.Stop.TheVariants.{Memory}
 use Rattle.om_edge.specs.State.{change}
 use Rattle.om_commands.specs.Tasks.{commands}
@@ -6,9 +6,10 @@ use Rattle.om_declared.specs.Language.{declared_types}
 use Rattle.om_stops.specs.declared.stop.Halt.TheVariants.{Stop}
 use Rattle.om_type_table.specs.Made.{table_of}
 use Rattle.om_work.proofs.PieceLemmas.{feeds_halt}
+use Rattle.om_session.specs.Glimpse.{IsVerdictOn, no_in}
 use Rattle.om_session.specs.Progress.{HasTaken}
 use Rattle.om_session.specs.Values.{task_of}
-use Rattle.om_session.proofs.ProgressLemmas.{ready_to_look, is_between, short_before, seen_feeds, more_feeds, untold_taken, read_feeds, memory_halts_taken}
+use Rattle.om_session.proofs.ProgressLemmas.{ready_to_look, is_between, short_before, told_feeds, more_feeds, untold_taken, read_feeds, memory_halts_taken}
 use Rattle.om_session.proofs.progress.ProgressWork.feed.Goals as goal
 
 pub is_due-requires : goal.is_due-requires
@@ -19,19 +20,35 @@ glimpse-requires g c =
     let p = c.args.self.now in
     let t = c.requires.has in record { glance = ready_to_look p.job c.in-Some.requested c.in-Some.limit c.in-Some.ensures p.values p.glance t.0 t.1 t.2 }
 
-pub take_seen-requires-clause-some : goal.take_seen-requires-clause-some
-take_seen-requires-clause-some g c = (rw c.in-Typed.is at c.in_ok-answer.ensures).some
+pub take_told-requires-clause-some : goal.take_told-requires-clause-some
+take_told-requires-clause-some g c = (rw c.in-Yes.is at c.in_ok-seen.ensures).some
 
-pub take_seen-requires-clause-within : goal.take_seen-requires-clause-within
-take_seen-requires-clause-within g c = (rw c.in-Typed.is at c.in_ok-answer.ensures).within
+pub take_told-requires-clause-within : goal.take_told-requires-clause-within
+take_told-requires-clause-within g c = (rw c.in-Yes.is at c.in_ok-seen.ensures).within
 
-pub take_seen-requires-clause-short : goal.take_seen-requires-clause-short
-take_seen-requires-clause-short g c =
+pub take_told-requires-clause-short : goal.take_told-requires-clause-short
+take_told-requires-clause-short g c =
     let p = c.args.self.now in
     let t = c.requires.has in short_before p.job c.in-Some.requested c.in-Some.limit c.in-Some.ensures p.values p.glance t.0 t.1 (length c.args.in_hand.now) t.3 t.2
 
-pub take_seen-requires-clause-between : goal.take_seen-requires-clause-between
-take_seen-requires-clause-between g c =
+pub take_told-requires-clause-between : goal.take_told-requires-clause-between
+take_told-requires-clause-between g c =
+    let p = c.args.self.now in
+    let t = c.requires.has in is_between p.job c.in-Some.requested c.in-Some.limit c.in-Some.ensures p.values p.glance t.0 t.1 c.if-not-is_due.ensures t.2
+
+pub take_told-requires-in-No-clause-some : goal.take_told-requires-in-No-clause-some
+take_told-requires-in-No-clause-some g c = (rw c.in-No.is at c.in_ok-seen.ensures).some
+
+pub take_told-requires-in-No-clause-within : goal.take_told-requires-in-No-clause-within
+take_told-requires-in-No-clause-within g c = (rw c.in-No.is at c.in_ok-seen.ensures).within
+
+pub take_told-requires-in-No-clause-short : goal.take_told-requires-in-No-clause-short
+take_told-requires-in-No-clause-short g c =
+    let p = c.args.self.now in
+    let t = c.requires.has in short_before p.job c.in-Some.requested c.in-Some.limit c.in-Some.ensures p.values p.glance t.0 t.1 (length c.args.in_hand.now) t.3 t.2
+
+pub take_told-requires-in-No-clause-between : goal.take_told-requires-in-No-clause-between
+take_told-requires-in-No-clause-between g c =
     let p = c.args.self.now in
     let t = c.requires.has in is_between p.job c.in-Some.requested c.in-Some.limit c.in-Some.ensures p.values p.glance t.0 t.1 c.if-not-is_due.ensures t.2
 
@@ -39,7 +56,7 @@ pub read_on-requires-in-Untold-clause-has : goal.read_on-requires-in-Untold-clau
 read_on-requires-in-Untold-clause-has g c =
     let p = c.args.self.now in
     let t = c.requires.has in
-    let untold = rw c.in-Untold.is at c.in_ok-answer.ensures in
+    let untold = rw c.in-Untold.is at c.in_ok-seen.ensures in
     (t.0, t.1, untold_taken p.job c.in-Some.requested c.in-Some.limit c.in-Some.ensures p.values p.glance c.glimpse.new.glance t.0 t.1 untold.0 untold.1 t.2, t.3)
 
 pub returns-in-Edit-clause-feeds : goal.returns-in-Edit-clause-feeds
@@ -69,28 +86,39 @@ returns-then-not-is_due-clause-feeds g c = λ reads.
     read_feeds p.job new.job c.read_on-then-not-is_due.ensures.kept p.values new.values p.glance p.glance new.glance c.args.in_hand.now (change (g.K.Sink.state c.args.out.now) (g.K.Sink.state c.read_on-then-not-is_due.new.out)) c.read_on-then-not-is_due.result
     (λ taken said h. h) c.read_on-then-not-is_due.ensures.feeds
 
-pub returns-in_err-answer-clause-feeds : goal.returns-in_err-answer-clause-feeds
-returns-in_err-answer-clause-feeds g c = λ reads.
+pub returns-in_err-seen-clause-feeds : goal.returns-in_err-seen-clause-feeds
+returns-in_err-seen-clause-feeds g c = λ reads.
     let p = c.args.self.now in
     feeds_halt (commands declared_types) (task_of p.job) (HasTaken p.job p.values p.glance) (HasTaken p.job p.values c.glimpse.new.glance) c.args.in_hand.now
     (change (g.K.Sink.state c.args.out.now) (g.K.Sink.state c.args.out.now)) (Stop Memory) c.from_residual.result c.from_residual.ensures.1
     (λ taken said h. memory_halts_taken p.job p.values p.glance taken said h c.args.in_hand.now (g.K.Sink.state c.args.out.now))
 
-pub returns-in-Typed-clause-feeds : goal.returns-in-Typed-clause-feeds
-returns-in-Typed-clause-feeds g c = λ reads.
+pub returns-in-Yes-clause-feeds : goal.returns-in-Yes-clause-feeds
+returns-in-Yes-clause-feeds g c = λ reads.
     let p = c.args.self.now in
     let t = c.requires.has in
     let r = c.in-Some.requested in
     let limit = c.in-Some.limit in
-    let seen = rw c.in-Typed.is at c.in_ok-answer.ensures in
+    let seen = rw c.in-Yes.is at c.in_ok-seen.ensures in
     let look = ready_to_look p.job r limit c.in-Some.ensures p.values p.glance t.0 t.1 t.2 in
-    seen_feeds p.job r limit c.in-Some.ensures p.values p.glance c.take_seen.new.self c.glimpse.new.glance c.args.in_hand.now (change (g.K.Sink.state c.args.out.now) (g.K.Sink.state c.take_seen.new.out)) c.take_seen.result
-    seen.none (seen.glance (table_of r.now.table) limit) (c.take_seen.ensures p.glance.kept.items look.bytes look.is_front seen.yes)
+    told_feeds p.job r limit c.in-Some.ensures p.values p.glance c.take_told.new.self c.glimpse.new.glance c.args.in_hand.now (change (g.K.Sink.state c.args.out.now) (g.K.Sink.state c.take_told.new.out)) c.take_told.result
+    seen.none (seen.glance (table_of r.now.table) limit) (c.take_told.ensures p.glance.kept.items look.bytes look.is_front seen.verdict)
+
+pub returns-in-No-clause-feeds : goal.returns-in-No-clause-feeds
+returns-in-No-clause-feeds g c = λ reads.
+    let p = c.args.self.now in
+    let t = c.requires.has in
+    let r = c.in-Some.requested in
+    let limit = c.in-Some.limit in
+    let seen = rw c.in-No.is at c.in_ok-seen.ensures in
+    let look = ready_to_look p.job r limit c.in-Some.ensures p.values p.glance t.0 t.1 t.2 in
+    told_feeds p.job r limit c.in-Some.ensures p.values p.glance c.take_told-in-No.new.self c.glimpse.new.glance c.args.in_hand.now (change (g.K.Sink.state c.args.out.now) (g.K.Sink.state c.take_told-in-No.new.out)) c.take_told-in-No.result
+    seen.none (seen.glance (table_of r.now.table) limit) (c.take_told-in-No.ensures p.glance.kept.items look.bytes look.is_front (subst (λ text. IsVerdictOn r.now limit (length p.glance.kept.items + c.in-No.n) (p.glance.kept.items ++ c.args.in_hand.now) (no_in text)) (sym c.as_slice.ensures) seen.verdict))
 
 pub returns-in-More-clause-feeds : goal.returns-in-More-clause-feeds
 returns-in-More-clause-feeds g c = λ reads.
     let p = c.args.self.now in
-    let more = rw c.in-More.is at c.in_ok-answer.ensures in
+    let more = rw c.in-More.is at c.in_ok-seen.ensures in
     more_feeds p.job c.in-Some.requested c.in-Some.limit c.in-Some.ensures p.values p.glance c.glimpse.new.glance c.args.in_hand.now (g.K.Sink.state c.args.out.now) c.requires.some c.if-not-is_due.ensures more.0 more.1
 
 pub returns-in-Untold-clause-kept : goal.returns-in-Untold-clause-kept
@@ -101,6 +129,6 @@ returns-in-Untold-clause-feeds g c = λ reads.
     let p = c.args.self.now in
     let new = c.read_on-in-Untold.new.self in
     let glance = c.glimpse.new.glance in
-    let untold = rw c.in-Untold.is at c.in_ok-answer.ensures in
+    let untold = rw c.in-Untold.is at c.in_ok-seen.ensures in
     read_feeds p.job new.job c.read_on-in-Untold.ensures.kept p.values new.values p.glance glance new.glance c.args.in_hand.now (change (g.K.Sink.state c.args.out.now) (g.K.Sink.state c.read_on-in-Untold.new.out)) c.read_on-in-Untold.result
     (λ taken said h. untold_taken p.job c.in-Some.requested c.in-Some.limit c.in-Some.ensures p.values p.glance glance taken said untold.0 untold.1 h) c.read_on-in-Untold.ensures.feeds

@@ -9,8 +9,8 @@ use Rattle.om_session.proofs.values.Values.put_line.Goals as goal
 pub overflow_add-self : goal.overflow_add-self
 overflow_add-self g c = let room = room_for_one (Say c.args.speech c.args.limit) c.requires.0 c.requires.1 c.args.self.now c.requires.2 c.requires.3 in omega (arith, room)
 
-pub put_said-requires : goal.put_said-requires
-put_said-requires g c =
+pub invariant_of-lent : goal.invariant_of-lent
+invariant_of-lent g c =
     let v = c.requires.2 in
     record { value = (c.lend-value.ensures c.args.limit v.whole v.leads).is_value.valid }
 

@@ -11,8 +11,8 @@ overflow_add-self g c =
     let room = room_for_one w.requested.now w.sections.now w.limit w.reader w.count w.well q.0 q.1
     q.2 q.3 in omega (arith, room)
 
-pub put_shown-requires : goal.put_shown-requires
-put_shown-requires g c =
+pub invariant_of-lent : goal.invariant_of-lent
+invariant_of-lent g c =
     let w = c.args.self.now in
     let v = c.requires.2 in
     let leads : Leads w.limit v.whole c.replace-reader.result =

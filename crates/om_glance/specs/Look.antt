@@ -1,0 +1,36 @@
+-- What a look at the bytes of a value shows.
+use Rattle.std.specs.Prelude.{ℕ, ◌+◌, ◌<◌, ◌≤◌, ◌≡◌, true, List, length, drop}
+use Rattle.om_types.specs.Table.{Table}
+use Rattle.om_format.specs.Front.{IsFront}
+use Rattle.om_cut.specs.Cut.{IsCut}
+use Rattle.om_pass_law.specs.OnePass.{IsTypedFront}
+use Rattle.om_pass.specs.State.{IsUnderway}
+use Rattle.om_misfit.specs.Find.{IsFound, IsSought}
+use Rattle.om_glance.specs.declared.look.Looking.{Looking}
+use Rattle.om_glance.specs.declared.look.Seen.{Seen}
+use Rattle.om_glance.specs.declared.look.Seen.TheVariants as seen
+
+-- where tokens are begun the bytes lead to what is passed, and where a misfit is sought they lead
+-- to what is known of it
+pub record IsLooking (table : Table) (limit : ℕ) (bytes : List ℕ) (looking : Looking)
+    : Type 0 where
+  pub underway : looking.begun ≡ true → IsUnderway table limit bytes looking.passing
+  pub sought : looking.sought ≡ true → IsSought table limit bytes looking.seeking
+
+-- what a look at all bytes of the value so far shows, and what is then known of it
+abbrev pub IsSeen : Table → ℕ → List ℕ → Looking → Seen → Type 0
+IsSeen table limit bytes looking (seen.Typed n) = IsTypedFront table limit n bytes
+IsSeen table limit bytes looking (seen.Missed n found) =
+    IsFound table limit n bytes found × (found.ty < length table.nodes)
+IsSeen table limit bytes looking seen.More =
+    IsFront limit bytes × IsLooking table limit bytes looking
+IsSeen table limit bytes looking seen.Untold = Unit {0}
+
+-- after n bytes stands a part of a token, and a header that states so many bytes has room for it
+-- and for so many values more
+pub record HasRoomAfter
+    (stated start n few32 few64 : ℕ) (bytes : List ℕ) (most : ℕ)
+    : Type 0 where
+  pub long : ℕ
+  pub cut : IsCut long few32 few64 (drop n bytes)
+  pub room : n + long + most ≤ start + stated + 1

@@ -1,0 +1,228 @@
+//! A look at the value in hand: a pass over its bytes, and where that tells nothing a search for
+//! its one misfit, from its first byte on.
+
+ghost use Rattle.std.specs.Prelude.{ℕ, ◌<◌, length, IfSome};
+ghost use Rattle.std.specs.Bool.{OnTrue};
+ghost use Rattle.om_types.specs.Table.{Table};
+ghost use Rattle.om_format.specs.Front.{IsFront};
+ghost use Rattle.om_misfit_law.specs.PassedBut.{values_at};
+ghost use Rattle.om_pass.specs.State.{needs_in, IsUnderway};
+ghost use Rattle.om_misfit.specs.Find.{IsSought};
+ghost use Rattle.om_misfit.specs.Way.{way_places};
+ghost use Rattle.om_glance.specs.Look.{HasRoomAfter};
+
+use om_cut::cut_len;
+use om_headers::{HeaderStep, parse};
+use om_misfit::{End, Found, Seeking};
+use om_model::Memory;
+use om_pass::{Passing, Stop, Words};
+use om_type_table::TypeTable;
+use std::alloc::Global;
+
+/// What all bytes of the value so far show.
+#[derive(Drop)]
+pub enum Seen {
+    /// So many of them are a value that has the type.
+    Typed(usize),
+    /// So many of them are a value whose least fault is this misfit.
+    Missed(usize, Found),
+    /// They are a front of a value.
+    More,
+    /// Nothing.
+    Untold,
+}
+
+/// Whether the bytes are a part of a header, of which nothing is refused.
+fn is_header_cut(bytes: &[u8]) -> bool
+    ensures { OnTrue result ((limit : ℕ) → IsFront limit bytes.now) }
+{
+    matches!(parse(bytes), Ok(HeaderStep::More(_)))
+}
+
+/// How many values may be open where a part of a token stands after so many bytes, by the data
+/// bytes that the header states, and the words that are still to come.
+fn room_after(stated: u64, words: Words, start: usize, at: usize, bytes: &[u8]) -> Option<u64>
+    ensures { IfSome result (HasRoomAfter stated start at words.w32 words.w64 bytes.now) }
+{
+    if bytes.len() < at {
+        return None;
+    }
+    let n = cut_len(&bytes[at..], words.w32, words.w64)?;
+    let taken = at.checked_sub(start)?;
+    let room = stated.checked_sub(taken as u64)?;
+    let others = room.checked_sub(n)?;
+    others.checked_add(1)
+}
+
+/// Whether the bytes are surely a front of a value, where the pass stopped before a token that is
+/// cut. What may be looked at again is counted down.
+fn is_front(passing: &Passing<'_>, left: &mut u64, bytes: &[u8]) -> bool
+    ensures { OnTrue result ((table : Table) (limit : ℕ)
+        → IsUnderway table limit bytes.now passing.now → 0 < length (needs_in passing.now.state)
+        → IsFront limit bytes.now) }
+{
+    let words = passing.state.words;
+    let room = room_after(passing.head.length, words, passing.start, passing.at, bytes);
+    let Some(most) = room else {
+        return false;
+    };
+    passing.state.places.are_within(most, left)
+}
+
+/// The same where the search stopped.
+fn is_front_but(seeking: &Seeking<'_>, left: &mut u64, bytes: &[u8]) -> bool
+    ensures { OnTrue result ((table : Table) (limit : ℕ)
+        → IsSought table limit bytes.now seeking.now
+        → 0 < values_at (way_places seeking.now.finding.way)
+        → IsFront limit bytes.now) }
+{
+    let words = seeking.finding.words;
+    let room = room_after(seeking.head.length, words, seeking.start, seeking.at, bytes);
+    let Some(most) = room else {
+        return false;
+    };
+    seeking.are_within(most, left)
+}
+
+/// How far the value in hand was passed, and, where that told nothing, how far its misfit was
+/// sought.
+#[derive(Drop)]
+pub struct Looking<'a> {
+    pub begun: bool,
+    pub passing: Passing<'a>,
+    pub sought: bool,
+    pub seeking: Seeking<'a>,
+}
+
+impl<'a> Looking<'a> {
+    ghost use Rattle.std.specs.Prelude.{ℕ, List, IfOk};
+    ghost use Rattle.om_types.specs.Table.{Table};
+    ghost use Rattle.om_type_table.specs.Made.{table_of};
+    ghost use Rattle.om_misfit.specs.Find.{IsSought};
+    ghost use Rattle.om_glance.specs.Look.{IsLooking, IsSeen};
+
+    /// Nothing was looked at. It takes no memory.
+    pub fn new(alloc: Global) -> Looking<'a>
+        ensures { (table : Table) (limit : ℕ) (bytes : List ℕ)
+            → IsLooking table limit bytes result }
+    {
+        Looking {
+            begun: false,
+            passing: Passing::new(alloc),
+            sought: false,
+            seeking: Seeking::new(alloc),
+        }
+    }
+
+    /// The next look is at another value, in the same memory.
+    pub fn restart(&mut self)
+        ensures { (table : Table) (limit : ℕ) (bytes : List ℕ)
+            → IsLooking table limit bytes self.new }
+    {
+        self.begun = false;
+        self.sought = false;
+    }
+
+    /// The same, and the memory of the search is given back.
+    pub fn forget(&mut self, alloc: Global)
+        ensures { (table : Table) (limit : ℕ) (bytes : List ℕ)
+            → IsLooking table limit bytes self.new }
+    {
+        self.seeking = Seeking::new(alloc);
+        self.restart();
+    }
+
+    /// Looks at the value that begins the bytes, from where the last look ended. No search begins
+    /// before the pass tells nothing.
+    pub fn look(
+        &mut self,
+        alloc: Global,
+        table: &'a TypeTable,
+        limit: u64,
+        bytes: &[u8],
+    ) -> Result<Seen, Memory>
+        requires looking { IsLooking (table_of table.now) limit bytes.now self.old }
+        ensures { IfOk result (IsSeen (table_of table.now) limit bytes.now self.new) }
+    {
+        if self.sought {
+            return self.seek(alloc, table, limit, bytes);
+        }
+        if !self.begun {
+            if !self.passing.begin(bytes, limit)? {
+                if is_header_cut(bytes) {
+                    return Ok(Seen::More);
+                }
+                return Ok(Seen::Untold);
+            }
+            self.begun = true;
+        }
+        match self.passing.go(table, limit, bytes)? {
+            Stop::Typed(n) => Ok(Seen::Typed(n)),
+            Stop::Cut(_) => {
+                let mut left = self.passing.left;
+                let is_front = is_front(&self.passing, &mut left, bytes);
+                self.passing.left = left;
+                if is_front {
+                    Ok(Seen::More)
+                } else {
+                    Ok(Seen::Untold)
+                }
+            }
+            Stop::Untold => self.search(alloc, table, limit, bytes),
+        }
+    }
+
+    /// The search begins, at the value's first byte.
+    fn search(
+        &mut self,
+        alloc: Global,
+        table: &'a TypeTable,
+        limit: u64,
+        bytes: &[u8],
+    ) -> Result<Seen, Memory>
+        ensures { IfOk result (IsSeen (table_of table.now) limit bytes.now self.new) }
+    {
+        if !self.seeking.begin(bytes, limit) {
+            return Ok(Seen::Untold);
+        }
+        self.seek(alloc, table, limit, bytes)
+    }
+
+    /// The search goes on. Where it has to wait for more bytes, the memory of the pass is given
+    /// back.
+    fn seek(
+        &mut self,
+        alloc: Global,
+        table: &'a TypeTable,
+        limit: u64,
+        bytes: &[u8],
+    ) -> Result<Seen, Memory>
+        requires sought { IsSought (table_of table.now) limit bytes.now self.old.seeking }
+        ensures { IfOk result (IsSeen (table_of table.now) limit bytes.now self.new) }
+    {
+        self.begun = false;
+        self.sought = true;
+        match self.seeking.go(alloc, table, limit, bytes)? {
+            End::Found(n) => {
+                let Some(found) = self.seeking.finding.found.take() else {
+                    return Ok(Seen::Untold);
+                };
+                if found.ty >= table.count() {
+                    return Ok(Seen::Untold);
+                }
+                Ok(Seen::Missed(n, found))
+            }
+            End::Cut => {
+                let mut left = self.seeking.left;
+                let is_front = is_front_but(&self.seeking, &mut left, bytes);
+                self.seeking.left = left;
+                if !is_front {
+                    return Ok(Seen::Untold);
+                }
+                self.passing = Passing::new(alloc);
+                Ok(Seen::More)
+            }
+            End::Untold => Ok(Seen::Untold),
+        }
+    }
+}
