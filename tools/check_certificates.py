@@ -7,7 +7,8 @@ Without FOLDER, on values that OCaml writes here (expected/shown_values.ml), eac
 FOLDER has files of OCaml itself, each at its type: KEEP=FOLDER tools/check_real_files.sh keeps them there.
 
 For each value a certificate is made here by a search from the root, and then changed: a pair left out, added or altered,
-a line left out or doubled, a number one greater or less. Both have to put the same text on out and on err, with the same
+a line left out or doubled, a number one greater or less; 23 times where the value has less than 10,000 bytes, seven times
+below 100,000, once above. Both have to put the same text on out and on err, with the same
 status, and the certificate that was not changed has to be accepted. What `check --cert` puts has to be accepted by both
 too, with the line and the status of `check`; and to be the certificate that is made here, but for a clash, of which any
 is made here. PROGRAM is by default the one that `./omarshal` built.
@@ -31,28 +32,37 @@ from value_has_type import Declarations, Input, read_type, read_value
 
 def made(table, root, objects):
     """The lines of a section without its number: the pairs that paths reach, or a fault."""
-    met, first, row = {}, {}, [(root, 0, ())]
+    met, first, row = {}, {}, [(root, 0, None)]
     while row:
         later = []
         for value, t, path in row:
             good, _, needs = table.fit(value, t, objects)
             if not good:
-                return [f"misfit {path_text(path)}"]
+                return [f"misfit {path_text(steps_of(path))}"]
             pair = value[0] == "ref" and (value[1], table.classes[t])
             if not pair or pair in met:
                 continue
             met[pair] = t
             first.setdefault(value[1], []).append((path, t))
-            later += [(objects[value[1]][2][step], u, path + (step,)) for step, u in needs.items()]
-        row = sorted(later, key=lambda place: place[2])
+            later += [(objects[value[1]][2][step], u, (path, step)) for step, u in needs.items()]
+        row = later
     for o, places in first.items():
         if len(places) > 1 and any(table.fit(("ref", o), t, objects)[1] for _, t in places):
             mutable = next(place for place in places if table.fit(("ref", o), place[1], objects)[1])
-            other = next(place for place in places if place != mutable)
-            one, two = sorted([mutable[0], other[0]], key=lambda path: (len(path), path))
+            other = next(place for place in places if place is not mutable)
+            one, two = sorted([steps_of(mutable[0]), steps_of(other[0])], key=lambda path: (len(path), path))
             return [f"clash {path_text(one)} {path_text(two)}"]
     least = {c: table.classes.index(c) for c in table.classes}
     return ["yes"] + [f"pair {o} {t}" for o, t in sorted((o, least[c]) for o, c in met)]
+
+
+def steps_of(path):
+    """The steps of a path, which is met as the path before its last step, and that step: so paths share what they have."""
+    steps = []
+    while path:
+        path, step = path
+        steps.append(step)
+    return steps[::-1]
 
 
 def path_text(path):
@@ -86,7 +96,7 @@ def changed(lines, draw):
 
 
 class Asked:
-    """A table that is asked of the values of one heap: it keeps its answers."""
+    """A table that is asked of the values of one heap, if that is not large: it keeps its answers."""
 
     def __init__(self, table):
         self.table, self.types, self.classes, self.told = table, table.types, table.classes, {}
@@ -102,7 +112,7 @@ class Case:
     the type, and the certificate that is made here."""
 
     def __init__(self, words, stream, table):
-        self.words, self.stream, self.table = words, stream, Asked(table)
+        self.words, self.stream, self.table = words, stream, Asked(table) if len(stream) < 100_000 else table
         reading = Input(stream)
         self.value, self.end = read_value(reading), reading.at
         lines = made(self.table, *self.value)
@@ -197,6 +207,11 @@ def table_of(types, name, known={}):
     return known[types, name]
 
 
+def turns(size):
+    """How many certificates are tried of a value of so many bytes, the first of which is not changed."""
+    return 24 if size < 10_000 else 8 if size < 100_000 else 2
+
+
 def compared(work):
     """What came of one value: the lines to be printed, how many certificates were put, and how many answers there were of
     each kind."""
@@ -209,7 +224,7 @@ def compared(work):
         put = case.wrong_with_put(program)
         if put:
             wrong.append(f"FAILED: check --cert of {path} at {name} {put}")
-        for turn in range(24 if name == names[0] else 4):
+        for turn in range(turns(len(stream)) if name == names[0] else 4):
             lines = changed(case.lines, draw) if turn else case.lines
             got, wanted = case.by_both(program, text_of(lines))
             kind = re.search("Range|Unfit|Need|TwoTypes|Root|NotFault|Syntax|no section|sections left", wanted[1])
