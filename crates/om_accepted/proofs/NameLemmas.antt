@@ -6,7 +6,7 @@ use Rattle.std.proofs.lemmas.List.Elements.{Contains-append_left, Contains-appen
 use Rattle.om_model.proofs.Options.{none_or_some, same_or_not, Contains-first, Contains-map}
 use Rattle.om_types.specs.declared.decl.Predeclared.{Predeclared}
 use Rattle.om_types.specs.declared.decl.Decl.{Decl}
-use Rattle.om_types.specs.Accepted.{types_of_body, TakeArguments, VariablesAmong}
+use Rattle.om_types.specs.Accepted.{TakeArguments, VariablesAmong}
 use Rattle.om_types.specs.Declarations.{predeclared, declaration_of, predeclared_arity, arity_in, arity_of}
 use Rattle.om_types.specs.Occurrence.{Occurrence, use_of, variable_at, bracket_of, DeclPlaces}
 use Rattle.om_types.specs.Scope.{twice, unknown_name, arity, unbound_variable, decls_of, BreaksIn}

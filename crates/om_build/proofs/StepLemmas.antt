@@ -1,5 +1,5 @@
 -- What comes of a line, in code: its value, or why there is none; and its bytes, or a halt.
-use Rattle.std.proofs.Common.{ℕ, ◌≡◌, ◌+◌, Bool, false, List, length, Option, Some, None, Result, Ok, Err, inl, inr, refl, sym, ap, ◌∙◌, subst, arith}
+use Rattle.std.proofs.Common.{ℕ, ◌≡◌, ◌+◌, Bool, false, List, length, Option, Some, None, Result, Ok, Err, inl, inr, refl, sym, ap, ◌∙◌, subst}
 use Rattle.std.specs.Prelude.{IfOk, IsErrAnd}
 use Rattle.om_model.specs.declared.out_of_memory.Memory.{Memory}
 use Rattle.om_model.specs.declared.value.Val.{Val}
@@ -16,7 +16,7 @@ use Rattle.om_lines.specs.Lines.{place_on}
 use Rattle.om_decimal_texts.specs.declared.decimals.Decimal.{Decimal}
 use Rattle.om_decl.specs.Text.{lexer_text}
 use Rattle.om_edit.specs.Reasons.{literal_text}
-use Rattle.om_outcome.specs.Outcome.{Unedited, nothing_said}
+use Rattle.om_outcome.specs.Outcome.{Unedited}
 use Rattle.om_outcome.specs.declared.stop.Stop.TheVariants.{Text as text_line, Memory as out_of_memory}
 use Rattle.om_edge.specs.State.{ByteState, Change, change}
 use Rattle.om_promises.proofs.PutLemmas.{puts_nothing}
@@ -30,7 +30,7 @@ use Rattle.om_declared.specs.Checked.{ChecksType}
 use Rattle.om_declared.specs.Language.{TypeOver, bytes_for, AreBytesOf}
 use Rattle.om_declared.specs.Types.{type_over, IsReady}
 use Rattle.om_declared.specs.declared.requested.Prepared.{Prepared}
-use Rattle.om_texts.specs.Texts.{blank, made, refused, untyped, put_bytes}
+use Rattle.om_texts.specs.Texts.{made, refused, untyped, put_bytes}
 use Rattle.om_build.specs.Given.{given_fault}
 use Rattle.om_build.specs.Lines.{IsText, IsMade, plain_texts, decimals_if, plain_if, told_on}
 use Rattle.om_build.specs.Steps.{IsFaultText, ReadsLine, HaltsBy, PutsValue, PutsBy, PutsLine}
@@ -215,13 +215,6 @@ module _ (r : Prepared) (told : ℕ → ℕ → List ℕ) (line : List ℕ) (num
   read_halts new out (halts.Stop stop) (inl memory) = (inl memory, puts_nothing out)
   read_halts new out (halts.Stop stop) (inr (refusal, is, spelled)) =
       (inr (refused refusal, is, spelled), puts_nothing out)
-
-  pub blank_puts :
-      (out : ByteState) → plain_texts (type_over r) told line blank
-      → PutsBy (plain_texts (type_over r) told line) number k (change out out) (Ok k)
-  blank_puts out is = (blank, is, nothing_said, refl, puts_nothing out, add_none k) where
-    add_none : (k : ℕ) → k ≡ k + 0
-    add_none k = omega arith
 
   pub value_counts :
       (out : Change ByteState)

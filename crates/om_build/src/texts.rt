@@ -98,7 +98,7 @@ impl Work for Texts<'_> {
 
     ghost act = { λ w. type_over w.requested.now };
 
-    ghost has = { λ w bytes said. HasTexts w.requested.now w.held.items w.lines w.texts bytes said };
+    ghost has = { λ w read said. HasTexts w.requested.now w.held.items w.lines w.texts read said };
 
     fn reads(&self) -> bool {
         true

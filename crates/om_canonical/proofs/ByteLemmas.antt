@@ -58,10 +58,6 @@ signed-signed_bytes k (negsuc n) h =
 
 -- ---- the least significant first
 
-length-low : (i k n : ℕ) → length (bytes_low_first i k n) ≡ k
-length-low i zero n = refl
-length-low i (suc k) n = ap suc (length-low (suc i) k n)
-
 next_digit : (i n : ℕ) → n / 256 ^ suc i ≡ n / 256 ^ i / 256
 next_digit i n = ap (λ m. n / m) (pow-suc 256 i) ∙ sym (div-div-eq-div-mul n (256 ^ i) 256)
 

@@ -7,9 +7,6 @@ use Rattle.om_model.proofs.Options.{Contains-first, Contains-later, Contains-non
 
 -- ---- options
 
-pub IsSomeAnd-is : {A : Type 0} (o : Option A) (x : A) (P : A → Type 0) → o ≡ Some x → IsSomeAnd o P → P x
-IsSomeAnd-is o x P is holds = subst (λ p. IsSomeAnd p P) is holds
-
 pub IsSomeAnd-weaker : {A : Type 0} (o : Option A) (P Q : A → Type 0) → ((x : A) → P x → Q x) → IsSomeAnd o P → IsSomeAnd o Q
 IsSomeAnd-weaker None P Q weaker holds = holds
 IsSomeAnd-weaker (Some x) P Q weaker holds = weaker x holds

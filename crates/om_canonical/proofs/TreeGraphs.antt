@@ -1,5 +1,5 @@
 -- The objects of a tree are a graph, and its root is a value of it, the same as itself.
-use Rattle.std.proofs.Common.{ℕ, ◌+◌, ◌≤◌, ◌∷◌, ◌++◌, length, arith}
+use Rattle.std.proofs.Common.{ℕ, ◌+◌, ◌≤◌, length, arith}
 use Rattle.std.specs.List.{AllByRecursion}
 use Rattle.std.proofs.lemmas.List.Elements.{All-from_recursion}
 use Rattle.om_model.specs.declared.value.Obj.{Obj}

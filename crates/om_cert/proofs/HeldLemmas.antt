@@ -51,12 +51,6 @@ here true other is = refl
 here false other is = absurd (false≢true is)
 
 module _ (table : Table) (pairs : List (ℕ × ℕ)) where
-  pub crowd_none : (has : ℕ → ℕ → Type 0) → ((o c : ℕ) → ¬ has o c) → AreCrowded table pairs 16 has
-  crowd_none has none = record {
-    some = λ o c is. absurd (none o c is);
-    all = λ k o s t c less. absurd (omega (arith, less));
-  }
-
   -- at a place with no 16 of its object before it there is nothing to enter
   pub crowd_same :
       (i o t : ℕ) (has : ℕ → ℕ → Type 0) → AreCrowded table pairs i has → slice_get pairs i ≡ Some (o, t)
@@ -101,12 +95,6 @@ module _ (table : Table) (pairs : List (ℕ × ℕ)) where
   } where
     last : (k i : ℕ) → k + 16 < i + 1 → (k + 16 < i) ⊎ (k + 16 ≡ i)
     last k i less = ⊎_elim (λ same. inr same) (λ other. inl (omega (arith, less, other))) (same_or_not (k + 16) i)
-
-  pub crowd_all : (i : ℕ) (crowd : BTreeSet (ℕ × ℕ)) → length pairs ≤ i → AreCrowded table pairs i (is_in crowd) → IsCrowd table pairs crowd
-  crowd_all i crowd many are = record {
-    some = are.some;
-    all = λ k o s t c less at_k at_next class. are.all k o s t c (omega (arith, less, many)) at_k at_next class;
-  }
 
   -- ---- at a place
 

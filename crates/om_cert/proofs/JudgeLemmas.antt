@@ -19,7 +19,7 @@ use Rattle.om_cert.specs.declared.verified.Why.TheVariants.{Range, Unfit, Need, 
 use Rattle.om_cert.specs.declared.verified.Verified.TheVariants.{Rejected}
 use Rattle.om_cert.specs.Accepted.{AreAccepted}
 use Rattle.om_cert.specs.Verified.{IsThere, LacksNeed, IsAtTwoTypes, IsWrong, IsVerified, fault_section, place_of}
-use Rattle.om_cert.specs.Testing.{AreAllThere, IsFirstOut, IsRight, IsRightAt, AreRight, IsWrongWith, IsFirstAt}
+use Rattle.om_cert.specs.Testing.{AreAllThere, IsRight, IsRightAt, AreRight, IsWrongWith, IsFirstAt}
 
 -- ---- places
 
@@ -93,21 +93,6 @@ module _ (table : Table) (graph : List Obj) (root : Val) (pairs : List (ℕ × �
       (less_same_more k i)
 
   -- ---- rejected
-
-  pub range_rejected : (i : ℕ) → IsFirstOut table graph pairs i → IsVerified table graph root (sections.Pairs pairs) (Rejected (Range i))
-  range_rejected i out = inr (Range i, record { is = out.out; first = none }, refl) where
-    none : (other : Why) → IsWrong table graph root pairs other → ¬ IsLexicallyBefore (place_of other) (0 ∷ i ∷ 0 ∷ 0 ∷ [])
-    none (Range k) wrong (inl less) = absurd (omega (arith, less))
-    none (Range k) wrong (inr (one, inl less)) =
-        let p = IsSomeAnd-some (slice_get pairs k) (λ pair. ¬ IsThere table graph pair) wrong in p.2 (out.before k p.0 less p.1)
-    none (Range k) wrong (inr (one, inr (two, inl less))) = absurd (omega (arith, less))
-    none (Range k) wrong (inr (one, inr (two, inr (three, inl less)))) = absurd (omega (arith, less))
-    none (Range k) wrong (inr (one, inr (two, inr (three, inr (four, never))))) = never
-    none (Unfit k) wrong before = later_round 1 k 0 0 0 i 0 0 (omega arith) before
-    none (Need k f) wrong before = later_round 1 k 1 f 0 i 0 0 (omega arith) before
-    none (TwoTypes k) wrong before = later_round 1 k 2 0 0 i 0 0 (omega arith) before
-    none Root wrong before = later_round 2 0 0 0 0 i 0 0 (omega arith) before
-    none NotFault wrong before = wrong
 
   module _ (there : AreAllThere table graph pairs) where
     pub pair_rejected :

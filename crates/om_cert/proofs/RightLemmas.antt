@@ -3,7 +3,7 @@ use Rattle.std.proofs.Common.{ℕ, ◌<◌, ◌≤◌, ◌+◌, ◌%◌, ◌≡�
 use Rattle.std.specs.Prelude.{Contains, slice_get, IsTrue, ◌↔◌}
 use Rattle.std.specs.Bool.{OnTrue}
 use Rattle.std.proofs.lemmas.Bool.{false≢true}
-use Rattle.std.proofs.lemmas.Option.{same_Some, slice_get_within}
+use Rattle.std.proofs.lemmas.Option.{slice_get_within}
 use Rattle.om_model.proofs.Lists.{Contains-place as place_in}
 use Rattle.om_model.proofs.Numbers.{less_same_more}
 use Rattle.om_model.specs.Graph.{IsValue, IsGraph}
@@ -18,10 +18,9 @@ use Rattle.om_types.specs.Lawful.{AreLawful, Everything}
 use Rattle.om_types.specs.Table.{Table, table_shapes, node_or_none, is_asked_in}
 use Rattle.om_cert.specs.declared.right.Worded.{Worded}
 use Rattle.om_cert.specs.Verified.{IsThere}
-use Rattle.om_cert.specs.Testing.{StandsAt, HoldsAll, AreAllThere, AreRight, IsRight, IsRightAt}
+use Rattle.om_cert.specs.Testing.{StandsAt, AreAllThere, AreRight, IsRight, IsRightAt}
 use Rattle.om_cert.specs.Right.{AllFit, IsBacked, IsWorded, IsRightWithAll, AreRightWithAll}
 use Rattle.om_cert.proofs.HeldLemmas.{no_object_held, stands_held, stands_at}
-use Rattle.om_cert.proofs.TestLemmas.{right_is}
 
 module _ (table : Table) (graph : List Obj) (pairs : List (ℕ × ℕ)) where
   -- ---- one value
@@ -68,16 +67,6 @@ module _ (table : Table) (graph : List Obj) (pairs : List (ℕ × ℕ)) where
       → (u : ℕ) → Contains pairs (o, u) → (table_shapes table).mutable graph o t → (table_shapes table).equal t u
   fixed_is_at_one_type o t shape at_type fixed u among mutable =
       absurd (false≢true (sym fixed ∙ (ap (λ n. is_mutable (node_or_none n) (slice_get graph o)) (sym at_type) ∙ mutable.1)))
-
-  -- where a pair fits, and the rest is known if all pairs do
-  pub right_with_all :
-      (i o t : ℕ) → slice_get pairs i ≡ Some (o, t) → (table_shapes table).fits graph (vals.Ref o) t → (AllFit table graph pairs → HoldsAll table graph pairs o t)
-      → ((u : ℕ) → Contains pairs (o, u) → (table_shapes table).mutable graph o t → (table_shapes table).equal t u) → IsRightWithAll table graph pairs i
-  right_with_all i o t at_i fits holds one_type = record {
-    fits = λ p at. let same : ◌≡◌ {A = ℕ × ℕ} (o, t) p = same_Some (o, t) p (sym at_i ∙ at) in
-        subst (λ (q : ℕ × ℕ). (table_shapes table).fits graph (vals.Ref q.0) q.1) same fits;
-    right = λ all. right_is table graph pairs i (o, t) at_i fits (holds all) one_type;
-  }
 
   -- ---- all pairs
 

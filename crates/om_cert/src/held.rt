@@ -198,8 +198,8 @@ pub fn is_elsewhere_behind(
     false
 }
 
-/// Whether the value of a word is held at a type: it fits, and where it is a reference some pair has
-/// its object at an equal type.
+/// Whether the value of a word is held at a type: it fits, and where it is a reference some pair
+/// has its object at an equal type.
 pub fn is_held(stated: Stated<'_>, crowd: &BTreeSet<(u64, usize)>, word: u64, ty: usize) -> bool
     requires word { IsFieldWord stated.heap.now word }
     requires crowd { IsCrowd (table_in stated.fitting) stated.pairs.now crowd.now }

@@ -33,8 +33,8 @@ pub struct Worded {
 }
 
 /// Whether the pairs are accepted for a value at the type that is number 0. Where they are this
-/// mostly tells it: not for objects of more than 16 pairs, nor for one that may be changed and stands
-/// at two equal types.
+/// mostly tells it: not for objects of more than 16 pairs, nor for one that may be changed and
+/// stands at two equal types.
 pub fn are_accepted(root: Val, stated: Stated<'_>) -> bool
     requires value { IsValue (length stated.heap.now) root }
     ensures { OnTrue result (AreAccepted (table_shapes (table_in stated.entry.fitting))

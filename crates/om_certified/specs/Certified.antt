@@ -1,6 +1,6 @@
 -- What `check --cert` put is the certificate of `verify`: of the same input, at the same FILE and
 -- TYPE, it is accepted, and the lines of `check` come out.
-use Rattle.std.specs.Prelude.{ℕ, ◌≤◌, ◌≡◌, ◌≢◌, ◌⊎◌, Bool, List, [], ◌++◌, Some, Ok}
+use Rattle.std.specs.Prelude.{ℕ, ◌≤◌, ◌≡◌, ◌≢◌, ◌⊎◌, Bool, List, [], Some, Ok}
 use Rattle.om_types.specs.declared.decl.Decl.{Decl}
 use Rattle.om_format.specs.Stream.{SpellAll}
 use Rattle.om_format.specs.Tree.{Tree}

@@ -5,7 +5,7 @@ use Rattle.std.proofs.lemmas.Option.{same_Some, none-some}
 use Rattle.om_model.proofs.Options.{same_or_not}
 use Rattle.om_types.specs.Table.{Table}
 use Rattle.om_cert.specs.Normal.{IsLeast}
-use Rattle.om_certify.specs.Leasts.{IsLeastOf, AreNoted}
+use Rattle.om_certify.specs.Leasts.{AreNoted}
 
 module _ (table : Table) where
   pub noted_none : (noted : ℕ → Option ℕ) → ((c : ℕ) → noted c ≡ None) → AreNoted table 0 noted
@@ -13,23 +13,6 @@ module _ (table : Table) where
     there = λ c l is. absurd (none-some l (sym (none c) ∙ is));
     all = λ t c less at_t. absurd (omega (arith, less));
   }
-
-  -- a type whose class has a noted one
-  pub noted_again :
-      (noted : ℕ → Option ℕ) (t c l : ℕ) → AreNoted table t noted → slice_get table.classes t ≡ Some c → noted c ≡ Some l
-      → AreNoted table (t + 1) noted
-  noted_again noted t c l are at_t is = record {
-    there = are.there;
-    all = λ u d less at_u. ⊎_elim
-        (λ same. (l, ap noted (same_Some d c (sym at_u ∙ ap (slice_get table.classes) same ∙ at_t)) ∙ is))
-        (λ apart. are.all u d (omega (arith, less, apart)) at_u)
-        (same_or_not u t);
-  }
-
-  pub least_again :
-      (noted : ℕ → Option ℕ) (t c l : ℕ) → AreNoted table t noted → slice_get table.classes t ≡ Some c → noted c ≡ Some l
-      → IsLeastOf table t l
-  least_again noted t c l are at_t is = let first = are.there c l is in (first.1, first.0 ∙ sym at_t)
 
   module _ (old : ℕ → Option ℕ) (t c : ℕ) (are : AreNoted table t old) (at_t : slice_get table.classes t ≡ Some c) (none : old c ≡ None) where
     -- a type whose class has none is the first of its class

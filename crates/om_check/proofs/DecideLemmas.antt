@@ -1,25 +1,20 @@
 -- The start of a check, and its answers.
-use Rattle.std.proofs.Common.{ℕ, zero, suc, ◌<◌, ◌≡◌, ◌∙◌, inl, inr, List, [], ◌∷◌, ◌++◌, length, Option, Some, None, refl, sym, ap, subst, arith}
-use Rattle.std.specs.Prelude.{slice_get, option_map, Contains}
+use Rattle.std.proofs.Common.{ℕ, zero, suc, ◌<◌, ◌≡◌, ◌∙◌, inl, inr, List, [], ◌∷◌, ◌++◌, length, Some, None, refl, sym, ap, subst, arith}
+use Rattle.std.specs.Prelude.{slice_get, Contains}
 use Rattle.std.proofs.lemmas.Option.{same_Some, none-some}
-use Rattle.om_model.proofs.Options.{Contains-none}
 use Rattle.om_model.specs.declared.value.Val.{Val}
 use Rattle.om_model.specs.declared.value.Val.TheVariants as vals
 use Rattle.om_model.specs.declared.value.Obj.{Obj}
 use Rattle.om_types.specs.declared.fault.Fault.{Fault}
 use Rattle.om_types.specs.declared.fault.Fault.TheVariants.{Misfit, Clash}
-use Rattle.om_types.specs.declared.shape.ShapeOf.{ShapeOf}
 use Rattle.om_types.specs.Fault.{IsLexicallyBefore, IsBefore, IsFault, value_at}
-use Rattle.om_types.specs.Fitting.{fields_of}
 use Rattle.om_types.specs.LeastFault.{IsToldBefore, IsLeastFault}
 use Rattle.om_types.specs.Searched.{Entry}
-use Rattle.om_types.specs.Table.{Table, table_shapes, node_or_none}
-use Rattle.om_types.specs.Typing.{IsListed, IsTyped, HasType}
+use Rattle.om_types.specs.Table.{Table, table_shapes}
+use Rattle.om_types.specs.Typing.{HasType}
 use Rattle.om_type_table.specs.Made.{IsLawful}
-use Rattle.om_fits.specs.declared.needs.Needs.{Needs}
 use Rattle.om_scan.specs.Paths.{HasPath}
 use Rattle.om_check.specs.declared.visits.Visit.{Visit}
-use Rattle.om_fits.specs.Needs.{needs_in}
 use Rattle.om_check.specs.Told.{IsPathOf, IsClashOf}
 use Rattle.om_check.specs.Clash.{NoneClash, IsFirstClash}
 use Rattle.om_check.specs.Explored.{root_of, ComesBefore, AreExplored, IsExplored}
@@ -81,12 +76,6 @@ module _ (table : Table) (graph : List Obj) where
 
   -- ---- the root
 
-  pub root_fields :
-      (v : Val) (shape : ShapeOf ℕ) (answer : Option Needs) → slice_get table.nodes 0 ≡ Some shape
-      → option_map needs_in answer ≡ fields_of graph v shape
-      → fields_of graph v (node_or_none (slice_get table.nodes 0)) ≡ option_map needs_in answer
-  root_fields v shape answer at_0 is = ap (λ n. fields_of graph v (node_or_none n)) at_0 ∙ sym is
-
   before_root : (path : List ℕ) → IsBefore path [] → ⊥
   before_root path (inl shorter) = omega arith
   before_root path (inr same) = never path same.1 where
@@ -100,32 +89,6 @@ module _ (table : Table) (graph : List Obj) where
     none : (other : Fault) → IsFault (table_shapes table) graph v 0 other → IsToldBefore other (Misfit []) → ⊥
     none (Misfit path) is before = before_root path before
     none (Clash first second) is before = before
-
-  -- the root fits and is no reference
-  pub plain_yes :
-      (v : Val) → ((o : ℕ) → v ≡ vals.Ref o → ⊥) → (table_shapes table).fits graph v 0
-      → HasType (table_shapes table) graph v 0 × IsYes table graph v []
-  plain_yes v other fit = (
-    record { fits = fit; typed = typed v other },
-    record {
-      typing = record {
-        fits = λ o t among. absurd (Contains-none (o, t) among);
-        held = λ o t i u among need. absurd (Contains-none (o, t) among);
-        one_type = λ o t u among also mutable. absurd (Contains-none (o, t) among);
-      };
-      rooted = rooted v other;
-      apart = λ j k key at_j at_k. absurd (none-some key at_j);
-    },
-  ) where
-    typed : (w : Val) → ((o : ℕ) → w ≡ vals.Ref o → ⊥) → IsTyped (table_shapes table) graph w 0
-    typed (vals.Int z) other = tt
-    typed (vals.Atom tag) other = tt
-    typed (vals.Ref o) other = absurd (other o refl)
-
-    rooted : (w : Val) → ((o : ℕ) → w ≡ vals.Ref o → ⊥) → IsListed (table_shapes table) [] w 0
-    rooted (vals.Int z) other = tt
-    rooted (vals.Atom tag) other = tt
-    rooted (vals.Ref o) other = absurd (other o refl)
 
   -- ---- an object
 

@@ -10,11 +10,11 @@ use Rattle.om_types.specs.Table.{Table, table_shapes}
 use Rattle.om_heap.specs.Heap.{field_at, word_of}
 use Rattle.om_type_table.specs.Made.{IsLawful}
 use Rattle.om_scan.specs.declared.taken.Taken.{Taken}
-use Rattle.om_scan.specs.Taken.{types_in, all_fields, seen_of, is_unfit_field, size_of, rest_of}
+use Rattle.om_scan.specs.Taken.{types_in, all_fields, seen_of, is_unfit_field, rest_of}
 use Rattle.om_scan.specs.Scanned.{IsSeen, IsSeenObject, AreTaken}
 use Rattle.om_scan.proofs.PlaceLemmas.{read_at}
 use Rattle.om_check.specs.declared.visits.Visit.{Visit}
-use Rattle.om_check.specs.Search.{AreSeen, is_taken, counted}
+use Rattle.om_check.specs.Search.{AreSeen, is_taken}
 use Rattle.om_check.proofs.ClashLemmas.{less_or}
 use Rattle.om_check.proofs.SpentLemmas.{taken_at}
 
@@ -44,12 +44,6 @@ need_few size reached i seen start steps more before inside small few one known 
     few_rest size (i + 1) seen start more (omega (arith, inside)) small (reach_more reached i seen start steps more before few one known)
 
 module _ (table : Table) (graph : List Obj) (taken : Taken) where
-  pub counted_taken : (v : Visit) → is_taken table taken v ≡ true → counted table graph taken v ≡ rest_of (size_of graph v.object) (seen_of taken v.object)
-  counted_taken v is = ap (λ (b : Bool). if b then rest_of (size_of graph v.object) (seen_of taken v.object) else 1 + size_of graph v.object) is
-
-  pub counted_fresh : (v : Visit) → is_taken table taken v ≡ false → counted table graph taken v ≡ 1 + size_of graph v.object
-  counted_fresh v is = ap (λ (b : Bool). if b then rest_of (size_of graph v.object) (seen_of taken v.object) else 1 + size_of graph v.object) is
-
   -- ---- needs
 
   pub value_seen :

@@ -127,9 +127,6 @@ module _ (table : Table) (graph : List Obj) (types : List ℕ) where
 
   -- ---- needs
 
-  pub finds_none : (seconds : Seconds) (o t : ℕ) → AreOver table graph types seconds → FindsNeeds table graph types seconds seconds o t 0
-  finds_none seconds o t over = record { over = over; extends = extends_none (noted_in seconds); found = λ j i a less at_j asked. absurd (omega (arith, less)) }
-
   -- one field more, which is found where something is asked of it
   pub finds_more :
       (old now new : Seconds) (o t r i a : ℕ) → FindsNeeds table graph types old now o t r → AreOver table graph types new

@@ -1,11 +1,11 @@
 //! Objects that a scan noted at second classes: what is below each of them there is tested.
 
 ghost use Rattle.std.specs.Prelude.{ℕ, ◌≡◌, ◌<◌, ◌≤◌, ◌+◌, length, Some, slice_get, IfOk, IfSome};
-ghost use Rattle.std.specs.Prelude.{◌^◌, IsTrue};
+ghost use Rattle.std.specs.Prelude.{IsTrue};
 ghost use Rattle.std.specs.Bool.{OnTrue};
 ghost use Rattle.om_model.specs.declared.value.Val.TheVariants as vals;
 ghost use Rattle.om_heap.specs.Heap.{field_at, word_of};
-ghost use Rattle.om_types.specs.Table.{table_shapes, is_asked_in};
+ghost use Rattle.om_types.specs.Table.{is_asked_in};
 ghost use Rattle.om_fits.specs.Needs.{needs_in};
 ghost use Rattle.om_scan.specs.Fitting.{table_in};
 ghost use Rattle.om_scan.specs.Paths.{HasPath};
@@ -21,9 +21,9 @@ use om_model::Memory;
 use om_model::value::Val;
 use om_scan::{Cells, Fitting, Seconds, Steps, fits_type};
 
-/// Tests what each object that was noted needs at its type, and notes what it meets there at a class
-/// that is new. The answer is all that is noted; none where a field or an object does not fit, or an
-/// object may be changed at one of its types, or more than so many steps are taken.
+/// Tests what each object that was noted needs at its type, and notes what it meets there at a
+/// class that is new. The answer is all that is noted; none where a field or an object does not
+/// fit, or an object may be changed at one of its types, or more than so many steps are taken.
 pub fn settle(
     heap: &Heap,
     fitting: Fitting<'_>,

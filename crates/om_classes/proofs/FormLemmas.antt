@@ -1,8 +1,7 @@
 -- Forms stay what they are where names are added.
-use Rattle.std.proofs.Common.{ℕ, ◌<◌, ◌≡◌, ◌∙◌, ◌+◌, ⊎_elim, List, [], ◌∷◌, ◌++◌, sym, ap, subst, length, take, get_or}
+use Rattle.std.proofs.Common.{ℕ, ◌<◌, ◌≡◌, ◌∙◌, ◌+◌, ⊎_elim, List, [], ◌∷◌, ◌++◌, sym, length, take, get_or}
 use Rattle.std.specs.List.{AllZip}
 use Rattle.std.proofs.lemmas.List.{append-nil, take_more}
-use Rattle.std.proofs.Math.Seq.{take-length}
 use Rattle.om_types.specs.declared.head.TagOf.{TagOf}
 use Rattle.om_types.specs.declared.head.HeadOf.{HeadOf}
 use Rattle.om_types.specs.declared.head.HeadOf.TheVariants as heads
@@ -33,10 +32,6 @@ pub AllZip-next : {A B : Type 0} (R : A → B → Type 0) (xs : List A) (i : ℕ
     → AllZip R (take (i + 1) xs) new
 AllZip-next R xs i ys new x y below all read more is =
     rw (is, take_more xs i x below, ← read) (AllZip-add R (take i xs) ys x y all more)
-
-pub AllZip-whole : {A B : Type 0} (R : A → B → Type 0) (xs : List A) (i : ℕ) (ys : List B) → i ≡ length xs
-    → AllZip R (take i xs) ys → AllZip R xs ys
-AllZip-whole R xs i ys end all = subst (λ l. AllZip R l ys) (ap (λ k. take k xs) end ∙ take-length xs) all
 
 module _ {old new : List (List ℕ)} (grown : Grows old new) where
   pub tag_form_grown : (tag : TagOf ℕ) (form : TagForm) → IsTagForm old tag form → IsTagForm new tag form

@@ -1,5 +1,5 @@
 -- Lists of numbers, one for each class or for each number.
-use Rattle.std.proofs.Common.{ℕ, zero, suc, ◌<◌, ◌+◌, ◌≡◌, ◌≢◌, ◌∙◌, ⊎_elim, ◌⊎◌, inl, inr, List, [], ◌∷◌, ◌++◌, Some, refl, sym, ap, subst, length, length-append, get_or, take, set, arith}
+use Rattle.std.proofs.Common.{ℕ, zero, suc, ◌<◌, ◌+◌, ◌≡◌, ◌≢◌, ◌∙◌, ⊎_elim, ◌⊎◌, inl, inr, List, [], ◌∷◌, ◌++◌, Some, refl, sym, ap, subst, length, length-append, get_or, take, set}
 use Rattle.std.specs.Prelude.{Contains, slice_get, slice_index}
 use Rattle.std.specs.Global.{Vec}
 use Rattle.std.proofs.Math.ListN.{length-set}
@@ -109,9 +109,6 @@ pub next_cases : (xs : List ℕ) (i y : ℕ) → i < length xs → Contains (tak
     → Contains (take i xs) y ⊎ (get_or xs i 0 ≡ y)
 next_cases xs i y within among =
     Contains-push_cases (take i xs) (get_or xs i 0) y (subst (λ l. Contains l y) (take_more xs i 0 within) among)
-
-pub Keeps-none : (lists : List (Vec ℕ)) → Keeps lists lists
-Keeps-none lists = record { many = refl; kept = λ d y has. has }
 
 pub Keeps-then : (a b c : List (Vec ℕ)) → Keeps a b → Keeps b c → Keeps a c
 Keeps-then a b c one two = record { many = two.many ∙ one.many; kept = λ d y has. two.kept d y (one.kept d y has) }

@@ -16,9 +16,9 @@ use om_outcome::reading::Reading;
 use om_outcome::style::Style;
 use std::alloc::{AllocError, Global};
 
-/// What the words ask for: where texts are read, with whether a place in one is told by its line and
-/// column; where texts of values are, with whether decimals in them stand for doubles; where values
-/// are read, with how they are.
+/// What the words ask for: where texts are read, with whether a place in one is told by its line
+/// and column; where texts of values are, with whether decimals in them stand for doubles; where
+/// values are read, with how they are.
 #[derive(Clone, Copy)]
 pub enum Request<'a> {
     /// Whether the values of the input have the type.

@@ -1,7 +1,7 @@
 -- What is certified is confirmed, by all commands as by the one that certifies and the one that
 -- verifies.
-use Rattle.std.proofs.Common.{◌≡◌, ℕ, Some, refl}
-use Rattle.om_outcome.specs.CommandLine.{certify, reading_of}
+use Rattle.std.proofs.Common.{◌≡◌, Some, refl}
+use Rattle.om_outcome.specs.CommandLine.{certify}
 use Rattle.om_outcome.specs.Outcome.{Request, all_under, own, verify}
 use Rattle.om_certification.specs.Certification.{Asked, certified_by}
 use Rattle.om_certified.specs.Certified.{PutCertificatesAreAccepted}

@@ -5,7 +5,7 @@ use Rattle.std.proofs.lemmas.Float.{not_nan_f64_bits}
 use lib.Ieee.{binary64, of_bits, to_bits, round, is_nan}
 use lib.Ieee.Bits.{nan_bits_is, to_bits-of_bits, of_bits-to_bits}
 use lib.Ieee.Fits.{round-fits}
-use Rattle.om_decimal.specs.Doubles.{IsSome, IsNearest, Reads, IsShortest, HasNone, distance, infinite}
+use Rattle.om_decimal.specs.Doubles.{IsSome, Reads, IsShortest, HasNone, distance, infinite}
 use Rattle.om_decimal.specs.Shortest.{reads, rank, better_of, best_below, or_lower, shortest_below, shortest_of}
 use Rattle.om_decimal.proofs.NearestLemmas.{few_powers}
 use Rattle.om_decimal.proofs.UniqueLemmas.{none_between}

@@ -1,5 +1,5 @@
 -- The text of a double is what the function of its bits is.
-use Rattle.std.proofs.Common.{◌≡◌, ℕ, ◌<◌, ◌++◌, Bool, true, false, cond, eqb, leb, List, Option, Some, None, refl, inl, inr, arith, eqb-true}
+use Rattle.std.proofs.Common.{◌≡◌, ℕ, ◌++◌, Bool, true, false, cond, eqb, leb, List, Option, Some, None, refl, inl, inr, arith, eqb-true}
 use Rattle.std.proofs.lemmas.Bool.{eqb-false, leb-true, leb-false}
 use Rattle.std.specs.Prelude.{codes}
 use Rattle.std.specs.Fmt.{sign_text}

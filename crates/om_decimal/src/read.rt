@@ -16,8 +16,8 @@ fn begins_with_minus(text: &[u8]) -> bool
     }
 }
 
-/// Whether a numeral is that of a decimal: there are digits before the point, and there is a point or
-/// an exponent.
+/// Whether a numeral is that of a decimal: there are digits before the point, and there is a point
+/// or an exponent.
 fn is_decimal(numeral: &Numeral<'_>) -> bool
     ensures { result ≡ is_decimal numeral.now }
 {

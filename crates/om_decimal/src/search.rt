@@ -8,8 +8,8 @@ use crate::reads::{POWERS, TOO_MANY, reads};
 use crate::size::Size;
 use fast_float::nearest_bits;
 
-/// The least digits with which the decimal of this power reads as no lesser double than that of this
-/// size; or the greatest digits, where there are none.
+/// The least digits with which the decimal of this power reads as no lesser double than that of
+/// this size; or the greatest digits, where there are none.
 fn least_digits(size: u64, power: u64) -> u64
     requires { power < 651 }
     ensures range { (0 < result) × (result < 10 ^ 19) }

@@ -10,8 +10,8 @@ use om_lex::{Step, step_at};
 use om_model::Memory;
 use std::alloc::Global;
 
-/// A decimal, by the bits of its double and how many bytes it has; something else, by how many bytes
-/// it has and whether a decimal may begin behind it; or a fault.
+/// A decimal, by the bits of its double and how many bytes it has; something else, by how many
+/// bytes it has and whether a decimal may begin behind it; or a fault.
 #[derive(Clone, Copy)]
 pub enum Front {
     Double(u64, usize),

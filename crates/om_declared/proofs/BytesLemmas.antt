@@ -1,17 +1,15 @@
 -- The bytes of a value, put.
-use Rattle.std.proofs.Common.{◌≡◌, ◌∙◌, ℕ, Bool, true, false, List, [], Option, None, Some, Ok, Err, inl, inr, refl, sym, ap, subst}
+use Rattle.std.proofs.Common.{◌≡◌, ◌∙◌, ℕ, Bool, true, List, [], Option, None, Some, Err, inl, inr, refl, sym, ap, subst}
 use Rattle.std.specs.Prelude.{IsSomeAnd}
 use Rattle.om_model.specs.declared.value.Val.{Val}
 use Rattle.om_model.specs.declared.value.Obj.{Obj}
 use Rattle.om_model.specs.declared.value.Obj.TheVariants as objects
-use Rattle.om_format.specs.Canonical.{canon}
 use Rattle.om_format.specs.Compat.{TooLargeFor32, token, header, too_large_for_32}
 use Rattle.om_format.specs.Iso.{IsTreeOf}
 use Rattle.om_format.specs.Token.{integer, atom, shared, block, leaf}
 use Rattle.om_format.specs.Tree.{Tree}
-use Rattle.om_edge.specs.Sink.{Puts, Writes}
-use Rattle.om_edge.specs.State.{ByteState, Change, change}
-use Rattle.om_edge.specs.declared.sink.WriteError.TheVariants as errors
+use Rattle.om_edge.specs.Sink.{Puts}
+use Rattle.om_edge.specs.State.{ByteState, change}
 use Rattle.om_write.specs.Tells.{Tells}
 use Rattle.om_write.specs.Written.{IsEarly, Writes32}
 use Rattle.om_write.specs.declared.compat.Compat.{Compat}
@@ -22,7 +20,7 @@ use Rattle.om_outcome.specs.Outcome.{too_large}
 use Rattle.om_outcome.specs.declared.stop.Stop.{Stop}
 use Rattle.om_outcome.specs.declared.stop.Stop.TheVariants.{LargeValue as large_value, Memory as out_of_memory}
 use Rattle.om_stops.specs.declared.stop.Halt.TheVariants as halts
-use Rattle.om_declared.specs.Language.{bytes_for, AreBytesOf}
+use Rattle.om_declared.specs.Language.{bytes_for}
 use Rattle.om_stops.specs.Stops.{text_of_compat, IsOrMemory}
 use Rattle.om_promises.proofs.PutLemmas.{puts_nothing}
 use Rattle.om_declared.specs.Bytes.{PutsBytes}
@@ -43,27 +41,8 @@ compat_told (token (leaf (objects.I32 z))) compat is = absurd is
 compat_told (token (leaf (objects.I64 z))) compat is = absurd is
 
 module _ (compat : Bool) (k : ℕ) (g : List Obj) (v : Val) where
-  canon_are : (tree : Tree) → IsTreeOf g v tree → (compat ≡ true → too_large_for_32 tree ≡ None) → AreBytesOf compat g v (Ok (canon tree))
-  canon_are tree is small = (tree, is, at compat refl (too_large_for_32 tree) refl) where
-    at : (b : Bool) → compat ≡ b → (large : Option TooLargeFor32) → too_large_for_32 tree ≡ large → Ok (canon tree) ≡ bytes_for compat tree (too_large_for_32 tree)
-    at b e None same = sym (ap (bytes_for compat tree) same)
-    at false e (Some large) same = sym (ap (λ c. bytes_for c tree (too_large_for_32 tree)) e ∙ ap (bytes_for false tree) same)
-    at true e (Some large) same = let none : ◌≡◌ {A = Option TooLargeFor32} (Some large) None = sym same ∙ small e in absurd (cc none)
-
-  pub plain_put : compat ≡ false → (out : Change ByteState) → (tree : Tree) × IsTreeOf g v tree × Writes {A = Unit {0}} out (canon tree) (Ok tt) → PutsBytes {U = Unit {0}} compat k g v out (Ok tt)
-  plain_put plain out (tree, is, put) = (canon tree, canon_are tree is (λ e. let no : false ≡ true = sym plain ∙ e in absurd (cc no)), put)
-
-  pub plain_fault : compat ≡ false → (out : Change ByteState) → (tree : Tree) × IsTreeOf g v tree × Writes {A = Unit {0}} out (canon tree) (Err errors.Fault) → PutsBytes {U = Unit {0}} compat k g v out (Err halts.WriteFault)
-  plain_fault plain out (tree, is, part) = (canon tree, canon_are tree is (λ e. let no : false ≡ true = sym plain ∙ e in absurd (cc no)), part)
-
   pub memory_put : (a b : ByteState) → b ≡ a → PutsBytes {U = Unit {0}} compat k g v (change a b) (Err (halts.Stop out_of_memory))
   memory_put a b same = (inl refl, subst (λ b. Puts (change a b) []) (sym same) (puts_nothing a))
-
-  pub compat_put : compat ≡ true → (out : Change ByteState) → (tree : Tree) × IsTreeOf g v tree × Writes32 {A = Unit {0}} out tree (Ok tt) → PutsBytes {U = Unit {0}} compat k g v out (Ok tt)
-  compat_put asked out (tree, is, (none, put)) = (canon tree, canon_are tree is (λ e. none), put)
-
-  pub compat_fault : compat ≡ true → (out : Change ByteState) → (tree : Tree) × IsTreeOf g v tree × Writes32 {A = Unit {0}} out tree (Err errors32.Fault) → PutsBytes {U = Unit {0}} compat k g v out (Err halts.WriteFault)
-  compat_fault asked out (tree, is, (none, part)) = (canon tree, canon_are tree is (λ e. none), part)
 
   pub compat_refused : compat ≡ true → {S : Type 0} (state : S → ByteState) (a b : S) (error : Write32Error) → (IsEarly error → b ≡ a) → (large : Compat) → error ≡ errors32.Compat large
       → (tree : Tree) × IsTreeOf g v tree × Writes32 {A = Unit {0}} (change (state a) (state b)) tree (Err error) → (stop : Stop) → IsOrMemory (large_value k (text_of_compat large)) stop

@@ -1,7 +1,5 @@
 -- The earlier values, as their lines made them: one value more, and those that no line edits.
-use Rattle.std.proofs.Common.{◌≡◌, ◌∙◌, ℕ, ◌+◌, List, [], ◌∷◌, ◌++◌, length, map, Ok, refl, ap, subst, append_assoc, append-nil, length-append, arith}
-use Rattle.om_model.specs.declared.value.Val.{Val}
-use Rattle.om_model.specs.declared.value.Obj.{Obj}
+use Rattle.std.proofs.Common.{◌≡◌, ◌+◌, List, [], ◌∷◌, ◌++◌, length, map, Ok, refl, ap, subst, append_assoc, append-nil, length-append, arith}
 use Rattle.om_types.specs.Equal.{Equal}
 use Rattle.om_types.specs.Names.{names_of}
 use Rattle.om_types.specs.Shape.{shape}

@@ -9,9 +9,9 @@ use om_types::decl::Decl;
 use om_types::ty::Ty;
 use std::marker::Model;
 
-/// A type over declarations, and the table that values are checked by; whether the places of what is
-/// refused at it are told by line and column; and whether decimals stand for doubles in the texts
-/// that are read at it.
+/// A type over declarations, and the table that values are checked by; whether the places of what
+/// is refused at it are told by line and column; and whether decimals stand for doubles in the
+/// texts that are read at it.
 #[derive(Drop)]
 pub struct Prepared {
     pub decls: List<Decl>,

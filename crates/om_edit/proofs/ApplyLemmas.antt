@@ -50,15 +50,6 @@ found_is side (Err n) p is = absurd (never n p is) where
   never : (n : ℕ) (p : Place ℕ) → ◌≡◌ {A = Result (Place ℕ) EditRefusal} (Ok p) (Err (refusals.NoField side n)) → ⊥
   never n p is = cc
 
-pub missing_is : (side : Side) (x : Found) (refusal : EditRefusal) → Err refusal ≡ on_side side x
-    → (n : ℕ) × (x ≡ Err n) × (refusal ≡ refusals.NoField side n)
-missing_is side (Err n) refusal is = (n, refl, same n refusal is) where
-  same : (n : ℕ) (r : EditRefusal) → ◌≡◌ {A = Result (Place ℕ) EditRefusal} (Err r) (Err (refusals.NoField side n)) → r ≡ refusals.NoField side n
-  same n r is = cc
-missing_is side (Ok p) refusal is = absurd (never p refusal is) where
-  never : (p : Place ℕ) (r : EditRefusal) → ◌≡◌ {A = Result (Place ℕ) EditRefusal} (Err r) (Ok p) → ⊥
-  never p r is = cc
-
 module _ (table : Tabled) where
   abbrev pub place_of : List Obj → Val → List ℕ → Found
   place_of graph root path = place_at (table_shapes (table_of table)) graph root 0 path
@@ -74,34 +65,6 @@ module _ (table : Tabled) where
   no_step : (edit : Edit) (graph : List Obj) (root : Val) (refusal : EditRefusal) (side : Side) (n : ℕ) → refusal ≡ refusals.NoField side n
       → IsMadeIn edit graph root (Err (no_field side n)) → IsApplied table edit graph root graph root (Err refusal)
   no_step edit graph root refusal side n same is = refused edit graph root refusal (no_field side n) (ap reason_of same) is
-
-  pub set_missing : (path : List ℕ) (lexemes : List Lexeme) (end : ℕ) (graph : List Obj) (root : Val) (refusal : EditRefusal)
-      → Err refusal ≡ on_side Left (place_of graph root path) → IsApplied table (edits.Set path lexemes end) graph root graph root (Err refusal)
-  set_missing path lexemes end graph root refusal is =
-      let (n, none, same) = missing_is Left (place_of graph root path) refusal is in
-      no_step (edits.Set path lexemes end) graph root refusal Left n same
-      (subst (λ x. IsSet (shape_in table) (names_in table) graph root x lexemes end (Err (no_field Left n))) (sym none) refl)
-
-  pub unshare_missing : (path : List ℕ) (graph : List Obj) (root : Val) (refusal : EditRefusal)
-      → Err refusal ≡ on_side Left (place_of graph root path) → IsApplied table (edits.Unshare path) graph root graph root (Err refusal)
-  unshare_missing path graph root refusal is =
-      let (n, none, same) = missing_is Left (place_of graph root path) refusal is in
-      no_step (edits.Unshare path) graph root refusal Left n same (ap (unshared graph root) (sym none))
-
-  pub left_missing : (path source : List ℕ) (graph : List Obj) (root : Val) (refusal : EditRefusal)
-      → Err refusal ≡ on_side Left (place_of graph root path) → IsApplied table (edits.Link path source) graph root graph root (Err refusal)
-  left_missing path source graph root refusal is =
-      let (n, none, same) = missing_is Left (place_of graph root path) refusal is in
-      no_step (edits.Link path source) graph root refusal Left n same (ap (λ x. linked graph root x (place_of graph root source)) (sym none))
-
-  pub right_missing : (path source : List ℕ) (graph : List Obj) (root : Val) (p : Place ℕ) (refusal : EditRefusal)
-      → Ok p ≡ on_side Left (place_of graph root path)
-      → Err refusal ≡ on_side Right (place_of graph root source) → IsApplied table (edits.Link path source) graph root graph root (Err refusal)
-  right_missing path source graph root p refusal found is =
-      let (n, none, same) = missing_is Right (place_of graph root source) refusal is in
-      no_step (edits.Link path source) graph root refusal Right n same
-      (ap (λ x. linked graph root (Ok p) x) (sym none)
-      ∙ ap (λ x. linked graph root x (place_of graph root source)) (sym (found_is Left (place_of graph root path) p found)))
 
   -- ---- what is put
 

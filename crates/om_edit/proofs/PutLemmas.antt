@@ -1,5 +1,5 @@
 -- A value that is put at a place, and the one before that is put back.
-use Rattle.std.proofs.Common.{ℕ, ◌<◌, ◌≡◌, ◌∙◌, List, ◌∷◌, ◌++◌, length, set, take, drop, take-append-drop, Some, refl, ap, sym, subst, length-set}
+use Rattle.std.proofs.Common.{ℕ, ◌<◌, ◌≡◌, ◌∙◌, List, ◌++◌, length, set, take, drop, take-append-drop, Some, refl, ap, sym, subst, length-set}
 use Rattle.std.specs.Prelude.{slice_get, option_and_then, pos}
 use Rattle.std.proofs.lemmas.List.{get_or-set_same, set-set, set-get_or}
 use Rattle.std.proofs.lemmas.Option.{option_and_then_some, slice_get_within, get_or_from_slice_get}

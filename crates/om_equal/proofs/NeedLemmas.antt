@@ -3,21 +3,16 @@
 use Rattle.std.proofs.Common.{ℕ, zero, suc, ◌<◌, ◌≡◌, ◌∙◌, List, [], ◌∷◌, Option, Some, None, refl}
 use Rattle.std.proofs.Common.{sym, ap, inl, arith}
 use Rattle.om_types.specs.declared.head.HeadOf.{HeadOf}
-use Rattle.std.specs.Prelude.{Contains}
 use Rattle.om_types.specs.declared.decl.Body.TheVariants as bodies
 use Rattle.om_types.specs.declared.decl.Decl.{Decl}
 use Rattle.om_types.specs.declared.decl.Body.{Body}
-use Rattle.om_types.specs.Ty.{Ty, instance, argument_for}
-use Rattle.om_types.specs.Accepted.{IsType}
+use Rattle.om_types.specs.Ty.{Ty}
 use Rattle.om_types.specs.Declarations.{unfolded, declaration_of, abbreviated}
 use Rattle.om_types.specs.Head.{plain_head, head}
-use Rattle.om_types.specs.Equal.{Pairwise, HeadsAgree, Holds, IsClosed, EqualBy}
-use Rattle.om_types.specs.Reached.{parts_of}
+use Rattle.om_types.specs.Equal.{Pairwise, HeadsAgree, Holds, IsClosed}
 use Rattle.om_equal.proofs.SettledLemmas as settled
-use Rattle.om_equal.proofs.AlikeLemmas.{Alike, HasTypes, instances_alike, arguments_alike}
+use Rattle.om_equal.proofs.AlikeLemmas.{Alike, HasTypes}
 use Rattle.om_equal.proofs.HeadLemmas.{alike_agree}
-use Rattle.om_equal.proofs.AlikeClosure.{alike_is_equal}
-use Rattle.om_equal.proofs.TyEquality.{types_same_or_not}
 use Rattle.om_equal.proofs.WeightLemmas.{AreRanked, heft, falls, bound, by_part, by_including}
 use Rattle.om_equal.proofs.WeightLemmas.{inside, price, priced}
 
@@ -65,22 +60,6 @@ module _ (decls : List Decl) (rank : List ℕ → ℕ) (ranked : AreRanked decls
     held_alike (t ∷ ts) (u ∷ us) held = (inl held.0, held_alike ts us held.1)
     held_alike [] (u ∷ us) held = absurd held
     held_alike (t ∷ ts) [] held = absurd held
-
-    -- a type that is written in a declaration, at arguments that a closed list holds pairwise
-    pub written_equal :
-        (types : List Ty) → ((u a : Ty) → Contains types u → Contains (parts_of (head decls u)) a
-        → Contains types a)
-        → (parameters : List (List ℕ)) (ts us : List Ty) → Pairwise (Holds pairs) ts us → (t : Ty)
-        → IsType t
-        → Contains types (instance (argument_for parameters us) t)
-        → EqualBy (head decls) (instance (argument_for parameters ts) t)
-        (instance (argument_for parameters us) t)
-    written_equal types reached parameters ts us held t is among =
-        alike_is_equal types_same_or_not pairs (head decls) alike_heads types reached
-        (instance (argument_for parameters ts) t) (instance (argument_for parameters us) t)
-        among
-        (instances_alike pairs (argument_for parameters ts) (argument_for parameters us)
-        (arguments_alike pairs parameters ts us (held_alike ts us held)) t is)
 
 -- ---- no other function is so
 

@@ -1,23 +1,20 @@
 -- Headers and integers' words tell what fits.
-use Rattle.std.proofs.Common.{ℕ, Some, ◌+◌, ◌-◌, ◌*◌, ◌%◌, ◌^◌, ◌<◌, ◌≤◌, ◌≡◌, ◌∙◌, ◌⊎◌, ⊎_elim, List, [], ◌∷◌, length, true, refl, sym, ap, subst, lt-ltb, arith}
-use Rattle.std.specs.Prelude.{ℤ, pos, negsuc, Bool, IsSome, IsTrue, ◌==◌, option_and_then, slice_get}
+use Rattle.std.proofs.Common.{ℕ, Some, ◌+◌, ◌-◌, ◌%◌, ◌^◌, ◌<◌, ◌≤◌, ◌≡◌, ◌∙◌, ◌⊎◌, ⊎_elim, List, [], ◌∷◌, length, true, refl, sym, ap, subst, arith}
+use Rattle.std.specs.Prelude.{ℤ, pos, negsuc, Bool, IsSome, IsTrue, ◌==◌, slice_get}
 use Rattle.std.proofs.lemmas.Bool.Decides.{eqb_tells}
-use Rattle.std.proofs.lemmas.List.Elements.{All-contains}
-use Rattle.std.proofs.lemmas.Option.{get_or_from_slice_get, none-some, same_Some}
-use Rattle.om_model.proofs.Options.{same_or_not, slice_get_there, slice_get-Contains}
-use Rattle.om_model.specs.Graph.{IsInteger, IsValue, IsObject, IsGraph}
-use Rattle.om_model.specs.declared.value.Val.{Val}
+use Rattle.std.proofs.lemmas.Option.{none-some, same_Some}
+use Rattle.om_model.proofs.Options.{same_or_not}
+use Rattle.om_model.specs.Graph.{IsInteger, IsObject}
 use Rattle.om_model.specs.declared.value.Val.TheVariants as vals
 use Rattle.om_model.specs.declared.value.Obj.{Obj}
 use Rattle.om_model.specs.declared.value.Obj.TheVariants as objects
 use Rattle.om_types.specs.declared.shape.Constr.{Constr}
 use Rattle.om_types.specs.declared.shape.ShapeOf.{ShapeOf}
 use Rattle.om_types.specs.declared.shape.ShapeOf.TheVariants as shapes
-use Rattle.om_types.specs.Fitting.{fits_int, is_below, fields_if, none_if, constr_fields, object_fields, fields_of}
-use Rattle.om_heap.specs.Heap.{integer_word, word_of, object_at, IsFieldWord, IsReferenceWord, ForNamed}
+use Rattle.om_types.specs.Fitting.{fits_int, fields_if, object_fields}
+use Rattle.om_heap.specs.Heap.{integer_word, IsFieldWord, IsReferenceWord}
 use Rattle.om_heap.specs.Words.{header_of}
-use Rattle.om_fits.specs.declared.row.Row.{Row}
-use Rattle.om_fits.specs.Row.{IsRowOf, IsSized, IsFirstHeader, IsNear, AreAlike, AreAlikeTo}
+use Rattle.om_fits.specs.Row.{IsRowOf, AreAlike, AreAlikeTo}
 
 same_number : (n : ℕ) → (n == n) ≡ true
 same_number n = ⊎_elim (λ same. same.0) (λ other. absurd (other.1 refl)) (eqb_tells n n)
@@ -99,28 +96,3 @@ is_reference graph word (vals.Int (pos n), is, same) even = absurd (omega (arith
 is_reference graph word (vals.Int (negsuc n), is, same) even = absurd (omega (arith, is, same, even))
 is_reference graph word (vals.Atom tag, is, same) even = absurd (omega (arith, same, even))
 is_reference graph word (vals.Ref k, is, same) even = (k, is, same)
-
-module _ (graph : List Obj) (shape : ShapeOf ℕ) (row : Row) (of : IsRowOf shape row) where
-  pub sure_int :
-      (v : Val) (word : ℕ) → IsValue (length graph) v → word ≡ word_of graph v → word % 2 ≡ 1 → word ≤ row.most
-      → IsSome (fields_of graph v shape)
-  sure_int (vals.Int z) word is same odd less = subst (λ fits. IsSome (none_if {T = ℕ} fits)) (sym (of.ints z is (omega (arith, same, less)))) refl
-  sure_int (vals.Atom tag) word is same odd less = absurd (omega (arith, same, odd))
-  sure_int (vals.Ref k) word is same odd less = absurd (omega (arith, same, odd))
-
-  pub sure_object :
-      (v : Val) (word header : ℕ) → IsGraph graph → IsValue (length graph) v → word ≡ word_of graph v → word % 8 ≡ 0
-      → ForNamed graph word (λ object. header ≡ header_of object) → IsNear row header ⊎ (header % 1024 ≡ row.tag)
-      → IsSome (fields_of graph v shape)
-  sure_object (vals.Int (pos n)) word header graph' is same even named test = absurd (omega (arith, same, even))
-  sure_object (vals.Int (negsuc n)) word header graph' is same even named test = absurd (omega (arith, is, same, even))
-  sure_object (vals.Atom tag) word header graph' is same even named test = absurd (omega (arith, same, even))
-  sure_object (vals.Ref k) word header graph' is same even named test =
-      let there = slice_get_there graph k is in
-      let object : object_at graph k ≡ there.0 = get_or_from_slice_get graph k there.0 (objects.I32 (pos 0)) there.1 in
-      let valid = All-contains (IsObject (length graph)) graph there.0 graph' (slice_get-Contains graph k there.0 there.1) in
-      let head = named k is same ∙ ap header_of object in
-      subst (λ o. IsSome (option_and_then (object_fields shape) o)) (sym there.1) (⊎_elim
-      (λ near. of.headers (length graph) there.0 valid (subst (IsNear row) head near))
-      (λ tag. of.tags (length graph) there.0 valid (ap (λ h. h % 1024) (sym head) ∙ tag))
-      test)

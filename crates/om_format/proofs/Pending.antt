@@ -35,14 +35,6 @@ OpenBefore-append ms [] ys h k = rw append-nil at k
 OpenBefore-append ms (x ∷ xs) ys h k =
     (h.0, OpenBefore-append (ms ++ measure_of x ∷ []) xs ys h.1 (rw (before_push ms x xs) k))
 
-pub OpenBefore-front : (ms : List (Option Measure)) (xs ys : List Token) → OpenBefore ms (xs ++ ys) → OpenBefore ms xs
-OpenBefore-front ms [] ys h = tt
-OpenBefore-front ms (x ∷ xs) ys h = (h.0, OpenBefore-front (ms ++ measure_of x ∷ []) xs ys h.1)
-
-pub OpenBefore-rest : (ms : List (Option Measure)) (xs ys : List Token) → OpenBefore ms (xs ++ ys) → OpenBefore (ms ++ map measure_of xs) ys
-OpenBefore-rest ms [] ys h = rw append-nil h
-OpenBefore-rest ms (x ∷ xs) ys h = rw (← before_push ms x xs) (OpenBefore-rest (ms ++ measure_of x ∷ []) xs ys h.1)
-
 -- the tokens of a tree take one place together
 
 -- the fields among the tokens of trees are the other trees in them
@@ -62,13 +54,6 @@ mutual
       let j = fields-tokens tree h.0 in
       let k = fields-forest_tokens f h.1 in
       rw (m, s, l) (omega arith)
-
-pub pending-forest_tokens : (ms : List (Option Measure)) (f : Forest) → AreTrees f → trees_in f ≤ pending ms → pending (ms ++ map measure_of (forest_tokens f)) + trees_in f ≡ pending ms
-pending-forest_tokens ms f h k =
-    let s = sum_by-append (of_object fields) ms (map measure_of (forest_tokens f)) in
-    let l = length-append ms (map measure_of (forest_tokens f)) in
-    let e = fields-forest_tokens f h in
-    rw (s, l) (omega arith)
 
 pub pending-tokens : (ms : List (Option Measure)) (tree : Tree) → IsTree tree → 0 < pending ms → pending (ms ++ map measure_of (tokens tree)) + 1 ≡ pending ms
 pending-tokens ms tree h k =

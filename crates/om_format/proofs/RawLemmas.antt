@@ -146,9 +146,6 @@ pub one-le-raw_length : (bytes : List ℕ) → 1 ≤ raw_length bytes
 one-le-raw_length [] = omega arith
 one-le-raw_length (code ∷ rest) = omega arith
 
-pub IsRaw-pos : (token : List ℕ) → IsRaw token → 1 ≤ length token
-IsRaw-pos token raw = omega (arith, one-le-raw_length token)
-
 -- the first n bytes have the whole's length, where they are as many
 pub raw_length-take : (n : ℕ) (bytes : List ℕ) → raw_length bytes ≤ n → raw_length (take n bytes) ≡ raw_length bytes
 raw_length-take zero bytes l = absurd (omega (arith, one-le-raw_length bytes))
@@ -179,14 +176,8 @@ IsRaw-take bytes l = length-take-le (raw_length bytes) bytes l ∙ sym (raw_leng
 pub raw_length-ok : (code : ℕ) (kind : CodeKind) (rest : List ℕ) → kind_of code ≡ Ok kind → raw_length (code ∷ rest) ≡ 1 + (fixed_bytes kind + variable_bytes kind rest)
 raw_length-ok code kind rest e = ap (λ r. 1 + length_after r rest) e
 
-pub raw_length-err : (code : ℕ) (fault : CodeFault) (rest : List ℕ) → kind_of code ≡ Err fault → raw_length (code ∷ rest) ≡ 1
-raw_length-err code fault rest e = ap (λ r. 1 + length_after r rest) e
-
 pub raw_measure-ok : (code : ℕ) (kind : CodeKind) (rest : List ℕ) → kind_of code ≡ Ok kind → raw_measure (code ∷ rest) ≡ measure_after kind rest
 raw_measure-ok code kind rest e = ap (λ r. measure_from r rest) e
-
-pub raw_measure-err : (code : ℕ) (fault : CodeFault) (rest : List ℕ) → kind_of code ≡ Err fault → raw_measure (code ∷ rest) ≡ None
-raw_measure-err code fault rest e = ap (λ r. measure_from r rest) e
 
 -- ---- a token, and bytes after it
 
@@ -200,12 +191,6 @@ raw_length-append token more raw =
           let q : length token < raw_length token = rw same at p in absurd (omega arith)
       | inr g ↦ sym (raw_length-take (length token) (token ++ more) g) ∙ ap raw_length same
     ]
-
--- and the object
-pub raw_measure-append : (token more : List ℕ) → IsRaw token → raw_measure (token ++ more) ≡ raw_measure token
-raw_measure-append token more raw =
-    sym (raw_measure-take (length token) (token ++ more) (omega (arith, raw_length-append token more raw)))
-    ∙ ap raw_measure (take_at token more (length token) refl)
 
 -- lists as long as each other, in front of the same bytes
 pub same_front : (xs ys x y : List ℕ) → length xs ≡ length ys → xs ++ x ≡ ys ++ y → xs ≡ ys

@@ -1,5 +1,5 @@
 -- Bytes are cut into tokens in one way.
-use Rattle.std.proofs.Common.{◌≡◌, ℕ, List, [], ◌∷◌, ◌++◌, ◌↔◌, inl, inr, ◌⊎◌, refl, sym, ◌∙◌, ap, ap₂, subst, append_assoc, append-nil}
+use Rattle.std.proofs.Common.{◌≡◌, ℕ, List, [], ◌∷◌, ◌++◌, inl, inr, ◌⊎◌, refl, sym, ◌∙◌, ap, ap₂, subst, append_assoc, append-nil}
 use Rattle.std.proofs.lemmas.List.{append_cancel_left}
 use Rattle.std.specs.List.{concat, AllZip}
 use Rattle.om_format.specs.Raw.{IsRaw}
@@ -30,19 +30,10 @@ TokensPass-append header before [] us p q = subst (λ xs. TokensPass header xs u
 TokensPass-append header before (t ∷ ts) us p q =
     (p.0, TokensPass-append header (before ++ t ∷ []) ts us p.1 (subst (λ xs. TokensPass header xs us) (sym (append_assoc before (t ∷ []) ts)) q))
 
-pub TokensPass-front : (header : List ℕ) (before ts us : List (List ℕ)) → TokensPass header before (ts ++ us) → TokensPass header before ts
-TokensPass-front header before [] us p = tt
-TokensPass-front header before (t ∷ ts) us p = (p.0, TokensPass-front header (before ++ t ∷ []) ts us p.1)
-
 pub TokensPass-after : (header : List ℕ) (before ts us : List (List ℕ)) → TokensPass header before (ts ++ us) → TokensPass header (before ++ ts) us
 TokensPass-after header before [] us p = subst (λ xs. TokensPass header xs us) (sym (append-nil before)) p
 TokensPass-after header before (t ∷ ts) us p =
     subst (λ xs. TokensPass header xs us) (append_assoc before (t ∷ []) ts) (TokensPass-after header (before ++ t ∷ []) ts us p.1)
-
--- both ways
-pub TokensPass-cut : (header : List ℕ) (before ts us : List (List ℕ)) → TokensPass header before (ts ++ us) ↔ (TokensPass header before ts × TokensPass header (before ++ ts) us)
-TokensPass-cut header before ts us =
-    ((λ p. (TokensPass-front header before ts us p, TokensPass-after header before ts us p)), (λ p. TokensPass-append header before ts us p.0 p.1))
 
 -- one more token that passes
 pub TokensPass-push : (header : List ℕ) (before ts : List (List ℕ)) (t : List ℕ) → TokensPass header before ts → TokenPasses header (before ++ ts) t → TokensPass header before (ts ++ t ∷ [])

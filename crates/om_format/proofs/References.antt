@@ -47,6 +47,3 @@ mutual
 -- a tree's references lead back where each of its tokens' does
 pub ReferBack-each : (tree : Tree) (c : ℕ) → ReferBack tree c ↔ EachRefersBack c (tokens tree)
 ReferBack-each tree c = (each_refers_back tree c, ReferBack-from_each tree c)
-
-pub AllReferBack-each : (f : Forest) (c : ℕ) → AllReferBack f c ↔ EachRefersBack c (forest_tokens f)
-AllReferBack-each f c = (all_refer_back f c, AllReferBack-from_each f c)

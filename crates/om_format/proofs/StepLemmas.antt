@@ -102,12 +102,6 @@ pub EndWithin-append : (low high : ℕ) (steps more : List Step) → EndWithin l
 EndWithin-append low high [] more h k = k
 EndWithin-append low high (s ∷ steps) more h k = (h.0, h.1, EndWithin-append low high steps more h.2 k)
 
--- with wider bounds
-pub EndWithin-wider : (low high lower higher : ℕ) (steps : List Step) → lower ≤ low → high ≤ higher → EndWithin low high steps → EndWithin lower higher steps
-EndWithin-wider low high lower higher [] p q h = tt
-EndWithin-wider low high lower higher (s ∷ steps) p q h =
-    (omega (arith, h.0), omega (arith, h.1), EndWithin-wider low high lower higher steps p q h.2)
-
 -- a refusal takes at least the bytes that every step takes
 pub EndWithin-low : (low high n : ℕ) (steps : List Step) (r : ReadRefusal) → EndWithin low high steps → first_refusal n steps ≡ Some r → low ≤ n
 EndWithin-low low high n [] r w h = absurd (let e : None ≡ Some r = h in cc)
@@ -152,17 +146,6 @@ agree_itself n (s ∷ steps) = inl (refl, agree_itself n steps)
 -- equal steps agree
 pub agree_same : (n : ℕ) (steps more : List Step) → steps ≡ more → AgreeUpTo n steps more
 agree_same n steps more e = subst (λ ss. AgreeUpTo n steps ss) e (agree_itself n steps)
-
--- what agrees as far as n bytes decide does so with fewer
-pub agree_fewer : (n k : ℕ) (steps more : List Step) → AgreeUpTo n steps more → k ≤ n → AgreeUpTo k steps more
-agree_fewer n k [] [] h l = tt
-agree_fewer n k [] (t ∷ more) h l = omega arith
-agree_fewer n k (s ∷ steps) [] h l = omega arith
-agree_fewer n k (s ∷ steps) (t ∷ more) h l =
-    elim h [
-      | inl p ↦ inl (p.0, agree_fewer n k steps more p.1 l)
-      | inr u ↦ inr (omega (arith, u.0), omega (arith, u.1))
-    ]
 
 -- what agrees refuses alike, with up to so many bytes
 pub agree_refuses : (n k : ℕ) (steps more : List Step) → AgreeUpTo n steps more → k ≤ n → first_refusal k steps ≡ first_refusal k more

@@ -19,7 +19,7 @@ use Rattle.om_format.specs.Header.{magic, big_magic, header_length, head_of, sma
 use Rattle.om_format.specs.Words.{Sums, one_more}
 use Rattle.om_format.specs.Step.{Step, step, Context, place, overlong, fails_if, field_refusal, native_steps, variable_steps, words32_refusal, words64_refusal, end_steps, header_steps, magic_refusal, length_limit, code_refusal, steps_after, steps_from, token_steps, first_refusal, integer_refusal}
 use Rattle.om_format.proofs.RawLemmas.{fields_fit, sizing_fits, fields_first, custom_take, sizing_bytes-take, measure_after-take, variable_bytes-take}
-use Rattle.om_format.proofs.StepLemmas.{EndWithin, EndWithin-high, EndWithin-append, AgreeUpTo, agree_same, agree_refuses}
+use Rattle.om_format.proofs.StepLemmas.{EndWithin, EndWithin-append, AgreeUpTo, agree_same, agree_refuses}
 
 -- ---- a kind, at the first m bytes after the code
 
@@ -240,10 +240,6 @@ token_steps-agree_take c (suc m) (code ∷ rest) = steps_from-agree_take c code 
 pub token_steps-take : (c : Context) (k n : ℕ) (bytes : List ℕ) → k ≤ n → first_refusal k (token_steps c (take n bytes)) ≡ first_refusal k (token_steps c bytes)
 token_steps-take c k n bytes l = agree_refuses n k (token_steps c (take n bytes)) (token_steps c bytes) (token_steps-agree_take c n bytes) l
 
--- with the whole token every step is decided
-pub token_steps-decided : (c : Context) (n : ℕ) (bytes : List ℕ) → raw_length bytes ≤ n → first_refusal n (token_steps c bytes) ≡ first_refusal (raw_length bytes) (token_steps c bytes)
-token_steps-decided c n bytes l = EndWithin-high 1 (raw_length bytes) n (token_steps c bytes) (token_steps-within c bytes) l
-
 -- by the kind of the code
 pub token_steps-ok : (c : Context) (code : ℕ) (kind : CodeKind) (rest : List ℕ) → kind_of code ≡ Ok kind → token_steps c (code ∷ rest) ≡ steps_after c code kind rest
 unfolding token_steps
@@ -330,10 +326,6 @@ header_apart k limit m n m' n' head head' l = inr (l, l)
 -- below the whole the magic alone
 header_magic : (k limit m n : ℕ) (head head' : Head) → k < n → AgreeUpTo k (header_steps_of limit m n head) (header_steps_of limit m n head')
 header_magic k limit m n head head' l = inl (refl, inr (l, l))
-
--- with the whole header every step is decided
-pub header_steps-decided : (limit n : ℕ) (bytes : List ℕ) → header_length bytes ≤ n → first_refusal n (header_steps limit bytes) ≡ first_refusal (header_length bytes) (header_steps limit bytes)
-header_steps-decided limit n bytes l = EndWithin-high 4 (header_length bytes) n (header_steps limit bytes) (header_steps-within limit bytes) l
 
 -- the first n bytes have the whole's steps, as far as they decide
 pub header_steps-agree_take : (limit n : ℕ) (bytes : List ℕ) → AgreeUpTo n (header_steps limit (take n bytes)) (header_steps limit bytes)

@@ -1,5 +1,5 @@
 -- A copy is the same value.
-use Rattle.std.proofs.Common.{ℕ, zero, suc, ◌+◌, ◌<◌, ◌≤◌, ◌≡◌, ◌∙◌, List, [], ◌∷◌, ◌++◌, length, length-append, Some, refl, sym, ap, subst, arith}
+use Rattle.std.proofs.Common.{ℕ, zero, suc, ◌+◌, ◌<◌, ◌≡◌, ◌∙◌, List, [], ◌∷◌, ◌++◌, length, length-append, Some, refl, sym, ap, subst, arith}
 use Rattle.std.specs.Prelude.{map, option_map, slice_get, Contains, All, IsSomeAnd}
 use Rattle.std.specs.List.{AllZip}
 use Rattle.std.specs.List.{AllByRecursion}

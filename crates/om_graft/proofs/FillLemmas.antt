@@ -1,9 +1,9 @@
 -- Blank objects are filled, one field after the other.
-use Rattle.std.proofs.Common.{ℕ, suc, ◌+◌, ◌-◌, ◌<◌, ◌≤◌, ◌≡◌, ◌∙◌, List, [], ◌∷◌, ◌++◌, length, get_or, set, take, drop, replicate, Some, refl, sym, ap, ap₂, subst, arith, append_assoc, append-nil, add-one}
-use Rattle.std.specs.Prelude.{map, pos, slice_get, slice_index, All}
-use Rattle.std.proofs.lemmas.List.{map_more, set_at, set-set, set-get_or, get_or-set_same, length-set, length-map, length-take-le, length-append, length-replicate, take_all, drop_all, get_or_at}
+use Rattle.std.proofs.Common.{ℕ, ◌+◌, ◌-◌, ◌<◌, ◌≤◌, ◌≡◌, ◌∙◌, List, [], ◌∷◌, ◌++◌, length, get_or, set, take, drop, replicate, Some, refl, sym, ap, ap₂, subst, arith, append_assoc, add-one}
+use Rattle.std.specs.Prelude.{map, pos, slice_get}
+use Rattle.std.proofs.lemmas.List.{map_more, set_at, set-set, set-get_or, get_or-set_same, length-map, length-take-le, length-append, length-replicate, get_or_at}
 use Rattle.std.proofs.Math.Seq.{drop-cons}
-use Rattle.std.proofs.lemmas.Option.{slice_get_within, slice_get-get_or, get_or_from_slice_get}
+use Rattle.std.proofs.lemmas.Option.{slice_get-get_or, get_or_from_slice_get}
 use Rattle.om_model.specs.declared.value.Val.{Val}
 use Rattle.om_model.specs.declared.value.Val.TheVariants as vals
 use Rattle.om_model.specs.declared.value.Obj.{Obj}
@@ -40,19 +40,6 @@ module _ (base : ℕ) (marks : List ℕ) where
   partly_none (objects.I32 z) = refl
   partly_none (objects.I64 z) = refl
   partly_none (objects.Native z) = refl
-
-  pub partly_all : (object : Obj) (n : ℕ) → n ≡ length (fields_of object) → partly n object ≡ renamed_object base marks object
-  partly_all (objects.Block tag values) n all =
-      let none : length values - n ≡ 0 = omega (arith, all) in
-      ap (objects.Block tag)
-      (ap₂ (λ vs m. map (renamed_value base marks) vs ++ replicate m zero_field) (take_all n values (omega (arith, all))) none
-      ∙ append-nil (map (renamed_value base marks) values))
-  partly_all (objects.Bytes bytes) n all = refl
-  partly_all (objects.Double bits) n all = refl
-  partly_all (objects.Doubles bits) n all = refl
-  partly_all (objects.I32 z) n all = refl
-  partly_all (objects.I64 z) n all = refl
-  partly_all (objects.Native z) n all = refl
 
   pub partly_fields : (object : Obj) (i : ℕ) → i ≤ length (fields_of object) → length (fields_of (partly i object)) ≡ length (fields_of object)
   partly_fields (objects.Block tag values) i within =
@@ -168,8 +155,3 @@ module _ (base : ℕ) (marks : List ℕ) where
           ∙ append_assoc front done (renamed_object base marks own ∷ rest)
           ∙ ap (λ g. front ++ g) (sym (append_assoc done (renamed_object base marks own ∷ []) rest))
           ∙ ap (λ d. front ++ (d ++ rest)) (sym (map_more (λ k. renamed_object base marks (object_at graph k)) ks j 0 inside))
-
-    pub all_filled : (j : ℕ) → j ≡ length ks → filled j ≡ front ++ renamed base marks graph ks
-    all_filled j all =
-        ap₂ (λ ts ds. front ++ (renamed base marks graph ts ++ blanks graph ds)) (take_all j ks (omega (arith, all))) (drop_all j ks (omega (arith, all)))
-        ∙ ap (λ g. front ++ g) (append-nil (renamed base marks graph ks))

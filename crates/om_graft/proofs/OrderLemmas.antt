@@ -13,7 +13,7 @@ use Rattle.om_model.specs.declared.value.Obj.{Obj}
 use Rattle.om_model.specs.declared.value.Obj.TheVariants as objects
 use Rattle.om_format.specs.Tree.{objects_of}
 use Rattle.om_format.specs.Iso.{AreAlike, AreAlikeObjects}
-use Rattle.om_heap.specs.Heap.{object_at, fields_of}
+use Rattle.om_heap.specs.Heap.{fields_of}
 use Rattle.om_canonical.specs.Numbering.{numbered, Shows}
 use Rattle.om_canonical.proofs.Walk.{at_numbered}
 use Rattle.om_write.specs.Walking.{AreMarked}

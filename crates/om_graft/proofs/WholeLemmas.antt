@@ -1,5 +1,5 @@
 -- The objects of a part are appended blank and then filled: so they are its copy.
-use Rattle.std.proofs.Common.{ℕ, ◌+◌, ◌<◌, ◌≤◌, ◌≡◌, ◌∙◌, ◌^◌, List, ◌++◌, length, take, length-append, sym, ap, ap₂, subst, arith}
+use Rattle.std.proofs.Common.{ℕ, ◌+◌, ◌≤◌, ◌≡◌, ◌∙◌, List, ◌++◌, length, take, length-append, sym, ap, ap₂, subst}
 use Rattle.std.specs.Prelude.{All}
 use Rattle.std.proofs.lemmas.List.{length-map, take_at}
 use Rattle.om_model.specs.declared.value.Val.{Val}

@@ -12,7 +12,6 @@ use Rattle.om_types.proofs.NodeLemmas.{at_kept}
 use Rattle.om_equal.proofs.NeedLemmas.{head_again}
 use Rattle.om_equal.proofs.RankedLemmas.{are_ranked}
 use Rattle.om_store.specs.Held.{Grows}
-use Rattle.om_store.proofs.HeldLemmas.{Grows-none, Holds-grows}
 use Rattle.om_layout.specs.Unfolded.{IsReplaced, IsLeft}
 use Rattle.om_layout.specs.Way.{EachPasses, IsNearer}
 use Rattle.om_layout.proofs.ReplacedLemmas.{ComesTo, times_more}
@@ -28,12 +27,6 @@ module _ (decls : List Decl) where
   NextOf group types t next = MatchOption next (unfolded decls t ≡ None) (IsNearer decls group types t)
 
   -- one replacement
-  pub once_grown :
-      (old new : List Ty) (t : Ty) (next : Option ℕ) → MatchOption next (IsLeft decls old new t) (IsReplaced decls old new t)
-      → Grows old new
-  once_grown old new t None left = subst (Grows old) (sym left.same) (Grows-none old)
-  once_grown old new t (Some n) replaced = Holds-grows old new replaced.next n replaced.holds
-
   module _ (group : Option ℕ) where
     pub once_is :
         (old new : List Ty) (t : Ty) (next : Option ℕ) → MatchOption next (IsLeft decls old new t) (IsReplaced decls old new t)

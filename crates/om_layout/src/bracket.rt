@@ -44,7 +44,7 @@ pub(crate) enum Step {
 
 /// The head of a type that is a bracket with or without items. It takes a step for each item, and
 /// for each item of what is included, once for each abbreviation that is included, whatever its
-/// arguments. After `Memory` there may be more types, at the end.
+/// arguments. It may add types at the end, before `Memory` too.
 pub fn bracket_head(
     alloc: Global,
     types: &mut Types,

@@ -17,8 +17,8 @@ use om_types::shape::{Constr, ShapeOf};
 use om_types::ty::Ty;
 use std::alloc::Global;
 
-/// The shape of a declared type at these arguments. After `Memory` there may be more types, at the
-/// end.
+/// The shape of a declared type at these arguments. It may add types at the end, before `Memory`
+/// too.
 pub(crate) fn datatype_shape(
     alloc: Global,
     types: &mut Types,

@@ -16,7 +16,7 @@ use om_types::head::HeadOf;
 use std::alloc::Global;
 
 /// The head of a type: abbreviations at it are replaced, and the tags of included types stand in
-/// their places. After `Memory` there may be more types, at the end.
+/// their places. It may add types at the end, before `Memory` too.
 pub fn head_of(
     alloc: Global,
     types: &mut Types,

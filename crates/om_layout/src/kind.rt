@@ -20,7 +20,7 @@ use om_types::decl::Predeclared;
 use om_types::ty::Ty;
 use std::alloc::Global;
 
-/// Whether a type is a polymorphic variant. After `Memory` there may be more types, at the end.
+/// Whether a type is a polymorphic variant. It may add types at the end, before `Memory` too.
 pub fn is_polymorphic_variant(
     alloc: Global,
     types: &mut Types,
@@ -37,7 +37,7 @@ pub fn is_polymorphic_variant(
     Ok(has_bracket(&Stored { types, number: at }))
 }
 
-/// Whether a type is `float`. After `Memory` there may be more types, at the end.
+/// Whether a type is `float`. It may add types at the end, before `Memory` too.
 pub fn is_float(
     alloc: Global,
     types: &mut Types,

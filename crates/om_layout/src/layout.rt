@@ -26,7 +26,7 @@ pub struct Layout {
     pub shape: ShapeOf<usize>,
 }
 
-/// What a type looks like. After `Memory` there may be more types, at the end.
+/// What a type looks like. It may add types at the end, before `Memory` too.
 pub fn layout_of(
     alloc: Global,
     types: &mut Types,

@@ -18,7 +18,7 @@ use om_types::head::HeadOf;
 use om_types::shape::{Constr, ShapeOf};
 use std::alloc::Global;
 
-/// The shape of a predeclared type. After `Memory` there may be more types, at the end.
+/// The shape of a predeclared type. It may add types at the end, before `Memory` too.
 pub(crate) fn predeclared_shape(
     alloc: Global,
     types: &mut Types,

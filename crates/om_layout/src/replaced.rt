@@ -101,7 +101,7 @@ pub fn nearer(
 
 /// The type after all replacements at its head. An abbreviation that comes to one of its arguments
 /// is passed at one step, so that each other one is replaced once at most before the head is that
-/// of an argument. After `Memory` there may be more types, at the end.
+/// of an argument. It may add types at the end, before `Memory` too.
 pub fn expanded(
     alloc: Global,
     types: &mut Types,

@@ -1,6 +1,6 @@
 //! The line and the column of a place.
 
-ghost use Rattle.std.specs.Prelude.{◌≡◌, take};
+ghost use Rattle.std.specs.Prelude.{◌≡◌};
 ghost use Rattle.om_lines.specs.Lines.{line_after, column_after, line_of, column_of};
 
 /// A line, and a column in it, both from 1.

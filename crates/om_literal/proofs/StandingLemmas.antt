@@ -35,16 +35,6 @@ module _ {T : Type 0} where
   pub at_place : (all : List T) (i j : ℕ) (xs : List T) → i ≡ j → IsAt all i xs → IsAt all j xs
   at_place all i j xs e h = record { rest = h.rest; is = ap (λ n. drop n all) (sym e) ∙ h.is }
 
-  -- a part of the whole, behind what is before it
-  pub at_split : (before own after : List T) → IsAt (before ++ own ++ after) (length before) own
-  at_split before own after = record {
-    rest = after;
-    is = ap (λ all. drop (length before) all) (append_assoc before own after) ∙ drop_at before (own ++ after) (length before) refl;
-  }
-
-  pub at_whole : (all : List T) → IsAt all 0 all
-  at_whole all = record { rest = []; is = sym (append-nil all) }
-
   pub first_in : (all : List T) (i : ℕ) (x : T) (xs : List T) → IsAt all i (x ∷ xs) → i < length all
   first_in all i x xs h = omega (arith, length-drop i all, ap (λ (rest : List T). length rest) h.is)
 

@@ -44,8 +44,8 @@ fn read_tree(alloc: Global, text: &Text, heap: &mut Heap, at: usize) -> Result<V
     }
 }
 
-/// Reads the literal of these nodes, which these lexemes spell, at a type. After a fault new objects
-/// may stay.
+/// Reads the literal of these nodes, which these lexemes spell, at a type. After a fault new
+/// objects may stay.
 fn read_nodes(
     alloc: Global,
     heap: &mut Heap,

@@ -23,7 +23,8 @@ pub(crate) fn sibling(ends: &[u32], from: usize, many: usize) -> usize
     place
 }
 
-/// For each node the number of the node behind its last part; `Memory` where 32 bits do not have it.
+/// For each node the number of the node behind its last part; `Memory` where 32 bits do not have
+/// it.
 pub(crate) fn subtree_ends(alloc: Global, nodes: &Nodes) -> Result<Vec<u32>, Memory>
     ensures len { IfOk result (λ ends. length ends.items ≡ length nodes.now) }
     ensures ends { IfOk result (λ ends. specs.AreEnds nodes.now ends.items) }

@@ -143,9 +143,6 @@ module _ (text : List ℕ) (at : ℕ) (places : List ℕ) (ns : List Node) (os :
     lexes_all : Lexes text (lexemes_at text places)
     lexes_all = reached_end text at (lexemes_at text places) front.reached end
 
-    pub front_blank : places ≡ [] → Lexes text []
-    front_blank none = subst (λ (ps : List ℕ). Lexes text (lexemes_at text ps)) none lexes_all
-
     pub front_tree : (ms : List Node) → Some ms ≡ end_code ns os stage → IsPlaced text places ms
     front_tree ms h = (lexes_all, is_tree_where (lexemes_at text places) (length places) ns os stage front.read (sym count_is) true ms ms (sym h) refl refl)
 

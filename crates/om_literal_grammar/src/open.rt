@@ -40,8 +40,8 @@ pub enum Stage {
     Whole,
 }
 
-/// A bracket whose node has no label, and whose numbers are small; or without a form the last of the
-/// others.
+/// A bracket whose node has no label, and whose numbers are small; or without a form the last of
+/// the others.
 #[derive(Clone, Copy)]
 pub struct SmallOpen {
     pub index: u32,
@@ -53,8 +53,8 @@ pub struct SmallOpen {
 
 const _: () = prove!(size_of::<SmallOpen>() == 16);
 
-/// The brackets that are open, the innermost last in memory. The others are those that sixteen bytes
-/// do not hold.
+/// The brackets that are open, the innermost last in memory. The others are those that sixteen
+/// bytes do not hold.
 #[derive(Drop)]
 pub struct Opens {
     small: Vec<SmallOpen>,

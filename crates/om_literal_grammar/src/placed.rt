@@ -15,8 +15,8 @@ use om_lex::{next_brief, see_lexemes};
 use om_model::Memory;
 use std::alloc::Global;
 
-/// Few texts have more lexemes and nodes for their bytes. Memory that is taken at once is not copied
-/// as it grows, and what is not used of it is no burden.
+/// Few texts have more lexemes and nodes for their bytes. Memory that is taken at once is not
+/// copied as it grows, and what is not used of it is no burden.
 const BYTES_A_LEXEME: usize = 2;
 
 const BYTES_A_NODE: usize = 6;

@@ -18,10 +18,6 @@ pub number-append : (xs ys : List ℕ) → number (xs ++ ys) ≡ number xs * 256
 number-append [] ys = omega arith
 number-append (x ∷ xs) ys = rw (length-append xs ys, number-append xs ys, pow-add 256 (length xs) (length ys)) (omega arith)
 
-pub little_number-append : (xs ys : List ℕ) → little_number (xs ++ ys) ≡ little_number xs + 256 ^ length xs * little_number ys
-little_number-append [] ys = omega arith
-little_number-append (x ∷ xs) ys = rw (little_number-append xs ys, pow-suc 256 (length xs)) (omega arith)
-
 -- one byte more than the first i, and than those after the first i + 1
 pub number_more : (bytes : List ℕ) (i : ℕ) → i < length bytes → number (take (i + 1) bytes) ≡ number (take i bytes) * 256 + get_or bytes i 0
 number_more bytes i h = rw (take_more bytes i 0 h, number-append (take i bytes) (get_or bytes i 0 ∷ [])) (omega arith)

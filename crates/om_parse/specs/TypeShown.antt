@@ -1,7 +1,7 @@
 -- Which state of the table nodes, frames and a phase are.
 use Rattle.std.specs.Prelude.{ℕ, suc, ◌≡◌, ◌<◌, min, max, Bool, true, false, List, [], ◌∷◌, ◌++◌}
 use Rattle.std.specs.Prelude.{length, ⊤}
-use Rattle.om_grammar.specs.Grammar.{Texpr, App, Texprs, Items, Item}
+use Rattle.om_grammar.specs.Grammar.{Texprs, Items}
 use Rattle.om_grammar.specs.Grammar as trees
 use Rattle.om_grammar.specs.Depths.{texpr_depth, part_depth, app_depth, texprs_depth, items_depth}
 use Rattle.om_grammar.specs.Holes.{TypeHole, PartHole, ItemHole, State, whole, group, argument}

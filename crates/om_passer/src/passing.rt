@@ -1,6 +1,6 @@
 //! The first bytes of the input, passed over.
 
-ghost use Rattle.std.specs.Prelude.{◌≡◌, List, [], ℕ};
+ghost use Rattle.std.specs.Prelude.{◌≡◌, []};
 ghost use Rattle.om_outcome.specs.Outcome.{Said};
 ghost use Rattle.om_passer.specs.Passing.{passed_of, HasPassed};
 

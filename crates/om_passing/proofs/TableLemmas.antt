@@ -1,10 +1,9 @@
 -- The tables of commands that pass over first bytes are exact, where those of the commands are.
-use Rattle.std.proofs.Common.{◌≡◌, ◌⊎◌, ◌+◌, ◌<◌, ◌≤◌, ℕ, zero, suc, Bool, true, false, List, [], ◌∷◌, ◌++◌, inl, inr, refl, sym, ap, ◌∙◌, subst, length, take, drop, length-append, arith, append_assoc}
+use Rattle.std.proofs.Common.{◌≡◌, ◌+◌, ◌<◌, ◌≤◌, ℕ, Bool, true, false, List, [], ◌∷◌, ◌++◌, inl, inr, refl, sym, ap, ◌∙◌, subst, length, take, drop, length-append, arith, append_assoc}
 use Rattle.std.proofs.lemmas.List.{take-append-drop, length-take-le}
 use Rattle.std.proofs.lemmas.List.Elements.{All-drop}
-use Rattle.std.specs.Prelude.{◌&&◌, ◌↔◌, if◌then◌else◌}
+use Rattle.std.specs.Prelude.{◌&&◌, if◌then◌else◌}
 use Rattle.om_model.specs.Bytes.{AreBytes}
-use Rattle.om_outcome.specs.declared.status.Status.{Status}
 use Rattle.om_outcome.specs.declared.status.Status.TheVariants as statuses
 use Rattle.om_outcome.specs.Outcome.{Request, status_of, Said, all_well, Reply, says, stops, Replies, replies, ending_of}
 use Rattle.om_outcome.specs.declared.stop.Stop.{Stop}
@@ -14,7 +13,7 @@ use Rattle.om_promises.specs.Promises.{HoldEnd}
 use Rattle.om_causes.specs.Causes.{Tables, HaveStops, HaveEnds, AreExact}
 use Rattle.om_passing.specs.Skipping.{Passed, bytes_said, skipping}
 use Rattle.om_passing.specs.Tables.{skipping_tables}
-use Rattle.om_passing.proofs.PassedLemmas.{drop_first, byte_items, bytes_well, byte_count, Splits, split, join_cut, join_say, within_cut, within_say, within_size, goes_on_after, goes_on_within}
+use Rattle.om_passing.proofs.PassedLemmas.{drop_first, byte_items, bytes_well, byte_count, split, join_cut, join_say, within_cut, within_say, within_size, goes_on_after, goes_on_within}
 
 well_then : (w told all later : Bool) → w && told ≡ true → (told ≡ true → all ≡ later) → w && all ≡ later
 well_then true told all later fine next = next fine

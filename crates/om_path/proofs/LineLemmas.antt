@@ -122,10 +122,6 @@ past_end lexemes end = ap (λ o. unwrap_or (option_map (λ (l : Lexeme). l.span.
 -- ---- what the code answers
 
 module _ (lexemes : List Lexeme) (number end : ℕ) where
-  pub is_stuck : 0 < length lexemes → (place : ℕ) → IsSyntax line_kinds (kinds_of lexemes) place → (byte : ℕ) → byte ≡ byte_of lexemes end place →
-      IsRead number lexemes end (Err (faults.Syntax number byte))
-  is_stuck some place s byte e = (refl, some, place, s, sym e)
-
   pub ends_early : 0 < length lexemes → (f : Front) → run line_step line_start (kinds_of lexemes) ≡ Some (reading f) → ended_line number f ≡ None →
       IsRead number lexemes end (Err (faults.Syntax number end))
   ends_early some f h e = (

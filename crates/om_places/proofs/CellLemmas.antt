@@ -15,14 +15,6 @@ empty before = record { bits = 0; before = before }
 abbrev rank_in : ℕ → Cell → ℕ
 rank_in x cell = cell.before + count_ones (cell.bits % 2 ^ (x % 64))
 
-pub IsIndexed-nil : IsIndexed [] []
-IsIndexed-nil = record {
-  increasing = λ j k h l. absurd (omega arith);
-  covered = λ k l. absurd (omega arith);
-  ranks = λ p l. absurd (omega arith);
-  clear = λ p l h. absurd (omega arith);
-}
-
 -- the rank of a place is its number
 pub rank_is : (cells : List Cell) (places : List ℕ) → IsIndexed cells places → (k : ℕ) → k < length places → rank cells (get_or places k 0) ≡ k
 rank_is cells places indexed k inside =

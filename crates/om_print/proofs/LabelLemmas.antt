@@ -1,8 +1,8 @@
 -- Labels: which objects have one, and their numbers.
-use Rattle.std.proofs.Common.{ℕ, suc, ◌≡◌, ◌+◌, ◌<◌, ◌≤◌, ◌==◌, ◌∙◌, ◌⊎◌, ⊎_elim, inl, inr, Bool, true, false, cond, List, [], ◌∷◌, ◌++◌, length, drop, replicate, get_or, refl, sym, ap, subst, arith, append-nil, Some, None}
+use Rattle.std.proofs.Common.{ℕ, suc, ◌≡◌, ◌+◌, ◌<◌, ◌≤◌, ◌==◌, ◌∙◌, ◌⊎◌, ⊎_elim, inl, inr, Bool, true, false, cond, List, [], ◌∷◌, ◌++◌, length, drop, get_or, refl, sym, ap, subst, arith, append-nil, Some, None}
 use Rattle.std.specs.Prelude.{◌||◌, filter, codes}
 use Rattle.std.proofs.lemmas.Bool.Decides.{eqb_tells}
-use Rattle.std.proofs.lemmas.List.{length-append, length-replicate, length-set}
+use Rattle.std.proofs.lemmas.List.{length-append, length-set}
 use Rattle.std.proofs.lemmas.List.Folds.{list_any-append}
 use Rattle.om_model.specs.declared.value.Val.{Val}
 use Rattle.om_model.specs.declared.value.Obj.{Obj}
@@ -14,9 +14,9 @@ use Rattle.om_print.specs.declared.walk.Step.TheVariants as steps
 use Rattle.om_print.specs.declared.walk.Walk.{Walk}
 use Rattle.om_print.specs.Labels.{agains_of, marks_after, IsMarkable, AreCounted}
 use Rattle.om_print.specs.Levels.{levels_of}
-use Rattle.om_print.specs.Walking.{pieces_left, left_of, step_pieces, IsStep, IsWalk, Goes}
+use Rattle.om_print.specs.Walking.{pieces_left, left_of, step_pieces, IsStep, Goes}
 use Rattle.om_print.proofs.LevelLemmas.{no_levels}
-use Rattle.om_print.proofs.MarkLemmas.{mark_set, no_marks}
+use Rattle.om_print.proofs.MarkLemmas.{mark_set}
 
 -- ---- numbers
 
@@ -155,18 +155,6 @@ module _ (table : Tabled) (graph : List Obj) where
   first_left walk v t value blocks ends order =
       ap (λ ls. left_of table graph ls walk.value walk.order) (no_levels walk blocks ends) ∙ ap (λ x. left_of table graph [] x walk.order) value
       ∙ ap (λ os. left_of table graph [] (Some (v, t)) os) order
-
-  pub counted_none : (walk : Walk) (v : Val) (t : ℕ) (again : List Bool) → IsWalk table graph walk → walk.value ≡ Some (v, t) → walk.stack.items ≡ [] → walk.ends.items ≡ [] → walk.order ≡ []
-      → again ≡ replicate (length graph) false → AreCounted table graph (left_of table graph [] (Some (v, t)) []) walk again
-  counted_none walk v t again is value blocks ends order marks =
-      let left = first_left walk v t value blocks ends order in record {
-        is_walk = is;
-        many = ap length marks ∙ length-replicate (length graph) false;
-        met_again = λ x.
-            ap (λ ps. has (agains ps) x) (sym left)
-            ∙ ap (λ b. b || has (agains (pieces_left table graph walk)) x) (sym (ap (λ ms. get_or ms x false) marks ∙ no_marks (length graph) x));
-        met_first = ap firsts (sym left) ∙ ap (λ os. os ++ firsts (pieces_left table graph walk)) (sym order);
-      }
 
   -- where no value comes next, that is what is left
   pub none_next : (walk : Walk) → walk.value ≡ None → left_of table graph (levels_of walk) None walk.order ≡ pieces_left table graph walk

@@ -13,11 +13,6 @@ pub outside_last : (p : ℕ) (blocks : List OpenBlock) (block : OpenBlock) → l
 outside_last p [] block = refl
 outside_last p (b ∷ blocks) block = outside_last b.outside blocks block
 
--- where there is no block, there is an end
-pub some_block : (blocks : List OpenBlock) (ends : ℕ) → ends ≤ last_outside 0 blocks → 0 < length blocks + ends → 0 < length blocks
-some_block [] ends none some = absurd (omega (arith, none, some))
-some_block (b ∷ blocks) ends none some = omega arith
-
 nested_start : (p : ℕ) (blocks : List OpenBlock) (n : ℕ) → AreNested p blocks n → p ≤ n
 nested_start p [] n nested = nested
 nested_start p (b ∷ blocks) n nested = omega (arith, nested.0, nested_start b.outside blocks n nested.1)

@@ -53,10 +53,3 @@ last_split (x ∷ []) zero d is = refl
 last_split (x ∷ []) (suc n) d is = absurd (omega arith)
 last_split (x ∷ y ∷ xs) zero d is = absurd (omega arith)
 last_split (x ∷ y ∷ xs) (suc n) d is = ap (λ ys. x ∷ ys) (last_split (y ∷ xs) n d (omega arith))
-
-pub last_set : {X : Type 0} (xs : List X) (n : ℕ) (z : X) → length xs ≡ suc n → set xs n z ≡ take n xs ++ z ∷ []
-last_set [] n z is = absurd (omega arith)
-last_set (x ∷ []) zero z is = refl
-last_set (x ∷ []) (suc n) z is = absurd (omega arith)
-last_set (x ∷ y ∷ xs) zero z is = absurd (omega arith)
-last_set (x ∷ y ∷ xs) (suc n) z is = ap (λ ys. x ∷ ys) (last_set (y ∷ xs) n z (omega arith))

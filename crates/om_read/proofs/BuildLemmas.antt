@@ -1,15 +1,14 @@
 -- What holds of what is built from tokens that come one at a time.
-use Rattle.std.proofs.Common.{◌≡◌, ℕ, ◌+◌, ◌-◌, ◌<◌, ◌≤◌, inl, inr, ◌↔◌, IsSome, List, [], ◌∷◌, ◌++◌, length, map, get_or, All, HoldsAt, Option, Some, None, pos, refl, ap, sym, ◌∙◌, arith, append-nil, append_assoc, length-append, length-set}
+use Rattle.std.proofs.Common.{◌≡◌, ℕ, ◌+◌, ◌-◌, ◌<◌, inl, inr, ◌↔◌, IsSome, List, [], ◌∷◌, ◌++◌, length, map, get_or, All, HoldsAt, Option, Some, None, pos, refl, ap, sym, ◌∙◌, arith, length-append, length-set}
 use Rattle.std.proofs.lemmas.List.{length_push, length-replicate, get_or-set_same, get_or-set_other, get_or_append_left, get_or_at}
 use Rattle.std.proofs.lemmas.Bool.{cases_eq}
 use Rattle.std.proofs.lemmas.List.Elements.{All-nil, All-cons, All-head, All-tail}
-use Rattle.std.proofs.lemmas.List.Sums.{fold_push, sum_by-cons, sum_by-append}
+use Rattle.std.proofs.lemmas.List.Sums.{fold_push, sum_by-cons}
 use Rattle.om_model.specs.declared.value.Val.{Val}
 use Rattle.om_model.specs.declared.value.Val.TheVariants as vals
 use Rattle.om_model.specs.declared.value.Obj.{Obj}
 use Rattle.om_model.specs.declared.value.Obj.TheVariants as objs
-use Rattle.om_model.specs.declared.code.Measure.{Measure}
-use Rattle.om_format.specs.Words.{of_object, fields, objects, pending}
+use Rattle.om_format.specs.Words.{objects}
 use Rattle.om_format.specs.Token.{Token, integer, atom, shared, block, leaf, IsToken, measure_of}
 use Rattle.om_format.specs.Tree.{made_by, value_of}
 use Rattle.om_read.specs.Build.{Building, building, start, still_open, advanced, fill, blank, blank_fields, opened, absorb, absorb_all, root_to_come, fields_to_come, to_come, HasSize, IsOpenIn, AreOpen, WellOpen}
@@ -17,9 +16,7 @@ use Rattle.om_read.specs.declared.build.OpenBlock.{OpenBlock}
 use Rattle.om_heap.specs.Heap.{with_field, set_field, word_of}
 use Rattle.om_heap.proofs.ReadLemmas.{word_of-append, word_of-set_field}
 use Rattle.om_heap.proofs.FieldLemmas.{length-set_field, set_field-append}
-use Rattle.om_format.specs.Preorder.{OpenBefore}
-use Rattle.om_format.proofs.Counts.{leaf_fields, length-object_of, objects-tokens-cons}
-use Rattle.om_format.proofs.Pending.{pending_push}
+use Rattle.om_format.proofs.Counts.{length-object_of, objects-tokens-cons}
 use Rattle.om_read.proofs.FieldLemmas.{still_open_below, still_open_full}
 
 -- ---- open blocks stay open
@@ -71,11 +68,6 @@ AreOpen-set_field all b i v bs h = AreOpen-in all (set_field all b i v) (IsOpenI
 
 pub AreOpen-append : (xs ys : List Obj) (bs : List OpenBlock) → AreOpen xs bs → AreOpen (xs ++ ys) bs
 AreOpen-append xs ys bs h = AreOpen-in xs (xs ++ ys) (IsOpenIn-append xs ys) bs h
-
--- each of them is open
-pub AreOpen-all : (all : List Obj) (bs : List OpenBlock) → AreOpen all bs → All (IsOpenIn all) bs
-AreOpen-all all [] h = All-nil (IsOpenIn all)
-AreOpen-all all (b ∷ outer) h = All-cons (IsOpenIn all) b outer h.0 (AreOpen-all all outer h.2)
 
 -- the innermost one gets a field
 AreOpen-still_open : (all : List Obj) (b : OpenBlock) (outer : List OpenBlock) → AreOpen all (b ∷ outer) → AreOpen all (still_open (advanced b 1) outer)
@@ -150,55 +142,10 @@ WellOpen-fill v all (b ∷ outer) r h = record {
 pub WellOpen-start : WellOpen start
 WellOpen-start = record { are_open = tt; rooted = λ e. refl }
 
-pub WellOpen-absorb_all : (state : Building) (ts : List Token) → All IsToken ts → WellOpen state → WellOpen (absorb_all state ts)
-WellOpen-absorb_all state [] h k = k
-WellOpen-absorb_all state (t ∷ ts) h k =
-    WellOpen-absorb_all (absorb state t) ts (All-tail IsToken t ts h) (WellOpen-absorb state t (All-head IsToken t ts h) k)
-
 -- ---- how many values are to come
 
 to_come_cons : (b : OpenBlock) (bs : List OpenBlock) → fields_to_come (b ∷ bs) ≡ (b.size - b.next) + fields_to_come bs
 to_come_cons b bs = sum_by-cons (λ o. o.size - o.next) b bs
-
-to_come_append : (bs cs : List OpenBlock) → fields_to_come (bs ++ cs) ≡ fields_to_come bs + fields_to_come cs
-to_come_append bs cs = sum_by-append (λ o. o.size - o.next) bs cs
-
--- the block that a token opens has all its fields to come
-to_come_opened : (t : Token) (c at : ℕ) → fields_to_come (opened t c at) ≡ of_object fields (measure_of t)
-to_come_opened (integer z) c at = refl
-to_come_opened (atom tag) c at = refl
-to_come_opened (shared offset) c at = refl
-to_come_opened (block tag size) c at = omega arith
-to_come_opened (leaf o) c at = sym (leaf_fields o)
-
--- a field is taken
-to_come_still_open : (b : OpenBlock) (outer : List OpenBlock) → b.next < b.size → fields_to_come (still_open (advanced b 1) outer) + 1 ≡ fields_to_come (b ∷ outer)
-to_come_still_open b outer h =
-    let k = to_come_cons b outer in
-    let m = to_come_cons (advanced b 1) outer in
-    elim (cases_eq (b.next + 1) b.size) [
-      | inl e ↦ rw (still_open_full (advanced b 1) outer e, k) (omega arith)
-      | inr ne ↦ rw (still_open_below (advanced b 1) outer (omega arith), k, m) (omega arith)
-    ]
-
-takes_one : (all : List Obj) (bs : List OpenBlock) (r : Option Val) (t : Token) → AreOpen all bs → 0 < to_come (building all bs r)
-    → to_come (absorb (building all bs r) t) ≡ to_come (building all bs r) - 1 + of_object fields (measure_of t)
-takes_one all [] None t h k =
-    let at : ℕ = word_of (all ++ blank t) (vals.Ref (length all)) in
-    let o = to_come_opened t (length all) at in
-    let a = to_come_append (opened t (length all) at) [] in
-    omega arith
-takes_one all [] (Some v) t h k = absurd (omega arith)
-takes_one all (b ∷ outer) r t h k =
-    let at : ℕ = word_of (all ++ blank t) (vals.Ref (length all)) in
-    let o = to_come_opened t (length all) at in
-    let a = to_come_append (opened t (length all) at) (still_open (advanced b 1) outer) in
-    let s = to_come_still_open b outer h.0.next in
-    omega arith
-
--- a token takes one place, and its fields come on top
-pub to_come-absorb : (state : Building) (t : Token) → WellOpen state → 0 < to_come state → to_come (absorb state t) ≡ to_come state - 1 + of_object fields (measure_of t)
-to_come-absorb state t h k = takes_one state.objects state.open_blocks state.root t h.are_open k
 
 -- ---- how many objects there are
 
@@ -225,25 +172,6 @@ length-absorb_all state (t ∷ ts) h =
 pub absorb_all_push : (state : Building) (ts : List Token) (t : Token) → absorb_all state (ts ++ t ∷ []) ≡ absorb (absorb_all state ts) t
 absorb_all_push state ts t = fold_push absorb state ts t
 
--- after measures after which as many values are to come as in the state
-pub to_come-absorb_all : (ms : List (Option Measure)) (state : Building) (ts : List Token) → All IsToken ts → OpenBefore ms ts → WellOpen state
-    → to_come state ≡ pending ms → to_come (absorb_all state ts) ≡ pending (ms ++ map measure_of ts)
-to_come-absorb_all ms state [] h k w e = rw append-nil e
-to_come-absorb_all ms state (t ∷ ts) h k w e =
-    let o : 0 < pending ms = k.0 in
-    let p = pending_push ms (measure_of t) o in
-    let q = to_come-absorb state t w (omega arith) in
-    rw append_assoc at
-    (to_come-absorb_all (ms ++ measure_of t ∷ []) (absorb state t) ts (All-tail IsToken t ts h) k.1
-    (WellOpen-absorb state t (All-head IsToken t ts h) w) (omega arith))
-
--- from the start as many values are to come as the tokens leave
-pub to_come-start : (ts : List Token) → All IsToken ts → OpenBefore [] ts → to_come (absorb_all start ts) ≡ pending (map measure_of ts)
-to_come-start ts h k = to_come-absorb_all [] start ts h k WellOpen-start refl
-
-pub WellOpen-from_start : (ts : List Token) → All IsToken ts → WellOpen (absorb_all start ts)
-WellOpen-from_start ts h = WellOpen-absorb_all start ts h WellOpen-start
-
 pub length-from_start : (ts : List Token) → All IsToken ts → length (absorb_all start ts).objects ≡ objects (map measure_of ts)
 length-from_start ts h = let l = length-absorb_all start ts h in omega arith
 
@@ -253,20 +181,6 @@ length-from_start ts h = let l = length-absorb_all start ts h in omega arith
 all_full : (all : List Obj) (bs : List OpenBlock) → AreOpen all bs → fields_to_come bs ≡ 0 → bs ≡ []
 all_full all [] h e = refl
 all_full all (b ∷ outer) h e = let s = to_come_cons b outer in let k = h.0.next in absurd (omega arith)
-
--- a token sets the root, if none has before it
-sets_root : (all : List Obj) (bs : List OpenBlock) (r : Option Val) (t : Token) → (r ≡ None → bs ≡ []) → IsSome (absorb (building all bs r) t).root
-sets_root all [] r t h = refl
-sets_root all (b ∷ outer) None t h = let k : b ∷ outer ≡ [] = h refl in cc
-sets_root all (b ∷ outer) (Some v) t h = refl
-
-pub IsSome-absorb : (state : Building) (t : Token) → WellOpen state → IsSome (absorb state t).root
-IsSome-absorb state t w = sets_root state.objects state.open_blocks state.root t w.rooted
-
-pub IsSome-absorb_all : (state : Building) (ts : List Token) → All IsToken ts → WellOpen state → IsSome state.root → IsSome (absorb_all state ts).root
-IsSome-absorb_all state [] h w k = k
-IsSome-absorb_all state (t ∷ ts) h w k =
-    IsSome-absorb_all (absorb state t) ts (All-tail IsToken t ts h) (WellOpen-absorb state t (All-head IsToken t ts h) w) (IsSome-absorb state t w)
 
 root_is_there : (r : Option Val) → IsSome r → root_to_come r ≡ 0
 root_is_there None e = cc
@@ -288,46 +202,3 @@ done-to_come state w e =
 -- so with the root there, just where no block is open
 pub ends : (state : Building) → WellOpen state → IsSome state.root → (state.open_blocks ≡ []) ↔ (to_come state ≡ 0)
 ends state w k = (to_come-done state k, λ e. (done-to_come state w e).1)
-
--- after a token
-pub ends-absorb : (state : Building) (t : Token) → IsToken t → WellOpen state → ((absorb state t).open_blocks ≡ []) ↔ (to_come (absorb state t) ≡ 0)
-ends-absorb state t h w = ends (absorb state t) (WellOpen-absorb state t h w) (IsSome-absorb state t w)
-
--- and after tokens from the start
-pub ends-from_start : (ts : List Token) → 0 < length ts → All IsToken ts → OpenBefore [] ts
-    → ((absorb_all start ts).open_blocks ≡ []) ↔ (pending (map measure_of ts) ≡ 0)
-ends-from_start [] l h k = absurd (omega arith)
-ends-from_start (t ∷ ts) l h k =
-    let some : IsSome (absorb_all start (t ∷ ts)).root =
-    IsSome-absorb_all (absorb start t) ts (All-tail IsToken t ts h) (WellOpen-absorb start t (All-head IsToken t ts h) WellOpen-start)
-    (IsSome-absorb start t WellOpen-start) in
-    let e : to_come (absorb_all start (t ∷ ts)) ≡ pending (map measure_of (t ∷ ts)) = to_come-start (t ∷ ts) h k in
-    let i = ends (absorb_all start (t ∷ ts)) (WellOpen-from_start (t ∷ ts) h) some in
-    (λ o. sym e ∙ i.0 o, λ p. i.1 (e ∙ p))
-
--- ---- how deep it goes
-
--- no more blocks are open than there are objects
-depth_below : (all : List Obj) (bs : List OpenBlock) (c : ℕ) → AreOpen all bs → All (λ o. o.object < c) bs → length bs ≤ c
-depth_below all [] c h l = omega arith
-depth_below all (b ∷ outer) c h l =
-    let d = depth_below all outer b.object h.2 h.1 in
-    let k = All-head (λ o. o.object < c) b outer l in
-    omega arith
-
-pub depth-le-objects : (state : Building) → WellOpen state → length state.open_blocks ≤ length state.objects
-depth-le-objects state w =
-    depth_below state.objects state.open_blocks (length state.objects) w.are_open
-    (all_below state.objects state.open_blocks (length state.objects) refl w.are_open)
-
--- nor than there are values to come
-depth_fields : (all : List Obj) (bs : List OpenBlock) → AreOpen all bs → length bs ≤ fields_to_come bs
-depth_fields all [] h = omega arith
-depth_fields all (b ∷ outer) h =
-    let d = depth_fields all outer h.2 in
-    let s = to_come_cons b outer in
-    let k = h.0.next in
-    omega arith
-
-pub depth-le-to_come : (state : Building) → WellOpen state → length state.open_blocks ≤ to_come state
-depth-le-to_come state w = let d = depth_fields state.objects state.open_blocks w.are_open in omega arith

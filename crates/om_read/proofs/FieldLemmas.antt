@@ -14,13 +14,7 @@ abbrev pub set_fields : List Obj → ℕ → ℕ → List Val → List Obj
 set_fields all b i [] = all
 set_fields all b i (v ∷ values) = set_fields (set_field all b i v) b (i + 1) values
 
--- one field
-
 -- several fields
-
-pub length-set_fields : (all : List Obj) (b i : ℕ) (values : List Val) → length (set_fields all b i values) ≡ length all
-length-set_fields all b i [] = refl
-length-set_fields all b i (v ∷ values) = length-set_fields (set_field all b i v) b (i + 1) values ∙ length-set_field all b i v
 
 pub set_fields-append : (xs ys : List Obj) (b i : ℕ) (values : List Val) → b < length xs → set_fields (xs ++ ys) b i values ≡ set_fields xs b i values ++ ys
 set_fields-append xs ys b i [] h = refl

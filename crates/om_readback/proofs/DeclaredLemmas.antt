@@ -1,5 +1,5 @@
 -- A value at a declared type, and its parts, can be shown.
-use Rattle.std.proofs.Common.{ℕ, ◌≡◌, List, ◌∷◌, Some}
+use Rattle.std.proofs.Common.{ℕ, ◌≡◌, List, Some}
 use Rattle.std.specs.Prelude.{Contains}
 use Rattle.om_model.specs.declared.value.Val.{Val}
 use Rattle.om_model.specs.declared.value.Val.TheVariants as vals

@@ -1,7 +1,6 @@
 -- What tokens build, from the last to the first.
 use Rattle.std.proofs.Common.{ℕ, ◌≡◌, ◌+◌, List, [], ◌∷◌, ◌++◌, length, take, drop, map, refl, sym, ◌∙◌, ap, ap₂, arith, append_assoc, append-nil, take_at}
-use Rattle.std.proofs.lemmas.List.{map-append, drop_at}
-use Rattle.std.proofs.lemmas.List.Sums.{sum_by_push}
+use Rattle.std.proofs.lemmas.List.{drop_at}
 use Rattle.om_model.specs.declared.value.Val.{Val}
 use Rattle.om_model.specs.declared.value.Obj.{Obj}
 use Rattle.om_format.specs.Token.{Token as Spelled}
@@ -84,27 +83,6 @@ pub record After (all left : List Token) (values : List Val) (objects : List Obj
   pub tokens_are : all ≡ left ++ rest
   pub values_are : values ≡ values_from (map token_of rest) (all_made (map token_of left))
   pub objects_are : objects ≡ objects_from (map token_of rest) (all_made (map token_of left))
-
-pub After-none : (all : List Token) → After all all [] []
-After-none all = record { rest = []; tokens_are = sym (append-nil all); values_are = refl; objects_are = refl }
-
--- one more token is built
-pub After-next : (all left : List Token) (t : Token) (values : List Val) (objects : List Obj) → After all (left ++ t ∷ []) values objects
-    → After all left (value_of (token_of t) (all_made (map token_of left)) ∷ drop (size_of (token_of t)) values)
-    (object_of (token_of t) (take (size_of (token_of t)) values) ++ objects)
-After-next all left t values objects h =
-    let s = token_of t in
-    let c = all_made (map token_of left) in
-    let count : all_made (map token_of (left ++ t ∷ [])) ≡ c + made_by s =
-    ap all_made (map-append token_of left (t ∷ [])) ∙ sum_by_push made_by (map token_of left) s in
-    let vs : values ≡ values_from (map token_of h.rest) (c + made_by s) = h.values_are ∙ ap (λ n. values_from (map token_of h.rest) n) count in
-    let os : objects ≡ objects_from (map token_of h.rest) (c + made_by s) = h.objects_are ∙ ap (λ n. objects_from (map token_of h.rest) n) count in
-    record {
-      rest = t ∷ h.rest;
-      tokens_are = h.tokens_are ∙ append_assoc left (t ∷ []) h.rest;
-      values_are = ap (λ xs. value_of s c ∷ drop (size_of s) xs) vs;
-      objects_are = ap₂ (λ xs ys. object_of s (take (size_of s) xs) ++ ys) vs os;
-    }
 
 -- where all tokens are built, and they are those of a tree
 pub After-values : (all : List Token) (values : List Val) (objects : List Obj) (tree : Tree) → After all [] values objects → IsTree tree

@@ -8,8 +8,8 @@ use om_fits::is_asked;
 use om_heap::Heap;
 use om_type_table::TypeTable;
 
-/// A type of whose values nothing is asked; none where the types are more than the objects, since to
-/// look for it would cost more than it saves.
+/// A type of whose values nothing is asked; none where the types are more than the objects, since
+/// to look for it would cost more than it saves.
 pub fn hidden_type(heap: &Heap, table: &TypeTable) -> Option<usize>
     ensures { IfSome result (IsHidden (table_of table.now)) }
 {

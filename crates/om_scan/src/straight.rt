@@ -73,11 +73,11 @@ enum Stop {
 }
 
 /// Tries the objects in the order of their numbers, the first at type 0, which it fits, and each
-/// other at the type at which it was met first. One that is not met before its turn is passed: it is
-/// told at a type of whose values nothing is asked, if the table has one. Where all is met or passed
-/// and fits, the answer is the type of each, with what was met at unequal types too; where not, what
-/// was taken until then, or until the first that was met at an unequal type. A step is counted for
-/// each object taken that is not passed, and for each need tested.
+/// other at the type at which it was met first. One that is not met before its turn is passed: it
+/// is told at a type of whose values nothing is asked, if the table has one. Where all is met or
+/// passed and fits, the answer is the type of each, with what was met at unequal types too; where
+/// not, what was taken until then, or until the first that was met at an unequal type. A step is
+/// counted for each object taken that is not passed, and for each need tested.
 pub fn scan(
     alloc: Global,
     heap: &Heap,

@@ -1,5 +1,5 @@
 -- Tables of names.
-use Rattle.std.proofs.Common.{ℕ, ◌<◌, ◌+◌, ◌≡◌, ◌≢◌, ⊎_elim, Option, Some, None, List, Bool}
+use Rattle.std.proofs.Common.{ℕ, ◌+◌, ◌≡◌, ◌≢◌, ⊎_elim, Option, Some, None, List, Bool}
 use Rattle.std.proofs.Common.{true, false, cond, length, refl, sym, ap, subst, arith, ◌∙◌}
 use Rattle.std.specs.Prelude.{slice_get, unwrap_or, IsTrue, is_some, not, ◌↔◌, Contains}
 use Rattle.std.specs.Str.{bytes_eq}

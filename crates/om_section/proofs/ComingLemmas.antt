@@ -1,5 +1,5 @@
 -- A certificate, as its bytes come.
-use Rattle.std.proofs.Common.{ℕ, ◌+◌, ◌≤◌, ◌≡◌, ◌∙◌, inl, true, false, List, [], ◌++◌, length, Option, Some, None, refl, sym, ap, subst, arith, zero-add, length-append, append_assoc}
+use Rattle.std.proofs.Common.{ℕ, ◌+◌, ◌≤◌, ◌≡◌, ◌∙◌, inl, false, List, [], ◌++◌, length, Option, Some, None, refl, sym, ap, subst, arith, zero-add, length-append, append_assoc}
 use Rattle.std.specs.Prelude.{Contains, is_some}
 use Rattle.std.proofs.lemmas.List.{append-nil}
 use Rattle.std.proofs.lemmas.List.Elements.{All-nil}
@@ -63,28 +63,12 @@ module _ (reading : Reading) (lines : ℕ) (kept bytes piece : List ℕ) where
         ap (λ (z : List ℕ). z ++ piece) (at.spelled ∙ ap (λ (z : List ℕ). text_of (lines_read reading) ++ z) (append-nil kept))
         ∙ append_assoc (text_of (lines_read reading)) kept piece
 
-  pub kept_both : HasComeTo reading lines kept None bytes → HasKept reading lines (kept ++ piece) (bytes ++ piece)
-  kept_both at = record {
-    is = at.is;
-    counted = at.counted;
-    spelled =
-        ap (λ (z : List ℕ). z ++ piece) (at.spelled ∙ ap (λ (z : List ℕ). text_of (lines_read reading) ++ z) (append-nil kept))
-        ∙ append_assoc (text_of (lines_read reading)) kept piece;
-  }
-
   pub kept_longer :
       (fault : Option ℕ) (longer : List ℕ) → is_some fault ≡ false → longer ≡ kept ++ piece → ¬ Contains piece 10
       → HasComeTo reading lines kept fault bytes → HasComeTo reading lines longer fault (bytes ++ piece)
   kept_longer None longer none is lacks at =
       subst (λ (k : List ℕ). HasComeTo reading lines k None (bytes ++ piece)) (sym is) (kept_more lacks at)
   kept_longer (Some n) longer none is lacks at = absurd (cc none)
-
-  -- the fault stays where it is
-  pub fault_stays : (fault : Option ℕ) → is_some fault ≡ true → HasComeTo reading lines kept fault bytes
-      → HasComeTo reading lines kept fault (bytes ++ piece)
-  fault_stays None is at = absurd (cc is)
-  fault_stays (Some n) is at = λ later.
-      subst (λ (b : List ℕ). IsSyntaxAt b n) (sym (append_assoc bytes piece later)) (at (piece ++ later))
 
 module _ (reading : Reading) (lines : ℕ) (kept bytes : List ℕ) (has : HasKept reading lines kept bytes) where
   -- lines of what was kept were read
@@ -101,15 +85,6 @@ module _ (reading : Reading) (lines : ℕ) (kept bytes : List ℕ) (has : HasKep
   came_fault n at next left line = λ later.
       subst (λ (b : List ℕ). IsSyntaxAt (b ++ later) (lines + n)) (sym has.spelled)
       (subst (λ (k : ℕ). IsSyntaxAt ((text_of (lines_read reading) ++ kept) ++ later) (k + n)) (sym has.counted) (at later))
-
-  -- there are few lines
-  pub few_came : (next : Reading) (many : ℕ) (line : List ℕ)
-      → IsAt (text_of (lines_read reading) ++ kept) next (length (lines_read reading) + many) line [] → lines + many ≤ length bytes
-  few_came next many line at =
-      let few = at.few in
-      let counted = has.counted in
-      let same = ap length has.spelled in
-      omega (arith, few, counted, same)
 
   -- it is within the bytes, or the one behind them
   pub fault_few : (from : Reading) (text : List ℕ) (n : ℕ) → from ≡ reading → text ≡ kept → IsFaultFrom from text (faults.Syntax n)

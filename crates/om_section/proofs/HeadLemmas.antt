@@ -229,14 +229,3 @@ module _ (paths one behind : List ℕ) (cut : IsCut paths 32 one behind) where
   pub no_clash_second : (other : List ℕ) → behind ≡ codes " " ++ other → IsNoPathText other → IsNoVerdict (codes "clash " ++ paths)
   no_clash_second other space none = no_clash
       (λ first second numbers others here there. none second (others, append_cancel_left (codes " ") other (path_text second) (sym space ∙ there)))
-
-  pub clash_is :
-      (other first second : List ℕ) → behind ≡ codes " " ++ other → IsPathText one first → IsPathText other second
-      → IsVerdict (codes "clash " ++ paths) (sections.Clash first second)
-  clash_is other first second space here there = record {
-    stated = (here.0, there.0);
-    spelled =
-        ap (λ (z : List ℕ). codes "clash " ++ z)
-        (cut.whole ∙ (ap (λ (z : List ℕ). z ++ behind) here.1 ∙ ap (λ (z : List ℕ). path_text first ++ z) (space ∙ ap (λ (z : List ℕ). codes " " ++ z) there.1)));
-    no_pair = refl;
-  }

@@ -415,44 +415,6 @@ module _ (bytes : List ℕ) (reading : Reading) (lines : ℕ) (line rest : List 
     one : text_of (line ∷ []) ++ drop 1 rest ≡ line ++ (10 ∷ drop 1 rest)
     one = ap (λ (z : List ℕ). z ++ drop 1 rest) (append-nil (line ++ 10 ∷ [])) ∙ append_assoc line (10 ∷ []) (drop 1 rest)
 
-  -- the same where the rest is lent as a slice, and a part of it again
-  pub at_next_slice :
-      (next far : Reading) (many taken : ℕ) (behind line' rest' : List ℕ) → (rest ≡ [] → ⊥) → GoesOn reading line next
-      → behind ≡ take (length rest - 1) (drop 1 rest) → HasReadMore next behind far many taken
-      → IsCut (take (length behind - taken) (drop taken behind)) 10 line' rest' → IsAt bytes far (lines + 1 + many) line' rest'
-  at_next_slice next far many taken behind line' rest' some goes is run cut =
-      at_next next far many taken line' rest' some goes (subst (λ (z : List ℕ). HasReadMore next z far many taken) same run)
-      (subst (λ (z : List ℕ). IsCut (drop taken z) 10 line' rest') same (subst (λ (z : List ℕ). IsCut z 10 line' rest') (take_rest behind taken) cut)) where
-        same : behind ≡ drop 1 rest
-        same = is ∙ take_rest rest 1
-
-  -- what is counted is at most the bytes
-  pub few_more : (next far : Reading) (many taken : ℕ) → (rest ≡ [] → ⊥)
-      → HasReadMore next (take (length rest - 1) (drop 1 rest)) far many taken → lines + 1 + many ≤ length bytes
-  few_more next far many taken some run =
-      let few = at.few in
-      let long = ap length (behind_feed rest at.begins some) in
-      let same = ap length (take_rest rest 1) in
-      let within = run.begins.within in
-      let few' = run.begins.few in
-      omega (arith, few, long, same, within, few')
-
-  -- how many lines and bytes are left behind the next ones
-  pub few_next :
-      (next far : Reading) (many taken most counted : ℕ) (behind line' rest' : List ℕ) → (rest ≡ [] → ⊥)
-      → behind ≡ take (length rest - 1) (drop 1 rest) → HasReadMore next behind far many taken
-      → IsCut (take (length behind - taken) (drop taken behind)) 10 line' rest' → counted + length rest ≤ most
-      → counted + 1 + many + length rest' ≤ most
-  few_next next far many taken most counted behind line' rest' some is run cut fits =
-      let long = ap length (behind_feed rest at.begins some) in
-      let same = ap length (is ∙ take_rest rest 1) in
-      let rests = ap length (take_rest behind taken) in
-      let left = length-drop taken behind in
-      let parts = ap length cut.whole ∙ length-append line' rest' in
-      let within = run.begins.within in
-      let few' = run.begins.few in
-      omega (arith, long, same, rests, left, parts, within, few', fits)
-
   -- a line that has ended and with which nothing goes on, whatever comes behind
   pub faulty_line : (later : List ℕ) → (rest ≡ [] → ⊥) → GoesNowhere reading line → IsSyntaxAt (bytes ++ later) (lines + 1)
   faulty_line later some nowhere =

@@ -1,13 +1,12 @@
 -- Lines of pairs read one after another.
-use Rattle.std.proofs.Common.{ℕ, suc, ◌≤◌, ◌+◌, ◌-◌, ◌≡◌, ◌∙◌, List, [], ◌∷◌, ◌++◌, length, drop, refl, sym, ap, subst, arith, length-append, append_assoc}
+use Rattle.std.proofs.Common.{ℕ, ◌≤◌, ◌+◌, ◌-◌, ◌≡◌, ◌∙◌, List, [], ◌∷◌, ◌++◌, length, refl, sym, ap, subst, arith, length-append, append_assoc}
 use Rattle.std.specs.Prelude.{All, map}
 use Rattle.std.proofs.lemmas.List.{append-nil, map-append, length_push}
 use Rattle.std.proofs.lemmas.List.Concat.{flat_map-append}
 use Rattle.std.proofs.lemmas.List.Elements.{All-push}
-use Rattle.std.proofs.Math.Seq.{drop-append_seam}
 use Rattle.om_section.specs.Format.{pair_line, text_of}
 use Rattle.om_section.specs.Reading.{AreNumbers}
-use Rattle.om_section.specs.Runs.{IsFirstPair, HasMorePairs}
+use Rattle.om_section.specs.Runs.{IsFirstPair}
 
 -- The pairs have become longer by those whose lines were read, and this is what stands behind them.
 pub record IsPast (pairs : List (ℕ × ℕ)) (text : List ℕ) (longer : List (ℕ × ℕ)) (many : ℕ) (rest : List ℕ) : Type 0 where
@@ -53,33 +52,3 @@ module _ (pairs : List (ℕ × ℕ)) (text : List ℕ) (longer : List (ℕ × �
     line : pair_line pair ++ 10 ∷ behind ≡ text_of (pair_line pair ∷ []) ++ behind
     line = sym
         (ap (λ (z : List ℕ). z ++ behind) (append-nil (pair_line pair ++ 10 ∷ [])) ∙ append_assoc (pair_line pair) (10 ∷ []) behind)
-
-  pub all_past : (taken : ℕ) → taken ≡ length text - length rest → HasMorePairs pairs text longer many taken
-  all_past taken is = record {
-    added = past.added;
-    is = past.is;
-    numbers = past.numbers;
-    begins = record {
-      counted = past.counted ∙ sym length_lines;
-      within = omega (arith, is);
-      few = let few = past.few in omega (arith, is, few);
-      spelled = past.spelled ∙ ap (λ (z : List ℕ). text_of (map pair_line past.added) ++ z) behind;
-    };
-  } where
-    length_lines : length (map pair_line past.added) ≡ length past.added
-    length_lines = lines_of past.added where
-      lines_of : (added : List (ℕ × ℕ)) → length (map pair_line added) ≡ length added
-      lines_of [] = refl
-      lines_of (pair ∷ added) = ap suc (lines_of added)
-
-    long : length text ≡ length (text_of (map pair_line past.added)) + length rest
-    long = ap length past.spelled ∙ length-append (text_of (map pair_line past.added)) rest
-
-    many_bytes : taken ≡ length (text_of (map pair_line past.added))
-    many_bytes = omega (arith, is, long)
-
-    behind : rest ≡ drop taken text
-    behind = sym
-        (ap (λ (n : ℕ). drop n text) many_bytes
-        ∙ (ap (λ (z : List ℕ). drop (length (text_of (map pair_line past.added))) z) past.spelled
-        ∙ drop-append_seam (text_of (map pair_line past.added)) rest))

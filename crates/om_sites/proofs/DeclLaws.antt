@@ -6,12 +6,12 @@ use Rattle.std.proofs.lemmas.List.{drop_at, get_or_at}
 use Rattle.om_lex.specs.declared.lexeme.LexemeKind.TheVariants as kinds
 use Rattle.om_lex.specs.declared.lexeme.Keyword.TheVariants as keywords
 use Rattle.om_lex.specs.declared.lexeme.Symbol.TheVariants as symbols
-use Rattle.om_grammar.specs.Grammar.{Name, Kinds, each_after, texpr, app, mark, lower, word, mark_if, word_if}
-use Rattle.om_grammar.specs.Grammar.{App, Params, no_params, param, params, FieldTree, RecordTree}
+use Rattle.om_grammar.specs.Grammar.{Name, each_after, texpr, app, mark, lower, word, mark_if, word_if}
+use Rattle.om_grammar.specs.Grammar.{Params, no_params, param, params, FieldTree, RecordTree}
 use Rattle.om_grammar.specs.Grammar.{ArgumentsTree, ConstrTree, BodyTree, record_body, variant_body}
-use Rattle.om_grammar.specs.Grammar.{type_body, DeclTree, GroupTree, FileTree, variable_kind}
+use Rattle.om_grammar.specs.Grammar.{type_body, DeclTree, variable_kind}
 use Rattle.om_grammar.specs.Grammar.{params_kinds, field_kinds, record_kinds, arguments_kinds, constr_kinds}
-use Rattle.om_grammar.specs.Grammar.{body_kinds, decl_kinds, group_kinds, file_kinds}
+use Rattle.om_grammar.specs.Grammar.{body_kinds, decl_kinds}
 use Rattle.om_grammar.specs.Grammar as trees
 use Rattle.om_types.specs.declared.decl.Field.{Field}
 use Rattle.om_types.specs.declared.decl.Constructor.{Constructor}

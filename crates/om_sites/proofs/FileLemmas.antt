@@ -56,9 +56,6 @@ pub record FileFollows (ms : List ℕ) (decls : List Decl) (names : List Placed)
       (more : List Placed) (others : List Site) → AreSites left more others (counted_file rest left)
       → AreSites decls (names ++ more) (sites ++ others) (counted_file ms decls)
 
-pub FileFollows-first : (ms : List ℕ) (decls : List Decl) → FileFollows ms decls [] [] ms decls
-FileFollows-first ms decls = record { are = λ more others h. h }
-
 pub FileFollows-next :
     (ms : List ℕ) (decls : List Decl) (names names' : List Placed) (sites sites' : List Site) (site : Site)
     (rest rest' : List ℕ) (d : Decl) (left : List Decl)
@@ -133,9 +130,6 @@ pub record BracketsFollow (ms : List ℕ) (decls : List Decl) (found : List (Lis
   pub are :
       (more : List (List TypeBrackets)) → AreFileBrackets more (counted_file rest left)
       → AreFileBrackets (found ++ more) (counted_file ms decls)
-
-pub BracketsFollow-first : (ms : List ℕ) (decls : List Decl) → BracketsFollow ms decls [] ms decls
-BracketsFollow-first ms decls = record { are = λ more h. h }
 
 pub BracketsFollow-step :
     (ms : List ℕ) (decls : List Decl) (found found' : List (List TypeBrackets)) (brackets : List TypeBrackets)

@@ -36,11 +36,6 @@ pub record RowFollows {X : Type 0} (count : X → ℕ) (name : List ℕ → X �
     (all : List X) (row : List Placed) (rest : List ℕ) (left : List X) : Type 0 where
   pub row_is : row ++ along count name rest left ≡ along count name ms all
 
-pub RowFollows-first :
-    {X : Type 0} (count : X → ℕ) (name : List ℕ → X → List Placed) (ms : List ℕ) (all : List X)
-    → RowFollows count name ms all [] ms all
-RowFollows-first count name ms all = record { row_is = refl }
-
 pub RowFollows-next :
     {X : Type 0} (count : X → ℕ) (name : List ℕ → X → List Placed) (ms : List ℕ) (all : List X)
     (row row' : List Placed) (rest rest' : List ℕ) (x : X) (left : List X)
@@ -77,9 +72,6 @@ RowFollows-end count name ms all row rest i past follows = RowFollows-last count
 module _ {X : Type 0} (count : X → ℕ) (rows : List ℕ → X → List (List Placed))
     (carrying : List ℕ → X → List ℕ) (seen : List ℕ → X → List Occurrence) (start : Found) (ms : List ℕ)
     (all : List X) where
-  pub Follows-first : Follows count rows carrying seen start ms all start ms all
-  Follows-first = record { adds = λ last h. h; rest_is = refl }
-
   pub Follows-next :
       (found found' : Found) (rest rest' : List ℕ) (x : X) (left : List X)
       → Follows count rows carrying seen start ms all found rest (x ∷ left)

@@ -210,8 +210,8 @@ fn line(alloc: Global, stop: &Stop) -> Result<Vec<u8>, Memory>
     }
 }
 
-/// Puts the line of a stop on err, if it has one, and answers its status. Where memory runs out for the line, this
-/// is told.
+/// Puts the line of a stop on err, if it has one, and answers its status. Where memory runs out for
+/// the line, this is told.
 pub fn report_stop<E: Sink>(alloc: Global, err: &mut E, stop: &Stop) -> Status
     ensures { Reports stop.now (change (E.state err.old) (E.state err.new)) result }
 {

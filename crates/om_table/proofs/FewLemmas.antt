@@ -1,7 +1,6 @@
 -- A type that reaches few types does not reach too many.
 use Rattle.std.proofs.Common.{ℕ, zero, suc, ◌<◌, ◌≤◌, ◌≡◌, ◌∙◌, ⊎_elim, List, [], ◌∷◌, length, Some, refl, sym, ap, subst, arith}
 use Rattle.std.specs.Prelude.{Contains, slice_get}
-use Rattle.om_model.proofs.Options.{Contains-none}
 use Rattle.om_types.specs.declared.decl.Decl.{Decl}
 use Rattle.om_types.specs.Ty.{Ty}
 use Rattle.om_types.specs.Reached.{IsReached, AreDistinct, ReachesTooMany}

@@ -1,5 +1,5 @@
 -- The fields that a shape needs are there, each at one type.
-use Rattle.std.proofs.Common.{ℕ, zero, suc, ◌+◌, ◌<◌, ◌≡◌, ◌∙◌, ⊎_elim, List, []}
+use Rattle.std.proofs.Common.{ℕ, zero, suc, ◌+◌, ◌≡◌, ◌∙◌, ⊎_elim, List, []}
 use Rattle.std.proofs.Common.{◌∷◌, length}
 use Rattle.std.proofs.Common.{Bool, true, false, Option, Some, None, refl, ap, sym, arith}
 use Rattle.std.proofs.Common.{◌==◌}

@@ -1,5 +1,5 @@
 -- What a verdict says that is `sound`.
-use Rattle.std.proofs.Common.{List, ℕ, refl}
+use Rattle.std.proofs.Common.{List, refl}
 use Rattle.std.specs.Prelude.{◌↔◌, IsTrue}
 use Rattle.std.proofs.lemmas.Bool.{false≢true}
 use Rattle.om_model.specs.declared.value.Val.{Val}

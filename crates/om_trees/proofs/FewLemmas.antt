@@ -1,5 +1,5 @@
 -- How many of some heights are smaller than a number.
-use Rattle.std.proofs.Common.{ℕ, zero, suc, ◌≡◌, ◌<◌, ◌≤◌, ◌+◌, Bool, true, false, List, [], ◌∷◌, length, Some, refl, sym, ap, subst, arith}
+use Rattle.std.proofs.Common.{ℕ, zero, suc, ◌≡◌, ◌<◌, ◌≤◌, ◌+◌, Bool, true, false, List, [], ◌∷◌, Some, refl, sym, ap, subst, arith}
 use Rattle.std.specs.Prelude.{slice_get, ℤ, int_lt, ◌<ℤ◌, ◌≤ℤ◌}
 use Rattle.std.proofs.lemmas.Int.{ints}
 use Rattle.std.proofs.lemmas.Option.{same_Some, none-some}
@@ -29,13 +29,6 @@ lower_more [] y z less = omega arith
 lower_more (x ∷ heights) y z less =
     let here = one_more (int_lt x y) (int_lt x z) (less_still x y z less) in
     let rest = lower_more heights y z less in
-    omega (arith, here, rest)
-
-pub lower_few : (heights : List ℤ) (z : ℤ) → lower heights z ≤ length heights
-lower_few [] z = omega arith
-lower_few (x ∷ heights) z =
-    let here = at_most_one (int_lt x z) in
-    let rest = lower_few heights z in
     omega (arith, here, rest)
 
 not_itself : (z : ℤ) → int_lt z z ≡ false

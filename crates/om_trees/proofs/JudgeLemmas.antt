@@ -1,17 +1,14 @@
 -- The first fault of a list of nodes.
-use Rattle.std.proofs.Common.{ℕ, ◌≡◌, ◌<◌, ◌≤◌, ◌+◌, ◌∙◌, ⊎_elim, inl, inr, List, length, Option, Some, None, sym, ap, subst, arith}
+use Rattle.std.proofs.Common.{ℕ, ◌≡◌, ◌<◌, ◌≤◌, ◌+◌, ◌∙◌, ⊎_elim, List, length, Option, Some, None, sym, ap, subst, arith}
 use Rattle.std.specs.Prelude.{Contains, slice_get, ◌↔◌}
 use Rattle.std.proofs.lemmas.Option.{same_Some, slice_get_within}
 use Rattle.std.proofs.lemmas.Bool.{cases_lt}
 use Rattle.om_model.proofs.Options.{IsSomeAnd-at, IsSomeAnd-some, slice_get-Contains}
 use Rattle.om_model.specs.declared.value.Obj.{Obj}
-use Rattle.om_trees.specs.declared.node.TreeKind.{TreeKind}
-use Rattle.om_trees.specs.declared.node.TreeKind.TheVariants as kinds
-use Rattle.om_trees.specs.declared.judging.Judgement.TheVariants.{Sound, Faulty}
 use Rattle.om_trees.specs.declared.span.Settled.{Settled}
-use Rattle.om_trees.specs.TreeFault.{IsMiscounted, IsUnbalanced, IsDisordered}
+use Rattle.om_trees.specs.TreeFault.{IsDisordered}
 use Rattle.om_trees.specs.Span.{IsSettled, IsMarked}
-use Rattle.om_trees.specs.Judgement.{HasAt, IsFaultAt, IsToldBefore, IsJudgement, IsFirst}
+use Rattle.om_trees.specs.Judgement.{HasAt, IsFirst}
 
 module _ (Has : ℕ → Type 0) (nodes : List ℕ) where
   -- none of the first so many
@@ -33,43 +30,7 @@ module _ (Has : ℕ → Type 0) (nodes : List ℕ) where
       let within = slice_get_within nodes j some.0 some.1 in
       none j (omega (arith, end, within)) has
 
-  pub first_here : (i o : ℕ) → NoneBefore i → slice_get nodes i ≡ Some o → Has o → IsFirst Has nodes (Some i)
-  first_here i o none at has = (IsSomeAnd-at (slice_get nodes i) o Has at has, none)
-
 module _ (graph : List Obj) (nodes : List ℕ) where
-  pub height_told : (i : ℕ) → IsFirst (IsMiscounted graph) nodes (Some i) → IsJudgement graph nodes (Faulty kinds.Height i)
-  height_told i first = (first.0, λ other j fault before. by_rank other j fault before) where
-    by_rank : (other : TreeKind) (j : ℕ) → IsFaultAt graph nodes other j → IsToldBefore other j kinds.Height i → ⊥
-    by_rank other j fault (inl less) = omega (arith, less)
-    by_rank other j fault (inr (same, less)) = first.1 j less (subst (λ kind. IsFaultAt graph nodes kind j) same fault)
-
-  pub balance_told :
-      (i : ℕ) → IsFirst (IsMiscounted graph) nodes None → IsFirst (IsUnbalanced graph) nodes (Some i) → IsJudgement graph nodes (Faulty kinds.Balance i)
-  balance_told i none first = (first.0, λ other j fault before. by_rank other j fault before) where
-    by_rank : (other : TreeKind) (j : ℕ) → IsFaultAt graph nodes other j → IsToldBefore other j kinds.Balance i → ⊥
-    by_rank kinds.Height j fault (inl less) = none j fault
-    by_rank kinds.Balance j fault (inl less) = omega (arith, less)
-    by_rank kinds.Order j fault (inl less) = omega (arith, less)
-    by_rank other j fault (inr (same, less)) = first.1 j less (subst (λ kind. IsFaultAt graph nodes kind j) same fault)
-
-  pub order_told :
-      (i : ℕ) → IsFirst (IsMiscounted graph) nodes None → IsFirst (IsUnbalanced graph) nodes None → IsFirst (IsDisordered graph) nodes (Some i)
-      → IsJudgement graph nodes (Faulty kinds.Order i)
-  order_told i none level first = ((first.0, none), λ other j fault before. by_rank other j fault before) where
-    by_rank : (other : TreeKind) (j : ℕ) → IsFaultAt graph nodes other j → IsToldBefore other j kinds.Order i → ⊥
-    by_rank kinds.Height j fault (inl less) = none j fault
-    by_rank kinds.Balance j fault (inl less) = level j fault
-    by_rank kinds.Order j fault (inl less) = omega (arith, less)
-    by_rank other j fault (inr (same, less)) =
-        let order : IsFaultAt graph nodes kinds.Order j = subst (λ kind. IsFaultAt graph nodes kind j) same fault in
-        first.1 j less order.0
-
-  pub sound_told :
-      IsFirst (IsMiscounted graph) nodes None → IsFirst (IsUnbalanced graph) nodes None → IsFirst (IsDisordered graph) nodes None → IsJudgement graph nodes Sound
-  sound_told none level ordered kinds.Height j fault = none j fault
-  sound_told none level ordered kinds.Balance j fault = level j fault
-  sound_told none level ordered kinds.Order j fault = ordered j fault.0
-
   -- ---- marks
 
   marked_is : (all : List Settled) (o : ℕ) → IsSettled graph all o → IsMarked all o ↔ IsDisordered graph o

@@ -1,5 +1,5 @@
 -- The heights of closed nodes, which are counted right: none is negative, and parts are lower.
-use Rattle.std.proofs.Common.{ℕ, zero, suc, ◌≡◌, ◌<◌, ◌∙◌, List, length, max, map, refl, arith}
+use Rattle.std.proofs.Common.{ℕ, zero, suc, ◌≡◌, ◌<◌, List, length, max, map, refl, arith}
 use Rattle.std.specs.Prelude.{Contains, slice_get, ℤ, pos, ◌+ℤ◌, ◌<ℤ◌}
 use Rattle.std.specs.Int.{int_max}
 use Rattle.std.specs.Global.{Vec}

@@ -1,5 +1,5 @@
 -- Levels with one more node.
-use Rattle.std.proofs.Common.{ℕ, zero, suc, ◌<◌, ◌+◌, ◌≡◌, ◌≢◌, ◌∙◌, ⊎_elim, ◌⊎◌, inl, inr, List, [], ◌∷◌, ◌++◌, Some, sym, ap, subst, length, length-append, get_or, set, arith}
+use Rattle.std.proofs.Common.{ℕ, zero, suc, ◌<◌, ◌+◌, ◌≡◌, ◌∙◌, ⊎_elim, ◌⊎◌, inl, inr, List, [], ◌∷◌, ◌++◌, Some, sym, ap, subst, length, length-append, get_or, set, arith}
 use Rattle.std.specs.Prelude.{Contains, slice_get, pos}
 use Rattle.std.specs.Global.{Vec}
 use Rattle.std.proofs.lemmas.List.Elements.{Contains-append_left, Contains-push, Contains-push_cases}
@@ -9,8 +9,6 @@ use Rattle.om_model.specs.declared.value.Obj.{Obj}
 use Rattle.om_model.proofs.Lists.{slice_get-append_left, slice_get-set_other, slice_get-set_here, slice_get-read}
 use Rattle.om_trees.specs.Parts.{node_at}
 use Rattle.om_trees.specs.Levels.{Has, HasRooms, IsPut, AreLevels}
-
--- ---- an element that is replaced
 
 -- ---- levels with nothing
 

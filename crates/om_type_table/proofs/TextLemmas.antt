@@ -25,16 +25,6 @@ waiting_text-push types (first ∷ all) next =
     ∙ append_assoc (text_of_waiting types next) (waiting_text types all)
     (text_of_waiting types first)
 
-pub waiting_text-pushed :
-    (types : List Ty) (old mid new : List Waiting) (first second : Waiting)
-    → mid ≡ old ++ first ∷ [] → new ≡ mid ++ second ∷ []
-    → waiting_text types new
-    ≡ text_of_waiting types second ++ (text_of_waiting types first ++ waiting_text types old)
-waiting_text-pushed types old mid new first second one two =
-    ap (waiting_text types) two ∙ waiting_text-push types mid second
-    ∙ ap (λ all. text_of_waiting types second ++ waiting_text types all) one
-    ∙ ap (λ text. text_of_waiting types second ++ text) (waiting_text-push types old first)
-
 -- ---- a part less
 
 pub stem-whole : (t u : Ty) → Some u ≡ whole_of t → stem u ≡ stem t

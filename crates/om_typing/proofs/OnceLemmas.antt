@@ -1,5 +1,5 @@
 -- A value has one least fault at a type, and a fault has one text.
-use Rattle.std.proofs.Common.{ℕ, ◌≡◌, ◌∙◌, inl, inr, List, Some, refl, sym, ap, ◌++◌}
+use Rattle.std.proofs.Common.{ℕ, ◌≡◌, ◌∙◌, inl, inr, List, Some, sym, ap, ◌++◌}
 use Rattle.std.specs.Prelude.{codes}
 use Rattle.std.proofs.lemmas.Option.{same_Some}
 use Rattle.om_model.specs.declared.value.Val.{Val}

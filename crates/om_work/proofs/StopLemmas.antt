@@ -1,12 +1,12 @@
 -- The account of a call that stops before its input, by any commands.
-use Rattle.std.proofs.Common.{◌≡◌, ◌⊎◌, ◌<◌, ℕ, List, [], Ok, Err, inl, inr, refl, ◌∙◌, subst}
+use Rattle.std.proofs.Common.{◌≡◌, ◌⊎◌, ◌<◌, ℕ, List, [], Err, inl, inr, refl, ◌∙◌, subst}
 use Rattle.om_outcome.specs.declared.status.Status.{Status}
 use Rattle.om_outcome.specs.Outcome.{IsUsage, Request, nothing, unfetched, stops as stops_reply, stopped, ending_of}
 use Rattle.om_outcome.specs.declared.stop.Stop.{Stop}
 use Rattle.om_outcome.specs.declared.stop.Stop.TheVariants.{Usage as usage, Memory as out_of_memory}
 use Rattle.om_edge.specs.State.{ByteState, FilesState, Change, change}
 use Rattle.om_stops.specs.Stops.{Reports}
-use Rattle.om_promises.specs.Account.{IsWanted, FetchesFor, MayBe, Account}
+use Rattle.om_promises.specs.Account.{FetchesFor, MayBe, Account}
 use Rattle.om_promises.specs.Call.{Call, call}
 use Rattle.om_promises.specs.Commands.{Fetches, Given, Commands, Prepares, RunReplies}
 use Rattle.om_promises.specs.Outside.{PutsLine}

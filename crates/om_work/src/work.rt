@@ -29,8 +29,8 @@ pub trait Work {
         ensures { IsTrue result ↔ commands.Reads (act self.now) };
 
     /// Takes some of the bytes in hand, one at least, up to the end of an item at most, and puts
-    /// what is to be said of that item. Of a command that reads nothing this says nothing: it is not
-    /// called.
+    /// what is to be said of that item. Of a command that reads nothing this says nothing: it is
+    /// not called.
     fn feed<K: Sink>(&mut self, alloc: Global, in_hand: &[u8], out: &mut K) -> Result<usize, Halt>
         requires some { 0 < length in_hand.now }
         requires has { (bytes : List ℕ) × (said : List Said) × has self.old bytes said

@@ -2,7 +2,7 @@
 use Rattle.std.proofs.Common.{◌≡◌, ◌≢◌, ℕ, ◌+◌, ◌<◌, ◌≤◌, true, List, [], ◌∷◌, ◌++◌, length, get_or, take, Ok, inl, inr, refl, sym, ap, ◌∙◌, subst, length-append, arith}
 use Rattle.std.specs.Prelude.{◌&&◌}
 use Rattle.om_model.specs.declared.refusal.ReadRefusal.TheVariants.{Compressed}
-use Rattle.om_outcome.specs.Outcome.{Said, nothing_said, says, all_well}
+use Rattle.om_outcome.specs.Outcome.{Said, nothing_said, all_well}
 use Rattle.om_outcome.specs.RefusalText.{refusal_text}
 use Rattle.om_outcome.specs.declared.stop.Stop.{Stop}
 use Rattle.om_outcome.specs.declared.stop.Stop.TheVariants.{Value as value}

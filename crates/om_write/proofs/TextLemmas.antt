@@ -147,10 +147,6 @@ content_failed a b c x y f xs i inside first second =
 abbrev pub itself : ℕ → List ℕ
 itself b = b ∷ []
 
-pub flat_map-itself : (xs : List ℕ) → flat_map itself xs ≡ xs
-flat_map-itself [] = refl
-flat_map-itself (x ∷ xs) = ap (λ ys. x ∷ ys) (flat_map-itself xs)
-
 -- ---- leaves
 
 pub string_text : (o : Obj) (bytes front : List ℕ) (n : ℕ) → o ≡ objects.Bytes bytes → n ≡ length bytes → front ≡ string_front n → front ++ bytes ≡ leaf_spelling o

@@ -1,4 +1,4 @@
-use Rattle.std.proofs.Common.{subst, ap, refl, arith}
+use Rattle.std.proofs.Common.{subst, refl, arith}
 use Rattle.om_classes.specs.Lists.{IsOfClass}
 use Rattle.om_classes.proofs.ListLemmas.{shorter_is}
 use Rattle.om_classes.proofs.lists.shorten.Goals as goal

@@ -1,4 +1,4 @@
-use Rattle.std.proofs.Common.{◌+◌, ◌<◌, ◌≡◌, ◌∙◌, length, sym, arith}
+use Rattle.std.proofs.Common.{◌+◌, ◌<◌, ◌∙◌, length, sym, arith}
 use Rattle.om_model.proofs.Options.{slice_get_there}
 use Rattle.om_fits.proofs.RowLemmas.{alike_more, are_alike}
 use Rattle.om_fits.proofs.row.more_alike.Goals as goal

@@ -3,7 +3,7 @@ use Rattle.std.proofs.lemmas.Option.{slice_get_within}
 use Rattle.om_heap.specs.Heap.{object_at, fields_of, set_field}
 use Rattle.om_write.specs.Marks.{marks_of}
 use Rattle.om_graft.specs.Renamed.{blank, renamed_value}
-use Rattle.om_graft.proofs.FillLemmas.{partly, fill_none, fill_more, fields_there, fill_nothing, partly_all}
+use Rattle.om_graft.proofs.FillLemmas.{partly, fill_none, fill_more, fields_there, fill_nothing}
 use Rattle.om_graft.proofs.fill.fill.Goals as goal
 
 pub returns-in_default : goal.returns-in_default

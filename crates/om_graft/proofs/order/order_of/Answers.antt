@@ -1,7 +1,5 @@
 use Rattle.std.proofs.Common.{ℕ, List, ◌+◌, ◌-◌, ◌≡◌, ◌∙◌, length, length-set, sym, ap, subst, arith}
-use Rattle.om_model.specs.declared.value.Obj.{Obj}
 use Rattle.om_write.specs.Marks.{marks_of}
-use Rattle.om_write.specs.Walking.{AreMarked}
 use Rattle.om_graft.proofs.OrderLemmas.{AreOrdered, many_marked, unmarked_next, marked_next, all_ordered}
 use Rattle.om_graft.proofs.order.order_of.Goals as goal
 use Rattle.om_graft.proofs.order.order_of.Goals.{then-mark-ne0, else-mark-ne0}

@@ -1,4 +1,4 @@
-use Rattle.std.proofs.Common.{◌∙◌, List, ap, map, refl}
+use Rattle.std.proofs.Common.{◌∙◌, ap, map, refl}
 use Rattle.std.specs.Prelude.{slice_get}
 use Rattle.om_types.specs.Table.{tag_with_part}
 use Rattle.om_store.proofs.HeldLemmas.{Grows-then}

@@ -1,4 +1,4 @@
-use Rattle.std.proofs.Common.{◌<◌, ◌∙◌, ◌∷◌, None, length, length-append, sym, ap, arith, reverse}
+use Rattle.std.proofs.Common.{◌∙◌, ◌∷◌, None, length, length-append, sym, ap, arith, reverse}
 use Rattle.std.proofs.lemmas.Option.{MatchOption-at_some, MatchOption-at_none}
 use Rattle.std.proofs.lemmas.Result.{on_ok_weaker}
 use Rattle.om_types.specs.Nodes.{type_at}

@@ -1,4 +1,4 @@
-use Rattle.std.proofs.Common.{◌<◌, length, length-append, ap, arith}
+use Rattle.std.proofs.Common.{length, length-append, ap, arith}
 use Rattle.std.proofs.lemmas.Result.{IfOk-weaker}
 use Rattle.om_store.proofs.HeldLemmas.{Grows-then}
 use Rattle.om_layout.proofs.NearerLemmas.{later_is}

@@ -1,14 +1,13 @@
 use Rattle.std.proofs.Common.{arith, sym, ap, ◌∙◌, subst}
-use Rattle.std.specs.Prelude.{ℕ, ◌+◌, ◌<◌, ◌≡◌, true, false, None, List, [], length, All, option_map, slice_get}
+use Rattle.std.specs.Prelude.{ℕ, ◌+◌, ◌<◌, ◌≡◌, true, false, List, [], length, All, option_map, slice_get}
 use Rattle.std.proofs.lemmas.List.{append-nil}
-use Rattle.om_literal_grammar.specs.declared.node.Form.TheVariants as forms
 use Rattle.om_literal_grammar.specs.declared.node.Node.{Node}
 use Rattle.om_lex.specs.declared.lexeme.Lexeme.{Lexeme}
 use Rattle.om_literal_grammar.specs.Literal.{again, label_kinds}
 use Rattle.om_literal.specs.LiteralAnswers.{shape_in, names_in}
 use Rattle.om_literal.specs.Reading.{is_next, literal_read}
 use Rattle.om_literal.specs.Standing.{Stands, own_node}
-use Rattle.om_literal.specs.Underway.{IsMade, Begins, MayRefuse}
+use Rattle.om_literal.specs.Underway.{Begins, MayRefuse}
 use Rattle.om_literal.specs.declared.fault.LiteralFault.TheVariants as faults
 use Rattle.om_literal.proofs.GoLemmas.{own_found, again_only, plain_only, part_inside, first_within}
 use Rattle.om_literal.proofs.StandingLemmas.{lead_is}

@@ -1,5 +1,5 @@
-use Rattle.std.proofs.Common.{arith, sym, ap, ◌∙◌, subst}
-use Rattle.std.specs.Prelude.{ℕ, ◌+◌, length, IfOk}
+use Rattle.std.proofs.Common.{sym, ap, ◌∙◌, subst}
+use Rattle.std.specs.Prelude.{◌+◌, length, IfOk}
 use Rattle.om_literal_grammar.specs.declared.node.Node.{Node}
 use Rattle.om_literal_grammar.specs.Literal.{label_kinds}
 use Rattle.om_literal.specs.Underway.{IsMade}

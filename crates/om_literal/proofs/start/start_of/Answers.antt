@@ -1,9 +1,7 @@
-use Rattle.std.proofs.Common.{sym, ap, ◌∙◌, subst, get_or}
-use Rattle.std.specs.Prelude.{ℕ, ◌+◌, ◌≡◌, length, option_map, IfOk}
+use Rattle.std.proofs.Common.{sym, ap, ◌∙◌, subst}
+use Rattle.std.specs.Prelude.{ℕ, ◌≡◌, option_map, IfOk}
 use Rattle.om_types.specs.declared.names.Names.{Names}
 use Rattle.om_types.specs.declared.shape.ShapeOf.{ShapeOf}
-use Rattle.om_literal_grammar.specs.declared.node.Node.{Node}
-use Rattle.om_literal_grammar.specs.Literal.{label_kinds}
 use Rattle.om_literal.specs.LiteralAnswers.{shape_in, names_in}
 use Rattle.om_literal.specs.Started.{start_in}
 use Rattle.om_literal.specs.Starts.{start_at}

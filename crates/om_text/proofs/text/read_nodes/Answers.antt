@@ -1,4 +1,4 @@
-use Rattle.std.proofs.Common.{List, Err, sym, subst}
+use Rattle.std.proofs.Common.{Err, sym, subst}
 use Rattle.om_text.specs.declared.text.TextFault.{TextFault}
 use Rattle.om_text.specs.Text.{ReadsText}
 use Rattle.om_literal_grammar.specs.Placed.{lexemes_at}

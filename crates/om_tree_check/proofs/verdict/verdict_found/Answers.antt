@@ -1,4 +1,4 @@
-use Rattle.std.proofs.Common.{ℕ, ◌≡◌, ◌∙◌, List, length, get_or, refl, sym, ap, subst, arith}
+use Rattle.std.proofs.Common.{ℕ, ◌∙◌, List, length, refl, sym, subst, arith}
 use Rattle.std.proofs.lemmas.Option.{slice_get_read}
 use Rattle.om_trees.specs.declared.judging.Judgement.TheVariants.{Sound, Faulty}
 use Rattle.om_trees.specs.declared.verdict.TreeVerdict.TheVariants as verdicts

@@ -1,8 +1,6 @@
-use Rattle.std.proofs.Common.{◌≡◌, ◌∙◌, List, ℕ, length, sym, ap, subst}
+use Rattle.std.proofs.Common.{◌∙◌, sym, subst}
 use Rattle.om_canonical.proofs.Walk.{tree_exists}
-use Rattle.om_canonical.specs.Numbering.{IsNumbering}
 use Rattle.om_write.specs.Marks.{marks_of}
-use Rattle.om_write.specs.Walking.{AreMarked}
 use Rattle.om_graft.specs.Order.{IsOrder}
 use Rattle.om_graft.proofs.order.Order.of.Goals as goal
 
