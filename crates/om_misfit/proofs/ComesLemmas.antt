@@ -18,7 +18,7 @@ use Rattle.om_format.specs.Tree.{RefersBack, made_by}
 use Rattle.om_format.specs.Spelled.{IsNoReference}
 use Rattle.om_pass_law.specs.Asked.{of_type, hash_of, IsHidden}
 use Rattle.om_pass_law.proofs.PassLemmas.{leaf_made}
-use Rattle.om_misfit_law.specs.PassedBut.{Place, Made, Missed, field_after, unasked, made_in, IsLedBack, IsTaggedBut, Takes, Misses, PassedBut, fitting, missing, below}
+use Rattle.om_misfit_law.specs.PassedBut.{Place, Made, Missed, field_after, unasked, made_in, IsPlain, HasFirst, IsLedBack, IsTaggedBut, Takes, Misses, PassedBut, fitting, missing, below}
 use Rattle.om_misfit_law.proofs.UnaskedLemmas.{before_or_not, made_long, made_there}
 use Rattle.om_misfit_law.proofs.StatedLemmas.{back_more}
 use Rattle.om_pass.specs.declared.words.Words.{Words}
@@ -27,6 +27,7 @@ use Rattle.om_misfit.specs.declared.again.Again.{Again}
 use Rattle.om_misfit.specs.declared.misfit.Found.{Found}
 use Rattle.om_misfit.specs.declared.misfit.Finding.{Finding}
 use Rattle.om_misfit.specs.declared.said.Said.{Said}
+use Rattle.om_misfit.specs.declared.second.Seconds.{Seconds}
 use Rattle.om_misfit.specs.declared.said.Said.TheVariants as sayings
 use Rattle.om_misfit.specs.declared.way.Asked.TheVariants as asks
 use Rattle.om_misfit.specs.declared.way.Left.{Left}
@@ -35,6 +36,7 @@ use Rattle.om_misfit.specs.declared.way.Way.{Way}
 use Rattle.om_misfit.specs.Judge.{IsSaid, IsNoBack, said_fields}
 use Rattle.om_misfit.specs.Way.{trail_of, trail_in, place_of, left_values, way_places, opened_places, unasked_place, IsWay}
 use Rattle.om_misfit.specs.Find.{no_type, type_or_none, AreTypes, AreMarked, IsMissedAt, AreMissedAt, IsHeld, HasRoom, Adds, LeadsTo, Comes, unasked_in}
+use Rattle.om_misfit.specs.Second.{Knows, Shows}
 use Rattle.om_misfit.proofs.WayLemmas.{none_opened}
 use Rattle.om_misfit.proofs.SaidLemmas.{some_token}
 
@@ -102,7 +104,7 @@ pub many_held : (types : List ℕ) (made : List Made) → AreTypes types made �
 many_held types made are = ap length are.0 ∙ many_types made
 
 module _ (table : Table) (back : List ℕ) (tokens : List Token) (made : List Made) (missed : List Missed) (token : Token) (is : IsToken token)
-    (old new : Finding) (said : Said) (left : Left) (its : IsSaid said token) (held : IsHeld back made missed old) where
+    (old new : Finding) (said : Said) (left : Left) (its : IsSaid said token) (held : IsHeld back made missed old) (front : List ℕ) (known : Knows table front tokens old.seconds) where
   -- what is held after an object, or none, was added
   held_after : (n : ℕ) (type : Option ℕ) (trail : List (ℕ × ℕ)) (later : List Missed) → Adds old n said left new → n ≡ type_or_none type → ((t : ℕ) → type ≡ Some t → t < no_type) → AreMissedAt new.found later → IsHeld (back ++ []) (made ++ made_in type trail token) later new
   held_after n type trail later adds same some found = record {
@@ -122,8 +124,8 @@ module _ (table : Table) (back : List ℕ) (tokens : List Token) (made : List Ma
       (subst (λ bs. PassedBut bs table (tokens ++ token ∷ []) (made ++ made_in type trail token) places later) (sym (append-nil back)) passed)
 
   -- it has what is asked for
-  pub fits_leads : (t : ℕ) → t < no_type → Adds old t said left new → Takes back table made (trail_in old.way) (of_type t) token (opened_places (length made) (trail_in old.way) left)
-      → PassedBut back table tokens made (record { asks = Some (of_type t); trail = trail_in old.way } ∷ way_places old.way) missed → LeadsTo back table tokens made token new
+  pub fits_leads : (t : ℕ) → t < no_type → Adds old t said left new → Takes back table (IsPlain table tokens) made (trail_in old.way) (of_type t) token (opened_places (length made) (trail_in old.way) left)
+      → PassedBut back table tokens made (record { asks = Some (of_type t); trail = trail_in old.way } ∷ way_places old.way) missed → LeadsTo back table front tokens made token new
   fits_leads t some adds takes passed =
       let trail = trail_in old.way in
       let next = opened_places (length made) trail left in
@@ -135,10 +137,11 @@ module _ (table : Table) (back : List ℕ) (tokens : List Token) (made : List Ma
         missed = missed;
         passed = passed_after (Some t) trail (next ++ way_places old.way) missed (fitting tokens made (of_type t) trail (way_places old.way) next missed token passed takes) places;
         held = held_after t (Some t) trail missed adds refl (λ u same. subst (λ v. v < no_type) (same_Some t u same) some) (subst (λ (found : Option Found). AreMissedAt found missed) (sym adds.found) held.found);
+        known = subst (Knows table front tokens) (sym adds.seconds) known;
       }
 
   -- nothing is asked of it
-  pub below_leads : Adds old no_type said left new → unasked_in left token → PassedBut back table tokens made (unasked_place ∷ way_places old.way) missed → LeadsTo back table tokens made token new
+  pub below_leads : Adds old no_type said left new → unasked_in left token → PassedBut back table tokens made (unasked_place ∷ way_places old.way) missed → LeadsTo back table front tokens made token new
   below_leads adds fields passed =
       let places : way_places new.way ≡ unasked token ++ way_places old.way = adds.places ∙ ap (λ ps. ps ++ way_places old.way) (fields (length old.types.items) (trail_in old.way)) in
       record {
@@ -148,15 +151,17 @@ module _ (table : Table) (back : List ℕ) (tokens : List Token) (made : List Ma
         missed = missed;
         passed = passed_after None [] (unasked token ++ way_places old.way) missed (below tokens made [] (way_places old.way) missed token passed) places;
         held = held_after no_type None [] missed adds refl (λ u same. absurd (none-some u same)) (subst (λ (found : Option Found). AreMissedAt found missed) (sym adds.found) held.found);
+        known = subst (Knows table front tokens) (sym adds.seconds) known;
       }
 
 -- it does not have what is asked for, and is the first that does not
 pub miss_leads :
     (table : Table) (back : List ℕ) (tokens : List Token) (made : List Made) (missed : List Missed) (token : Token) → IsToken token → (old middle new : Finding) (said : Said) (left : Left) → IsSaid said token → IsHeld back made missed old
     → (t : ℕ) (found : Found) → old.found ≡ None → middle.found ≡ Some found → found.links.items ≡ old.way.links.items → found.ty ≡ t → found.said ≡ said
-    → middle.way ≡ old.way → middle.types ≡ old.types → middle.again ≡ old.again → Adds middle no_type said left new → unasked_in left token → Misses table t token
-    → PassedBut back table tokens made (record { asks = Some (of_type t); trail = trail_in old.way } ∷ way_places old.way) missed → LeadsTo back table tokens made token new
-miss_leads table back tokens made missed token is old middle new said left its held t found none' some links type says way types again adds fields misses passed =
+    → middle.way ≡ old.way → middle.types ≡ old.types → middle.again ≡ old.again → middle.seconds ≡ old.seconds → Adds middle no_type said left new → unasked_in left token → Misses table t token
+    → (front : List ℕ) → Knows table front tokens old.seconds
+    → PassedBut back table tokens made (record { asks = Some (of_type t); trail = trail_in old.way } ∷ way_places old.way) missed → LeadsTo back table front tokens made token new
+miss_leads table back tokens made missed token is old middle new said left its held t found none' some links type says way types again seconds adds fields misses front known passed =
     let trail = trail_in old.way in
     let one : Missed = record { trail = trail; type = t; token = token } in
     let first : missed ≡ [] = subst (λ (f : Option Found). AreMissedAt f missed) none' held.found in
@@ -181,6 +186,7 @@ miss_leads table back tokens made missed token is old middle new said left its h
         marked = marked_after made None trail token is back middle.again.marks.items new.again.marks.items marks_held (adds.marks token its);
         found = found_after;
       };
+      known = subst (Knows table front tokens) (sym (adds.seconds ∙ seconds)) known;
     }
 
 -- ---- what is added
@@ -195,6 +201,7 @@ adds_none old type said left is room none =
       is_way = is;
       places = sym (ap (λ ps. ps ++ way_places old.way) (none_opened (length old.types.items) (trail_in old.way) left no_left));
       found = refl;
+      seconds = refl;
       types = λ token its. sym (ap (λ n. old.types.items ++ replicate n type) (no_object token its) ∙ append-nil old.types.items);
       marks = λ token its. sym (ap (λ n. old.again.marks.items ++ replicate n false) (no_object token its) ∙ append-nil old.again.marks.items);
       w32 = λ token its. let plain : of_object words32 (measure_of token) ≡ 0 = ap (of_object words32) (none token its) in omega (arith, plain);
@@ -205,13 +212,14 @@ adds_none old type said left is room none =
 pub adds_one :
     (old new : Finding) (type : ℕ) (said : Said) (left : Left) (measure : Measure) → ((token : Token) → IsSaid said token → measure_of token ≡ Some measure)
     → IsWay new.way → way_places new.way ≡ opened_places (length old.types.items) (trail_in old.way) left ++ way_places old.way
-    → new.found ≡ old.found → new.types.items ≡ old.types.items ++ type ∷ [] → new.again.marks.items ≡ old.again.marks.items ++ false ∷ [] → Spends old.words measure new.words → Adds old type said left new
-adds_one old new type said left measure is way places found types marks spends =
+    → new.found ≡ old.found → new.seconds ≡ old.seconds → new.types.items ≡ old.types.items ++ type ∷ [] → new.again.marks.items ≡ old.again.marks.items ++ false ∷ [] → Spends old.words measure new.words → Adds old type said left new
+adds_one old new type said left measure is way places found seconds types marks spends =
     let one : (token : Token) → IsSaid said token → made_by token ≡ 1 = λ token its. ap (of_object (λ _. 1)) (is token its) in
     record {
       is_way = way;
       places = places;
       found = found;
+      seconds = seconds;
       types = λ token its. types ∙ ap (λ n. old.types.items ++ replicate n type) (sym (one token its));
       marks = λ token its. marks ∙ ap (λ n. old.again.marks.items ++ replicate n false) (sym (one token its));
       w32 = λ token its. let own : of_object words32 (measure_of token) ≡ words32 measure = ap (of_object words32) (is token its) in let left' = spends.w32 in omega (arith, own, left');
@@ -277,23 +285,23 @@ none_found None none = refl
 none_found (Some found) none = absurd (cc)
 
 pub comes_fits :
-    (table : Table) (stated : ℕ) (old new : Finding) (t : ℕ) (said : Said) (left : Left) → t < no_type → IsNoBack said
-    → ((token : Token) → IsSaid said token → (back : List ℕ) (made : List Made) (trail : List (ℕ × ℕ)) → Takes back table made trail (of_type t) token (opened_places (length made) trail left))
-    → Adds old t said left new → Comes table stated old (asks.Type t) said new
-comes_fits table stated old new t said left some plain takes adds = record {
-  leads = λ back tokens made missed token is its held passed.
-      fits_leads table back tokens made missed token is old new said left its held t some adds (takes token its back made (trail_in old.way)) passed;
+    (table : Table) (stated : ℕ) (front : List ℕ) (old new : Finding) (t : ℕ) (said : Said) (left : Left) → t < no_type → IsNoBack said
+    → ((token : Token) → IsSaid said token → (back : List ℕ) (tokens : List Token) (made : List Made) (trail : List (ℕ × ℕ)) → Takes back table (IsPlain table tokens) made trail (of_type t) token (opened_places (length made) trail left))
+    → Adds old t said left new → Comes table stated front old (asks.Type t) said new
+comes_fits table stated front old new t said left some plain takes adds = record {
+  leads = λ back tokens made missed token is its held known passed.
+      fits_leads table back tokens made missed token is old new said left its held front known t some adds (takes token its back tokens made (trail_in old.way)) passed;
   refers = λ token its. refers_by said (length old.types.items) stated plain token its;
   w32 = adds.w32;
   w64 = adds.w64;
 }
 
 pub comes_below :
-    (table : Table) (stated : ℕ) (old new : Finding) (said : Said) (left : Left) → ((token : Token) → IsSaid said token → May (length old.types.items) stated token) → ((token : Token) → IsSaid said token → unasked_in left token)
-    → Adds old no_type said left new → Comes table stated old asks.Nothing said new
-comes_below table stated old new said left refers fields adds = record {
-  leads = λ back tokens made missed token is its held passed.
-      below_leads table back tokens made missed token is old new said left its held adds (fields token its) passed;
+    (table : Table) (stated : ℕ) (front : List ℕ) (old new : Finding) (said : Said) (left : Left) → ((token : Token) → IsSaid said token → May (length old.types.items) stated token) → ((token : Token) → IsSaid said token → unasked_in left token)
+    → Adds old no_type said left new → Comes table stated front old asks.Nothing said new
+comes_below table stated front old new said left refers fields adds = record {
+  leads = λ back tokens made missed token is its held known passed.
+      below_leads table back tokens made missed token is old new said left its held front known adds (fields token its) passed;
   refers = refers;
   w32 = adds.w32;
   w64 = adds.w64;
@@ -301,27 +309,27 @@ comes_below table stated old new said left refers fields adds = record {
 
 -- a reference in a place of which nothing is asked
 pub comes_below_back :
-    (table : Table) (stated : ℕ) (old : Finding) (said : Said) (offset : ℕ) → IsWay old.way → said ≡ sayings.Shared offset → 0 < stated → 1 ≤ offset → offset ≤ length old.types.items → Comes table stated old asks.Nothing said old
-comes_below_back table stated old said offset is same some first few =
-    subst (λ s. Comes table stated old asks.Nothing s old) (sym same)
-    (comes_below table stated old old (sayings.Shared offset) (lefts.Unasked 0)
+    (table : Table) (stated : ℕ) (front : List ℕ) (old : Finding) (said : Said) (offset : ℕ) → IsWay old.way → said ≡ sayings.Shared offset → 0 < stated → 1 ≤ offset → offset ≤ length old.types.items → Comes table stated front old asks.Nothing said old
+comes_below_back table stated front old said offset is same some first few =
+    subst (λ s. Comes table stated front old asks.Nothing s old) (sym same)
+    (comes_below table stated front old old (sayings.Shared offset) (lefts.Unasked 0)
     (λ token its. subst (May (length old.types.items) stated) (sym its) ((first, few), λ none. absurd (omega (arith, some, none))))
     (λ token its object trail. ap unasked (sym its))
     (adds_none old no_type (sayings.Shared offset) (lefts.Unasked 0) is (λ token its none. refl) (λ token its. ap measure_of its)))
 
 pub comes_below_other :
-    (table : Table) (stated : ℕ) (old new : Finding) (said : Said) (left : Left) → IsNoBack said → ((token : Token) → IsSaid said token → unasked_in left token)
-    → Adds old no_type said left new → Comes table stated old asks.Nothing said new
-comes_below_other table stated old new said left plain fields adds =
-    comes_below table stated old new said left (refers_by said (length old.types.items) stated plain) fields adds
+    (table : Table) (stated : ℕ) (front : List ℕ) (old new : Finding) (said : Said) (left : Left) → IsNoBack said → ((token : Token) → IsSaid said token → unasked_in left token)
+    → Adds old no_type said left new → Comes table stated front old asks.Nothing said new
+comes_below_other table stated front old new said left plain fields adds =
+    comes_below table stated front old new said left (refers_by said (length old.types.items) stated plain) fields adds
 
 pub comes_miss :
-    (table : Table) (stated : ℕ) (old middle new : Finding) (t : ℕ) (said : Said) (left : Left) (found : Found) → ((token : Token) → IsSaid said token → Misses table t token) → old.found ≡ None → middle.found ≡ Some found
-    → found.links.items ≡ old.way.links.items → found.ty ≡ t → found.said ≡ said → middle.way ≡ old.way → middle.types ≡ old.types → middle.again ≡ old.again → middle.words ≡ old.words
-    → ((token : Token) → IsSaid said token → unasked_in left token) → Adds middle no_type said left new → Comes table stated old (asks.Type t) said new
-comes_miss table stated old middle new t said left found misses none some links type says way types again words fields adds = record {
-  leads = λ back tokens made missed token is its held passed.
-      miss_leads table back tokens made missed token is old middle new said left its held t found none some links type says way types again adds (fields token its) (misses token its) passed;
+    (table : Table) (stated : ℕ) (front : List ℕ) (old middle new : Finding) (t : ℕ) (said : Said) (left : Left) (found : Found) → ((token : Token) → IsSaid said token → Misses table t token) → old.found ≡ None → middle.found ≡ Some found
+    → found.links.items ≡ old.way.links.items → found.ty ≡ t → found.said ≡ said → middle.way ≡ old.way → middle.types ≡ old.types → middle.again ≡ old.again → middle.seconds ≡ old.seconds → middle.words ≡ old.words
+    → ((token : Token) → IsSaid said token → unasked_in left token) → Adds middle no_type said left new → Comes table stated front old (asks.Type t) said new
+comes_miss table stated front old middle new t said left found misses none some links type says way types again seconds words fields adds = record {
+  leads = λ back tokens made missed token is its held known passed.
+      miss_leads table back tokens made missed token is old middle new said left its held t found none some links type says way types again seconds adds (fields token its) (misses token its) front known passed;
   refers = refers_by said (length old.types.items) stated (no_back said misses);
   w32 = λ token its. adds.w32 token its ∙ ap (λ (w : Words). w.w32) words;
   w64 = λ token its. adds.w64 token its ∙ ap (λ (w : Words). w.w64) words;
@@ -353,19 +361,19 @@ held_kept back made missed old new held is types again found =
 
 -- the hash of a tag
 pub comes_hash :
-    (table : Table) (stated : ℕ) (old new : Finding) (tags : Bor (List (PolyTag ℕ))) (said : Said) (z : ℤ) (tag : PolyTag ℕ) (t : ℕ) → said ≡ sayings.Integer z → tag_with tags.now z ≡ Some tag → tag.arg ≡ Some t
-    → IsWay new.way → way_places new.way ≡ place_of (asks.Type t) (field_after (trail_in old.way)) ∷ way_places old.way → new.types ≡ old.types → new.again ≡ old.again → new.words ≡ old.words → new.found ≡ old.found
-    → Comes table stated old (asks.Hash tags) said new
-comes_hash table stated old new tags said z tag t same has_hash has_argument is places types again words found =
-    subst (λ s. Comes table stated old (asks.Hash tags) s new) (sym same) record {
-      leads = λ back tokens made missed token is_token its held passed.
-          subst (λ u. LeadsTo back table tokens made u new) (sym its) (leads back tokens made missed held passed);
+    (table : Table) (stated : ℕ) (front : List ℕ) (old new : Finding) (tags : Bor (List (PolyTag ℕ))) (said : Said) (z : ℤ) (tag : PolyTag ℕ) (t : ℕ) → said ≡ sayings.Integer z → tag_with tags.now z ≡ Some tag → tag.arg ≡ Some t
+    → IsWay new.way → way_places new.way ≡ place_of (asks.Type t) (field_after (trail_in old.way)) ∷ way_places old.way → new.types ≡ old.types → new.again ≡ old.again → new.seconds ≡ old.seconds → new.words ≡ old.words → new.found ≡ old.found
+    → Comes table stated front old (asks.Hash tags) said new
+comes_hash table stated front old new tags said z tag t same has_hash has_argument is places types again seconds words found =
+    subst (λ s. Comes table stated front old (asks.Hash tags) s new) (sym same) record {
+      leads = λ back tokens made missed token is_token its held known passed.
+          subst (λ u. LeadsTo back table front tokens made u new) (sym its) (leads back tokens made missed held known passed);
       refers = refers_by (sayings.Integer z) (length old.types.items) stated tt;
       w32 = λ token its. let none : of_object words32 (measure_of token) ≡ 0 = ap (λ u. of_object words32 (measure_of u)) its in let kept = ap (λ (w : Words). w.w32) words in omega (arith, none, kept);
       w64 = λ token its. let none : of_object words64 (measure_of token) ≡ 0 = ap (λ u. of_object words64 (measure_of u)) its in let kept = ap (λ (w : Words). w.w64) words in omega (arith, none, kept);
     } where
-      leads : (back : List ℕ) (tokens : List Token) (made : List Made) (missed : List Missed) → IsHeld back made missed old → PassedBut back table tokens made (record { asks = Some (hash_of tags.now); trail = trail_in old.way } ∷ way_places old.way) missed → LeadsTo back table tokens made (integer z) new
-      leads back tokens made missed held passed =
+      leads : (back : List ℕ) (tokens : List Token) (made : List Made) (missed : List Missed) → IsHeld back made missed old → Knows table front tokens old.seconds → PassedBut back table tokens made (record { asks = Some (hash_of tags.now); trail = trail_in old.way } ∷ way_places old.way) missed → LeadsTo back table front tokens made (integer z) new
+      leads back tokens made missed held known passed =
           let next : List Place = record { asks = Some (of_type t); trail = field_after (trail_in old.way) } ∷ [] in
           let tagged : IsTaggedBut tags.now z (trail_in old.way) next = record { tag = tag; has_hash = has_hash; type = t; has_argument = has_argument; argument = refl } in
           let further = fitting tokens made (hash_of tags.now) (trail_in old.way) (way_places old.way) next missed (integer z) passed tagged in
@@ -377,25 +385,26 @@ comes_hash table stated old new tags said z tag t same has_hash has_argument is 
             passed = subst (λ ps. PassedBut (back ++ []) table (tokens ++ integer z ∷ []) (made ++ []) ps missed) (sym places)
                 (subst (λ bs. PassedBut bs table (tokens ++ integer z ∷ []) (made ++ []) (next ++ way_places old.way) missed) (sym (append-nil back)) further);
             held = held_kept back made missed old new held is types again found;
+            known = subst (Knows table front tokens) (sym seconds) known;
           }
 
 -- ---- a reference
 
-module _ (table : Table) (stated : ℕ) (old : Finding) (t offset : ℕ) (is : IsWay old.way) (some : 0 < stated) (first : 1 ≤ offset) (few : offset ≤ length old.types.items) where
+module _ (table : Table) (stated : ℕ) (front : List ℕ) (old : Finding) (t offset : ℕ) (is : IsWay old.way) (some : 0 < stated) (first : 1 ≤ offset) (few : offset ≤ length old.types.items) where
   refers_back : (token : Token) → IsSaid (sayings.Shared offset) token → May (length old.types.items) stated token
   refers_back token its = subst (May (length old.types.items) stated) (sym its) ((first, few), λ none. absurd (omega (arith, some, none)))
 
   -- where nothing is asked of what it leads to
-  pub comes_hidden : IsHidden table t → Comes table stated old (asks.Type t) (sayings.Shared offset) old
+  pub comes_hidden : IsHidden table t → Comes table stated front old (asks.Type t) (sayings.Shared offset) old
   comes_hidden hidden = record {
-    leads = λ back tokens made missed token is_token its held passed.
-        subst (λ u. LeadsTo back table tokens made u old) (sym its) (leads back tokens made missed held passed);
+    leads = λ back tokens made missed token is_token its held known passed.
+        subst (λ u. LeadsTo back table front tokens made u old) (sym its) (leads back tokens made missed held known passed);
     refers = refers_back;
     w32 = λ token its. let none : of_object words32 (measure_of token) ≡ 0 = ap (λ u. of_object words32 (measure_of u)) its in omega (arith, none);
     w64 = λ token its. let none : of_object words64 (measure_of token) ≡ 0 = ap (λ u. of_object words64 (measure_of u)) its in omega (arith, none);
   } where
-    leads : (back : List ℕ) (tokens : List Token) (made : List Made) (missed : List Missed) → IsHeld back made missed old → PassedBut back table tokens made (record { asks = Some (of_type t); trail = trail_in old.way } ∷ way_places old.way) missed → LeadsTo back table tokens made (shared offset) old
-    leads back tokens made missed held passed =
+    leads : (back : List ℕ) (tokens : List Token) (made : List Made) (missed : List Missed) → IsHeld back made missed old → Knows table front tokens old.seconds → PassedBut back table tokens made (record { asks = Some (of_type t); trail = trail_in old.way } ∷ way_places old.way) missed → LeadsTo back table front tokens made (shared offset) old
+    leads back tokens made missed held known passed =
         let further = fitting tokens made (of_type t) (trail_in old.way) (way_places old.way) [] missed (shared offset) passed (inl hidden, refl) in
         record {
           more = [];
@@ -404,6 +413,7 @@ module _ (table : Table) (stated : ℕ) (old : Finding) (t offset : ℕ) (is : I
           missed = missed;
           passed = subst (λ bs. PassedBut bs table (tokens ++ shared offset ∷ []) (made ++ []) (way_places old.way) missed) (sym (append-nil back)) further;
           held = held_kept back made missed old old held is refl refl refl;
+          known = known;
         }
 
 -- the type of an object that has one
@@ -443,32 +453,30 @@ marked_more back made marks new o are short is = (
       (Contains-append_cases back (o ∷ []) p among))),
 )
 
--- where it leads to an object of an equal type, which is marked
-pub comes_led :
-    (table : Table) (stated : ℕ) (old new : Finding) (t offset object own : ℕ) → IsWay old.way → 0 < stated → 1 ≤ offset → offset ≤ length old.types.items
-    → object ≡ length old.types.items - offset → slice_get old.types.items object ≡ Some own → (own ≡ no_type → ⊥) → (table_shapes table).equal own t
+-- where it leads to an object that has the type, which is marked
+pub comes_back :
+    (table : Table) (stated : ℕ) (front : List ℕ) (old new : Finding) (t offset object : ℕ) → IsWay old.way → 0 < stated → 1 ≤ offset → offset ≤ length old.types.items
+    → object ≡ length old.types.items - offset
+    → ((tokens : List Token) (made : List Made) → AreTypes old.types.items made → Knows table front tokens old.seconds → (HasFirst table made object t ⊎ IsPlain table tokens object t) × Knows table front tokens new.seconds)
     → length old.again.marks.items ≡ length old.types.items → new.again.marks.items ≡ set old.again.marks.items object true
-    → new.way ≡ old.way → new.types ≡ old.types → new.words ≡ old.words → new.found ≡ old.found → Comes table stated old (asks.Type t) (sayings.Shared offset) new
-comes_led table stated old new t offset object own is some first few its_object at typed equal many marks way types words found = record {
-  leads = λ back tokens made missed token is_token its held passed.
-      subst (λ u. LeadsTo back table tokens made u new) (sym its) (leads back tokens made missed held passed);
-  refers = refers_back table stated old t offset is some first few;
+    → new.way ≡ old.way → new.types ≡ old.types → new.words ≡ old.words → new.found ≡ old.found → Comes table stated front old (asks.Type t) (sayings.Shared offset) new
+comes_back table stated front old new t offset object is some first few its_object has many marks way types words found = record {
+  leads = λ back tokens made missed token is_token its held known passed.
+      subst (λ u. LeadsTo back table front tokens made u new) (sym its) (leads back tokens made missed held known passed);
+  refers = refers_back table stated front old t offset is some first few;
   w32 = λ token its. let none : of_object words32 (measure_of token) ≡ 0 = ap (λ u. of_object words32 (measure_of u)) its in let kept = ap (λ (w : Words). w.w32) words in omega (arith, none, kept);
   w64 = λ token its. let none : of_object words64 (measure_of token) ≡ 0 = ap (λ u. of_object words64 (measure_of u)) its in let kept = ap (λ (w : Words). w.w64) words in omega (arith, none, kept);
 } where
-  leads : (back : List ℕ) (tokens : List Token) (made : List Made) (missed : List Missed) → IsHeld back made missed old → PassedBut back table tokens made (record { asks = Some (of_type t); trail = trail_in old.way } ∷ way_places old.way) missed → LeadsTo back table tokens made (shared offset) new
-  leads back tokens made missed held passed =
+  leads : (back : List ℕ) (tokens : List Token) (made : List Made) (missed : List Missed) → IsHeld back made missed old → Knows table front tokens old.seconds → PassedBut back table tokens made (record { asks = Some (of_type t); trail = trail_in old.way } ∷ way_places old.way) missed → LeadsTo back table front tokens made (shared offset) new
+  leads back tokens made missed held known passed =
       let same_many : length old.types.items ≡ length made = many_held old.types.items made held.types in
-      let there = type_there made object own (ap (λ ts. slice_get ts object) (sym held.types.0) ∙ at) typed in
+      let both = has tokens made held.types known in
       let from : object ≡ length made - offset = its_object ∙ ap (λ n. n - offset) same_many in
       let noted : Contains (back ++ object ∷ []) object = Contains-append_right back (object ∷ []) object (Contains-first {X = ℕ} object []) in
-      let led : IsLedBack (back ++ object ∷ []) table made t offset = record {
+      let led : IsLedBack (back ++ object ∷ []) table (IsPlain table tokens) made t offset = record {
         some = first;
         few = omega (arith, few, same_many);
-        type = own;
-        trail = there.0;
-        at = subst (λ o. slice_get made o ≡ Some record { type = Some own; trail = there.0 }) from there.1;
-        equal = equal;
+        typed = subst (λ o. HasFirst table made o t ⊎ IsPlain table tokens o t) from both.0;
         noted = subst (Contains (back ++ object ∷ [])) from noted;
       } in
       let before = back_more table back (object ∷ []) tokens made (record { asks = Some (of_type t); trail = trail_in old.way } ∷ way_places old.way) missed passed in
@@ -487,4 +495,19 @@ comes_led table stated old new t offset object own is some first few its_object 
           marked = subst (λ ms. AreMarked (back ++ object ∷ []) ms new.again.marks.items) (sym (append-nil made)) marked;
           found = subst (λ f. AreMissedAt f missed) (sym found) held.found;
         };
+        known = both.1;
       }
+
+-- by the type that its place asked for
+pub has_first :
+    (table : Table) (front : List ℕ) (types : List ℕ) (old new : Seconds) (t object own : ℕ) → slice_get types object ≡ Some own → (own ≡ no_type → ⊥) → (table_shapes table).equal own t → new ≡ old
+    → (tokens : List Token) (made : List Made) → AreTypes types made → Knows table front tokens old → (HasFirst table made object t ⊎ IsPlain table tokens object t) × Knows table front tokens new
+has_first table front types old new t object own at typed equal same tokens made are known =
+    let there = type_there made object own (ap (λ ts. slice_get ts object) (sym are.0) ∙ at) typed in
+    (inl record { type = own; trail = there.0; at = there.1; equal = equal }, subst (Knows table front tokens) (sym same) known)
+
+-- by its tokens
+pub has_second :
+    (table : Table) (front : List ℕ) (types : List ℕ) (old new : Seconds) (t object : ℕ) → Shows table front old object t new
+    → (tokens : List Token) (made : List Made) → AreTypes types made → Knows table front tokens old → (HasFirst table made object t ⊎ IsPlain table tokens object t) × Knows table front tokens new
+has_second table front types old new t object shows tokens made are known = let both = shows tokens known in (inr both.0, both.1)

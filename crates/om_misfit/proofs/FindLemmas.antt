@@ -1,5 +1,5 @@
 -- From the header through the tokens to the misfit.
-use Rattle.std.proofs.Common.{ℕ, ◌+◌, ◌<◌, ◌≤◌, ◌≡◌, ◌∙◌, ◌⊎◌, Bool, true, false, List, [], ◌∷◌, ◌++◌, length, take, drop, map, Option, Some, refl, sym, ap, subst, subst₂, arith}
+use Rattle.std.proofs.Common.{ℕ, ◌+◌, ◌<◌, ◌≤◌, ◌≡◌, ◌∙◌, ◌⊎◌, ⊎_elim, take-add, Bool, true, false, List, [], ◌∷◌, ◌++◌, length, take, drop, map, Option, Some, refl, sym, ap, subst, subst₂, arith}
 use Rattle.std.specs.Prelude.{slice_get, Contains, All}
 use Rattle.std.specs.Global.{Vec}
 use Rattle.std.specs.List.{concat}
@@ -18,6 +18,9 @@ use Rattle.om_format.proofs.TokenStepLemmas.{magic-take, header_length-take, hea
 use Rattle.om_misfit_law.specs.PassedBut.{Place, Made, Missed, made_in, values_at}
 use Rattle.om_misfit_law.specs.MissedFront.{IsPassingBut}
 use Rattle.om_misfit_law.proofs.StatedLemmas.{one_missed_fronts, but_start, but_further}
+use Rattle.om_misfit_law.proofs.PlainLemmas.{plain_more}
+use Rattle.om_pass.specs.Again.{AreMarks}
+use Rattle.om_pass.proofs.AgainLemmas.{marks_more, marks_push, no_marks}
 use Rattle.om_pass.specs.declared.words.Words.{Words}
 use Rattle.om_pass.specs.State.{BeginsAs, stated32}
 use Rattle.om_pass.proofs.RunLemmas.{words32_push, words64_push, words32_stated, start_from}
@@ -25,12 +28,14 @@ use Rattle.om_misfit.specs.declared.again.Again.{Again}
 use Rattle.om_misfit.specs.declared.misfit.Found.{Found}
 use Rattle.om_misfit.specs.declared.misfit.Finding.{Finding}
 use Rattle.om_misfit.specs.declared.said.Said.{Said}
+use Rattle.om_misfit.specs.declared.second.Seconds.{Seconds}
 use Rattle.om_misfit.specs.declared.way.Asked.{Asked}
 use Rattle.om_misfit.specs.declared.way.Link.{Link}
 use Rattle.om_misfit.specs.Judge.{IsSaidBy}
 use Rattle.om_misfit.specs.declared.way.Way.{Way}
 use Rattle.om_misfit.specs.Way.{trail_of, trail_in, place_of, way_places, left_values, IsWay}
 use Rattle.om_misfit.specs.Find.{AreTypes, AreMarked, IsAlone, IsMissedAt, AreMissedAt, Finds, Begins, Comes, Ends, IsFound}
+use Rattle.om_misfit.specs.Second.{Knows, Marks}
 use Rattle.om_misfit.proofs.ComesLemmas.{many_held}
 use Rattle.om_misfit.proofs.WayLemmas.{way_many}
 
@@ -62,6 +67,10 @@ finds_start table limit bytes head start finding b by begins =
         marked = (ap length begins.marks, λ o among. absurd (Contains-none {X = ℕ} o among));
         found = subst (λ f. AreMissedAt f []) (sym begins.found) refl;
       };
+      known = record {
+        marks = subst (λ ms. AreMarks (take start bytes) ms []) (sym begins.seconds.marks) (no_marks (take start bytes) []);
+        notes = λ o t among. absurd (Contains-none {X = ℕ × ℕ} (o, t) (subst (λ ns. Contains ns (o, t)) begins.seconds.notes among));
+      };
       w32 = omega (arith, w32');
       w64 = omega (arith, w64');
     }
@@ -81,8 +90,8 @@ finds_from table limit bytes head start n taken finding f =
 -- what is taken and what is open are the same places, and nothing else has changed
 pub finds_moved :
     (table : Table) (limit : ℕ) (bytes : List ℕ) (head : Head) (start n : ℕ) (taken taken' : List Place) (old new : Finding) → Finds table limit bytes head start n taken old → IsWay new.way → taken ++ way_places old.way ≡ taken' ++ way_places new.way
-    → new.types ≡ old.types → new.again ≡ old.again → new.words ≡ old.words → new.found ≡ old.found → Finds table limit bytes head start n taken' new
-finds_moved table limit bytes head start n taken taken' old new f is places types again words found = record {
+    → new.types ≡ old.types → new.again ≡ old.again → new.seconds.marks ≡ old.seconds.marks → new.seconds.notes ≡ old.seconds.notes → new.words ≡ old.words → new.found ≡ old.found → Finds table limit bytes head start n taken' new
+finds_moved table limit bytes head start n taken taken' old new f is places types again marks notes words found = record {
   tokens = f.tokens;
   back = f.back;
   made = f.made;
@@ -93,6 +102,10 @@ finds_moved table limit bytes head start n taken taken' old new f is places type
     types = subst (λ (v : Vec ℕ). AreTypes v.items f.made) (sym types) f.held.types;
     marked = subst (λ (a : Again). AreMarked f.back f.made a.marks.items) (sym again) f.held.marked;
     found = subst (λ o. AreMissedAt o f.missed) (sym found) f.held.found;
+  };
+  known = record {
+    marks = subst (λ (v : Vec ℕ). AreMarks (take n bytes) v.items f.tokens) (sym marks) f.known.marks;
+    notes = λ o t among. f.known.notes o t (subst (λ (v : Vec (ℕ × ℕ)). Contains v.items (o, t)) notes among);
   };
   w32 = subst (λ (w : Words). w.w32 + all_words32 (map measure_of f.tokens) ≡ stated32 head) (sym words) f.w32;
   w64 = subst (λ (w : Words). w.w64 + all_words64 (map measure_of f.tokens) ≡ head.w64) (sym words) f.w64;
@@ -128,6 +141,7 @@ finds_longer table limit bytes more head start n taken finding f =
         small = p.small;
       };
       held = f.held;
+      known = subst (λ front. Knows table front f.tokens finding.seconds) same f.known;
       w32 = f.w32;
       w64 = f.w64;
     }
@@ -140,13 +154,47 @@ pub marks_many : (table : Table) (limit : ℕ) (bytes : List ℕ) (head : Head) 
 marks_many table limit bytes head start n taken finding f =
     let types = many_held finding.types.items f.made f.held.types in f.held.marked.0 ∙ sym types
 
+-- ---- a mark
+
+-- the byte is marked where so many objects were made before it
+marked_there :
+    (table : Table) (limit : ℕ) (bytes : List ℕ) (head : Head) (start n made : ℕ) (finding : Finding) (new : Seconds) → (f : Finds table limit bytes head start n [] finding) → made ≡ length finding.types.items → Marks finding.seconds n made new
+    → Knows table (take n bytes) f.tokens new
+marked_there table limit bytes head start n made finding new f many m =
+    let p = f.passing in
+    let front = take n bytes in
+    let here : n ≡ length front = sym (length-take-le n bytes p.within) in
+    let same : length finding.types.items ≡ length f.made = many_held finding.types.items f.made f.held.types in
+    record {
+      marks = ⊎_elim
+          (λ old. subst (λ ms. AreMarks front ms f.tokens) (sym old) f.known.marks)
+          (λ more. subst (λ ms. AreMarks front ms f.tokens) (sym more.1) (marks_push front finding.seconds.marks.items f.tokens n here (p.many ∙ sym same ∙ sym many ∙ more.0) f.known.marks))
+          m.marks;
+      notes = λ o t among. f.known.notes o t (subst (λ (v : Vec (ℕ × ℕ)). Contains v.items (o, t)) m.notes among);
+    }
+
+pub finds_marked :
+    (table : Table) (limit : ℕ) (bytes : List ℕ) (head : Head) (start n made : ℕ) (finding : Finding) (seconds : Seconds) → Finds table limit bytes head start n [] finding → made ≡ length finding.types.items → Marks finding.seconds n made seconds
+    → Finds table limit bytes head start n [] (record { way = finding.way; types = finding.types; again = finding.again; seconds = seconds; words = finding.words; found = finding.found })
+finds_marked table limit bytes head start n made finding seconds f many m = record {
+  tokens = f.tokens;
+  back = f.back;
+  made = f.made;
+  missed = f.missed;
+  passing = f.passing;
+  held = record { is_way = f.held.is_way; types = f.held.types; marked = f.held.marked; found = f.held.found };
+  known = marked_there table limit bytes head start n made finding seconds f many m;
+  w32 = f.w32;
+  w64 = f.w64;
+}
+
 -- ---- one token more
 
 pub finds_further :
     (table : Table) (limit : ℕ) (bytes : List ℕ) (head : Head) (start n m : ℕ) (old new : Finding) (asked : Asked) (said : Said) → Finds table limit bytes head start n (place_of asked (trail_in old.way) ∷ []) old → IsSaidBy (drop n bytes) said m
-    → Comes table head.objects old asked said new → Finds table limit bytes head start (n + m) [] new
+    → Comes table head.objects (take n bytes) old asked said new → Finds table limit bytes head start (n + m) [] new
 finds_further table limit bytes head start n m old new asked said f by c =
-    let l = c.leads f.back f.tokens f.made f.missed by.token by.is_token by.is_said f.held f.passing.passed in
+    let l = c.leads f.back f.tokens f.made f.missed by.token by.is_token by.is_said f.held f.known f.passing.passed in
     let within' : n + m ≤ length bytes = let here = f.passing.within in let there = by.within in let left = length-drop n bytes in omega (arith, here, there, left) in
     let refers = c.refers by.token by.is_said in
     let many : length old.types.items ≡ length f.made = many_held old.types.items f.made f.held.types in
@@ -158,6 +206,10 @@ finds_further table limit bytes head start n m old new asked said f by c =
       passing = but_further f.back l.more table limit bytes head start n f.tokens f.made (place_of asked (trail_in old.way) ∷ way_places old.way) f.missed f.passing by.token m within' by.spells
           (subst (RefersBack by.token) many refers.0) refers.1 l.type l.trail (way_places new.way) l.missed l.passed;
       held = l.held;
+      known = record {
+        marks = subst (λ front. AreMarks front new.seconds.marks.items (f.tokens ++ by.token ∷ [])) (sym (take-add n m bytes)) (marks_more (take n bytes) (take m (drop n bytes)) new.seconds.marks.items f.tokens by.token by.spells l.known.marks);
+        notes = λ o t among. plain_more table f.tokens (by.token ∷ []) o t (l.known.notes o t among);
+      };
       w32 = let one = c.w32 by.token by.is_said in let before = f.w32 in let both = words32_push f.tokens by.token in omega (arith, one, before, both);
       w64 = let one = c.w64 by.token by.is_said in let before = f.w64 in let both = words64_push f.tokens by.token in omega (arith, one, before, both);
     }

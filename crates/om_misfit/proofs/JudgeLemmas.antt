@@ -11,7 +11,7 @@ use Rattle.om_types.specs.Table.{Table}
 use Rattle.om_format.specs.Token.{Token, integer, atom, block, leaf}
 use Rattle.om_format.specs.Tree.{made_by}
 use Rattle.om_pass_law.specs.Asked.{of_type, shape_at, shape_asks, fields_ask}
-use Rattle.om_misfit_law.specs.PassedBut.{places_of, Takes}
+use Rattle.om_misfit_law.specs.PassedBut.{places_of, IsPlain, Takes}
 use Rattle.om_pass.specs.declared.places.Open.{Open}
 use Rattle.om_pass.specs.Places.{open_needs}
 use Rattle.om_pass.specs.State.{custom_leaf}
@@ -34,15 +34,15 @@ apt_by said plain false = tt
 -- it is judged by whether it fits
 module _ (table : Table) (t : ℕ) where
   int_judged : (z : ℤ) (fits : Bool) → fits_int (shape_at table t) z ≡ fits → IsJudged table t (integer z) (judged_by fits)
-  int_judged z true is = λ back made trail. (is, refl)
+  int_judged z true is = λ back tokens made trail. (is, refl)
   int_judged z false is = is
 
   atom_judged : (tag : ℕ) (fits : Bool) → fits_atom (shape_at table t) tag ≡ fits → IsJudged table t (atom tag) (judged_by fits)
-  atom_judged tag true is = λ back made trail. (is, refl)
+  atom_judged tag true is = λ back tokens made trail. (is, refl)
   atom_judged tag false is = is
 
   leaf_judged : (object : Obj) (fits : Bool) → object_fields (shape_at table t) object ≡ none_if fits → IsJudged table t (leaf object) (judged_by fits)
-  leaf_judged object true is = λ back made trail. (ap is_some is, refl)
+  leaf_judged object true is = λ back tokens made trail. (ap is_some is, refl)
   leaf_judged object false is = is
 
   -- by what the code found
@@ -92,8 +92,8 @@ module _ (table : Table) (t : ℕ) where
   judged_opens said shape tag size places open' is own asks some =
       let its : fields_ask table t tag size ≡ Some (open_needs open') = ap (λ s. shape_asks s t tag size) (sym own) ∙ sym asks ∙ ap (option_map open_needs) some in (
         (tag, size, is),
-        λ token said' back made trail.
-            subst (λ u. Takes back table made trail (of_type t) u (places_of (length made) trail 0 (open_needs open'))) (sym (subst (λ s. IsSaid s token) is said'))
+        λ token said' back tokens made trail.
+            subst (λ u. Takes back table (IsPlain table tokens) made trail (of_type t) u (places_of (length made) trail 0 (open_needs open'))) (sym (subst (λ s. IsSaid s token) is said'))
             (open_needs open', its, refl),
       )
 

@@ -1,9 +1,9 @@
 -- What is known on the way to the one misfit of a value, and what is found.
 use Rattle.std.specs.Prelude.{ℕ, ◌+◌, ◌-◌, ◌^◌, ◌<◌, ◌≡◌, ◌⊎◌, List, [], ◌∷◌, ◌++◌, length}
-use Rattle.std.specs.Prelude.{map, slice_get, Option, Some, None, All, Contains, Bool}
+use Rattle.std.specs.Prelude.{map, take, slice_get, Option, Some, None, All, Contains, Bool}
 use Rattle.std.specs.Prelude.{true, false, replicate}
 use Rattle.om_model.specs.declared.header.Head.{Head}
-use Rattle.om_types.specs.Table.{Table}
+use Rattle.om_types.specs.Table.{Table, table_shapes}
 use Rattle.om_format.specs.Words.{of_object, words32, words64, all_words32, all_words64}
 use Rattle.om_format.specs.Token.{Token, IsToken, measure_of}
 use Rattle.om_format.specs.Tree.{RefersBack, made_by}
@@ -21,6 +21,7 @@ use Rattle.om_misfit.specs.declared.said.Said.{Said}
 use Rattle.om_misfit.specs.declared.way.Asked.{Asked}
 use Rattle.om_misfit.specs.declared.way.Link.{Link}
 use Rattle.om_misfit.specs.Judge.{IsSaid}
+use Rattle.om_misfit.specs.Second.{IsFresh, Knows}
 use Rattle.om_misfit.specs.declared.way.Left.{Left}
 use Rattle.om_misfit.specs.Way.{trail_of, trail_in, place_of, root_place, way_places, IsWay}
 use Rattle.om_misfit.specs.Way.{left_values, opened_places}
@@ -86,6 +87,7 @@ pub record Finds
       IsPassingBut back table limit bytes head start n tokens made (taken ++ way_places finding.way)
       missed
   pub held : IsHeld back made missed finding
+  pub known : Knows table (take n bytes) tokens finding.seconds
   pub w32 : finding.words.w32 + all_words32 (map measure_of tokens) ≡ stated32 head
   pub w64 : finding.words.w64 + all_words64 (map measure_of tokens) ≡ head.w64
 
@@ -96,8 +98,16 @@ pub record Begins (head : Head) (finding : Finding) : Type 0 where
   pub types : finding.types.items ≡ []
   pub marks : finding.again.marks.items ≡ []
   pub found : finding.found ≡ None
+  pub seconds : IsFresh finding.seconds
   pub w32 : finding.words.w32 ≡ stated32 head
   pub w64 : finding.words.w64 ≡ head.w64
+
+-- the type of the object is held, and equal
+pub record IsFirst (table : Table) (types : List ℕ) (object type : ℕ) : Type 0 where
+  pub own : ℕ
+  pub at : slice_get types object ≡ Some own
+  pub typed : ¬ (own ≡ no_type)
+  pub equal : (table_shapes table).equal own type
 
 -- ---- one token
 
@@ -119,6 +129,7 @@ pub record Adds (old : Finding) (type : ℕ) (said : Said) (left : Left) (new : 
       way_places new.way
       ≡ opened_places (length old.types.items) (trail_in old.way) left ++ way_places old.way
   pub found : new.found ≡ old.found
+  pub seconds : new.seconds ≡ old.seconds
   pub types :
       (token : Token) → IsSaid said token
       → new.types.items ≡ old.types.items ++ replicate (made_by token) type
@@ -132,10 +143,10 @@ pub record Adds (old : Finding) (type : ℕ) (said : Said) (left : Left) (new : 
       (token : Token) → IsSaid said token
       → new.words.w64 + of_object words64 (measure_of token) ≡ old.words.w64
 
--- what the token leads to, from these
+-- what the token leads to, from these, after these bytes
 pub record LeadsTo
-    (back : List ℕ) (table : Table) (tokens : List Token) (made : List Made) (token : Token)
-    (new : Finding)
+    (back : List ℕ) (table : Table) (front : List ℕ) (tokens : List Token) (made : List Made)
+    (token : Token) (new : Finding)
     : Type 0 where
   pub more : List ℕ
   pub type : Option ℕ
@@ -145,17 +156,20 @@ pub record LeadsTo
       PassedBut (back ++ more) table (tokens ++ token ∷ []) (made ++ made_in type trail token)
       (way_places new.way) missed
   pub held : IsHeld (back ++ more) (made ++ made_in type trail token) missed new
+  pub known : Knows table front tokens new.seconds
 
--- a token that is what was said came in the place that was taken last
+-- a token that is what was said came after these bytes, in the place that was taken last
 pub record Comes
-    (table : Table) (stated : ℕ) (old : Finding) (asked : Asked) (said : Said) (new : Finding)
+    (table : Table) (stated : ℕ) (front : List ℕ) (old : Finding) (asked : Asked) (said : Said)
+    (new : Finding)
     : Type 0 where
   pub leads :
       (back : List ℕ) (tokens : List Token) (made : List Made) (missed : List Missed)
       (token : Token) → IsToken token → IsSaid said token → IsHeld back made missed old
+      → Knows table front tokens old.seconds
       → PassedBut back table tokens made
       (place_of asked (trail_in old.way) ∷ way_places old.way) missed
-      → LeadsTo back table tokens made token new
+      → LeadsTo back table front tokens made token new
   pub refers :
       (token : Token) → IsSaid said token
       → RefersBack token (length old.types.items) × (stated ≡ 0 → IsNoReference token)

@@ -14,7 +14,7 @@ use Rattle.om_types.specs.Table.{Table}
 use Rattle.om_format.specs.Token.{Token, integer, atom, shared, block, leaf, IsToken, Spells}
 use Rattle.om_format.specs.Token.{SpellsAfter}
 use Rattle.om_pass_law.specs.Asked.{of_type}
-use Rattle.om_misfit_law.specs.PassedBut.{Made, places_of, Takes, Misses}
+use Rattle.om_misfit_law.specs.PassedBut.{Made, places_of, IsPlain, Takes, Misses}
 use Rattle.om_pass.specs.Places.{open_needs}
 use Rattle.om_pass.specs.State.{custom_leaf}
 use Rattle.om_misfit.specs.declared.said.Said.{Said}
@@ -123,11 +123,11 @@ IsApt said judged.Unknown = Unit {0}
 -- other nothing is said.
 abbrev pub IsJudged : Table → ℕ → Token → Judged → Type 0
 IsJudged table t token judged.Fits =
-    (back : List ℕ) (made : List Made) (trail : List (ℕ × ℕ))
-    → Takes back table made trail (of_type t) token []
+    (back : List ℕ) (tokens : List Token) (made : List Made) (trail : List (ℕ × ℕ))
+    → Takes back table (IsPlain table tokens) made trail (of_type t) token []
 IsJudged table t token (judged.Opens open') =
-    (back : List ℕ) (made : List Made) (trail : List (ℕ × ℕ))
-    → Takes back table made trail (of_type t) token
+    (back : List ℕ) (tokens : List Token) (made : List Made) (trail : List (ℕ × ℕ))
+    → Takes back table (IsPlain table tokens) made trail (of_type t) token
     (places_of (length made) trail 0 (open_needs open'))
 IsJudged table t token (judged.Back offset) = Unit {0}
 IsJudged table t token judged.Misses = Misses table t token

@@ -2,3 +2,4 @@ pub mod Way
 pub mod Judge
 pub mod Find
 pub mod Line
+pub mod Second

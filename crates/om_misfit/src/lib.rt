@@ -7,11 +7,12 @@ mod judge;
 mod laws;
 mod misfit;
 mod said;
+mod second;
 mod way;
 
 pub use again::Again;
-pub use judge::Judged;
 pub use laws::found_has_line;
-pub use misfit::{End, Finding, Found, Seeking, find};
+pub use misfit::{End, Finding, Found, Seeking};
 pub use said::Said;
+pub use second::Seconds;
 pub use way::{Asked, Left, Link, Wait, Way};

@@ -1,6 +1,6 @@
 //! The one misfit of a value: token after token, to its end.
 
-ghost use Rattle.std.specs.Prelude.{◌≡◌, ◌≤◌, ℕ, length, IfOk, IfSome};
+ghost use Rattle.std.specs.Prelude.{◌≡◌, ◌<◌, ◌≤◌, ℕ, List, length, IfOk};
 ghost use Rattle.std.specs.Bool.{OnTrue};
 ghost use Rattle.om_type_table.specs.Made.{table_of};
 ghost use Rattle.om_types.specs.Table.{Table};
@@ -10,12 +10,13 @@ ghost use Rattle.om_misfit.specs.declared.said.Said.TheVariants as sayings;
 ghost use Rattle.om_misfit.specs.declared.way.Asked.TheVariants as asks;
 ghost use Rattle.om_misfit.specs.Judge.{IsSaid, IsFair};
 ghost use Rattle.om_misfit.specs.Way.{IsWay, IsAfterHash, OnHash, way_places};
-ghost use Rattle.om_misfit.specs.Find.{Begins, HasRoom, Adds, Comes, IsFound, IsSpent, Ends};
-ghost use Rattle.om_misfit.specs.Find.{unasked_in, IsSought, Seeks};
+ghost use Rattle.om_misfit.specs.Find.{Begins, HasRoom, Adds, Comes, IsSpent, Ends};
+ghost use Rattle.om_misfit.specs.Find.{unasked_in, IsFirst, IsSought, Seeks};
 
 use crate::again::Again;
 use crate::judge::{Judged, judge};
 use crate::said::{Said, fields_of, first_token, measure_of};
+use crate::second::Seconds;
 use crate::way::{Asked, Left, Link, Way, copy_of, values_left};
 use om_model::Memory;
 use om_model::header::Head;
@@ -38,13 +39,14 @@ pub struct Found {
     pub said: Said,
 }
 
-/// The open places, the types of the objects met and which of them are met again, the words still
-/// to come, and the misfit, if it was met.
+/// The open places, the types of the objects met, which of them are met again and what is known of
+/// second types, the words still to come, and the misfit, if it was met.
 #[derive(Drop)]
 pub struct Finding<'a> {
     pub way: Way<'a>,
     pub types: Vec<u16>,
     pub again: Again,
+    pub seconds: Seconds,
     pub words: Words,
     pub found: Option<Found>,
 }
@@ -66,6 +68,7 @@ impl<'a> Finding<'a> {
             way: Way::root(alloc),
             types: Vec::new(alloc),
             again: Again::new(alloc),
+            seconds: Seconds::new(alloc),
             words: Words::stated(head),
             found: None,
         }
@@ -78,6 +81,7 @@ impl<'a> Finding<'a> {
         self.way.restart();
         self.types.clear();
         self.again.restart();
+        self.seconds.restart();
         self.words = Words::stated(head);
         self.found = None;
     }
@@ -108,31 +112,48 @@ impl<'a> Finding<'a> {
         self.way.open(object, left)
     }
 
-    /// A reference comes where the type is asked for.
-    fn back(&mut self, table: &TypeTable, stated: u64, ty: usize, offset: u64) -> bool
-        requires is_way { IsWay self.old.way }
-        requires marked { length self.old.again.marks.items ≡ length self.old.types.items }
+    /// Whether the type that the object's place asked for is equal.
+    fn is_first(&self, table: &TypeTable, object: usize, ty: usize) -> bool
+        requires { object < length self.now.types.items }
         ensures { OnTrue result
-            (Comes (table_of table.now) stated self.old (asks.Type ty) (sayings.Shared offset)
-            self.new) }
+            (IsFirst (table_of table.now) self.now.types.items object ty) }
     {
-        let made = self.types.len();
-        if stated == 0 || offset == 0 || offset > made as u64 {
-            return false;
-        }
-        if is_hidden(table, ty) {
-            return true;
-        }
-        let object = made - offset as usize;
         let own = type_at(self.types.as_slice(), object);
         if own == NO_TYPE {
             return false;
         }
-        if !is_equal(table, own, ty) {
-            return false;
+        is_equal(table, own, ty)
+    }
+
+    /// A reference comes where the type is asked for.
+    fn back(
+        &mut self,
+        table: &TypeTable,
+        stated: u64,
+        front: &[u8],
+        ty: usize,
+        offset: u64,
+    ) -> Result<bool, Memory>
+        requires is_way { IsWay self.old.way }
+        requires marked { length self.old.again.marks.items ≡ length self.old.types.items }
+        ensures { IfOk result
+            (λ came. OnTrue came
+            (Comes (table_of table.now) stated front.now self.old (asks.Type ty)
+            (sayings.Shared offset) self.new)) }
+    {
+        let made = self.types.len();
+        if stated == 0 || offset == 0 || offset > made as u64 {
+            return Ok(false);
         }
+        if is_hidden(table, ty) {
+            return Ok(true);
+        }
+        let object = made - offset as usize;
         self.again.mark(object);
-        true
+        if self.is_first(table, object, ty) {
+            return Ok(true);
+        }
+        self.seconds.show(table, front, object, ty)
     }
 
     /// A token comes of which nothing is asked.
@@ -141,7 +162,8 @@ impl<'a> Finding<'a> {
         requires fair { IsFair said }
         ensures { IfOk result
             (λ came. OnTrue came
-            ((table : Table) → Comes table stated self.old asks.Nothing said self.new)) }
+            ((table : Table) (front : List ℕ)
+            → Comes table stated front self.old asks.Nothing said self.new)) }
     {
         if let Said::Shared(offset) = said {
             let made = self.types.len() as u64;
@@ -159,9 +181,9 @@ impl<'a> Finding<'a> {
         requires fair { IsFair said }
         ensures { IfOk result
             (λ came. OnTrue came
-            ((table : Table) (stated : ℕ)
+            ((table : Table) (stated : ℕ) (front : List ℕ)
             → ((token : Token) → IsSaid said token → Misses table ty token)
-            → Comes table stated self.old (asks.Type ty) said self.new)) }
+            → Comes table stated front self.old (asks.Type ty) said self.new)) }
     {
         if self.found.is_some() {
             return Ok(false);
@@ -176,8 +198,8 @@ impl<'a> Finding<'a> {
         requires is_way { IsWay self.old.way }
         requires hash { IsAfterHash self.old.way }
         ensures { OnTrue result
-            ((table : Table) (stated : ℕ)
-            → Comes table stated self.old (asks.Hash tags.entry) said self.new) }
+            ((table : Table) (stated : ℕ) (front : List ℕ)
+            → Comes table stated front self.old (asks.Hash tags.entry) said self.new) }
     {
         let Said::Integer(z) = said else {
             return false;
@@ -198,6 +220,7 @@ impl<'a> Finding<'a> {
         alloc: Global,
         table: &'a TypeTable,
         stated: u64,
+        front: &[u8],
         ty: usize,
         said: Said,
     ) -> Result<bool, Memory>
@@ -206,7 +229,7 @@ impl<'a> Finding<'a> {
         requires fair { IsFair said }
         ensures { IfOk result
             (λ came. OnTrue came
-            (Comes (table_of table.now) stated self.old (asks.Type ty) said self.new)) }
+            (Comes (table_of table.now) stated front.now self.old (asks.Type ty) said self.new)) }
     {
         if ty >= NO_TYPE {
             return Ok(false);
@@ -214,7 +237,7 @@ impl<'a> Finding<'a> {
         match judge(table, ty, said) {
             Judged::Fits => self.add(ty, said, Left::Unasked(0)),
             Judged::Opens(places) => self.add(ty, said, Left::Asked(places)),
-            Judged::Back(offset) => Ok(self.back(table, stated, ty, offset)),
+            Judged::Back(offset) => self.back(table, stated, front, ty, offset),
             Judged::Misses => self.miss(alloc, ty, said),
             Judged::Unknown => Ok(false),
         }
@@ -226,6 +249,7 @@ impl<'a> Finding<'a> {
         alloc: Global,
         table: &'a TypeTable,
         stated: u64,
+        front: &[u8],
         asked: Asked<'a>,
         said: Said,
     ) -> Result<bool, Memory>
@@ -235,10 +259,10 @@ impl<'a> Finding<'a> {
         requires fair { IsFair said }
         ensures { IfOk result
             (λ came. OnTrue came
-            (Comes (table_of table.now) stated self.old asked.entry said self.new)) }
+            (Comes (table_of table.now) stated front.now self.old asked.entry said self.new)) }
     {
         match asked {
-            Asked::Type(ty) => self.typed(alloc, table, stated, ty, said),
+            Asked::Type(ty) => self.typed(alloc, table, stated, front, ty, said),
             Asked::Hash(tags) => Ok(self.hash(tags, said)),
             Asked::Nothing => self.below(stated, said),
         }
@@ -288,7 +312,8 @@ pub struct Seeking<'a> {
 /// Where a search stopped.
 #[derive(Clone, Copy)]
 pub enum End {
-    /// The value has so many bytes, and its one misfit was found.
+    /// The value has so many bytes, and its one misfit was found, which is its least fault: it has
+    /// what is asked for everywhere else, and no reference leads back to a block on the way there.
     Found(usize),
     /// Before a token that is not whole, or is none.
     Cut,
@@ -347,7 +372,9 @@ impl<'a> Seeking<'a> {
     {
         table.holds();
         let more = bytes.len().saturating_sub(self.seen) as u64;
-        self.left = self.left.saturating_add(more.min(self.head.length));
+        let more = more.min(self.head.length);
+        self.left = self.left.saturating_add(more);
+        self.finding.seconds.left = self.finding.seconds.left.saturating_add(more);
         self.seen = bytes.len();
         // Each turn takes a byte, so this ends long before.
         'tokens: for _turn in 0..u64::MAX {
@@ -360,10 +387,13 @@ impl<'a> Seeking<'a> {
             let Some((first, len)) = first_token(&bytes[self.at..]) else {
                 return Ok(End::Cut);
             };
+            let made = self.finding.types.len();
+            self.finding.seconds.mark(self.at, made)?;
             let asked = self.finding.way.take();
+            let front = &bytes[..self.at];
             let came = self
                 .finding
-                .come(alloc, table, self.head.objects, asked, first)?;
+                .come(alloc, table, self.head.objects, front, asked, first)?;
             if !came {
                 return Ok(End::Untold);
             }
@@ -378,31 +408,5 @@ impl<'a> Seeking<'a> {
         ensures { OnTrue result (values_at (way_places self.now.finding.way) ≤ most) }
     {
         self.finding.way.are_within(most, left)
-    }
-}
-
-/// How many bytes the value has that begins the bytes, and its one misfit, if it is whole, is under
-/// the limit, has what is asked for everywhere else, and no reference leads back to a block on the
-/// way to the misfit. That is then its least fault. Of any other value nothing is said.
-pub fn find(
-    alloc: Global,
-    table: &TypeTable,
-    bytes: &[u8],
-    limit: u64,
-) -> Result<Option<(usize, Found)>, Memory>
-    ensures { IfOk result
-        (λ answer. IfSome answer
-        (λ first. IsFound (table_of table.now) limit first.0 bytes.now first.1)) }
-{
-    let mut seeking = Seeking::new(alloc);
-    if !seeking.begin(bytes, limit) {
-        return Ok(None);
-    }
-    match seeking.go(alloc, table, limit, bytes)? {
-        End::Found(n) => match seeking.finding.found.take() {
-            Some(found) => Ok(Some((n, found))),
-            None => Ok(None),
-        },
-        _ => Ok(None),
     }
 }

@@ -4,7 +4,7 @@ use Rattle.std.proofs.Common.{Option, Some, None, refl, sym, ap, subst, arith}
 use Rattle.std.specs.Prelude.{Contains, IsTrue, IsSomeAnd, slice_get, All}
 use Rattle.std.proofs.lemmas.Option.{same_Some, none-some}
 use Rattle.std.proofs.lemmas.List.Elements.{All-head, All-tail, Contains-append_left, Contains-append_right, Contains-append_cases}
-use Rattle.om_model.proofs.Options.{Contains-first, Contains-cases, Contains-none}
+use Rattle.om_model.proofs.Options.{IsSomeAnd-some, Contains-first, Contains-cases, Contains-none}
 use Rattle.om_model.specs.declared.value.Val.{Val}
 use Rattle.om_model.specs.declared.value.Val.TheVariants as vals
 use Rattle.om_model.specs.declared.value.Obj.{Obj}
@@ -16,7 +16,8 @@ use Rattle.om_types.specs.Fault.{step}
 use Rattle.om_pass_law.specs.Asked.{shape_at}
 use Rattle.om_pass_law.proofs.Kernel.{some_if}
 use Rattle.om_misfit_law.specs.OnlyWay.{AreHeldBut, IsNeededOf, IsWay, IsOnlyWay}
-use Rattle.om_misfit_law.specs.PassedBut.{Made}
+use Rattle.om_misfit_law.specs.PassedBut.{Made, HasFirst}
+use Rattle.om_misfit_law.proofs.PlainLemmas.{FitsAlone, IsAlone, held_alone}
 
 -- ---- the pairs of objects and their types
 
@@ -88,17 +89,17 @@ first_link (link ∷ trail) = link
 
 -- ---- what is known of each object
 
-module _ (table : Table) (graph : List Obj) (made : List Made) (back : List ℕ) (root : Val) (missed : List (ℕ × ℕ)) where
+module _ (table : Table) (graph : List Obj) (made : List Made) (back : List ℕ) (noted : List (ℕ × ℕ)) (root : Val) (missed : List (ℕ × ℕ)) where
   abbrev NotBack : ℕ × ℕ → Type 0
   NotBack link = Contains back link.0 → ⊥
 
-  -- an object at an equal type, which is led back to
+  abbrev pairs : List (ℕ × ℕ)
+  pairs = typed_of made ++ noted
+
+  -- an object that has the type, which is led back to
   pub record IsMetAgain (o t : ℕ) : Type 0 where
-    pub type : ℕ
-    pub trail : List (ℕ × ℕ)
-    pub at : IsMadeAt made o type trail
-    pub equal : (table_shapes table).equal type t
-    pub noted : Contains back o
+    pub typed : HasFirst table made o t ⊎ Contains noted (o, t)
+    pub led : Contains back o
 
   -- the value has what its place asks for
   abbrev pub IsFine : List (ℕ × ℕ) → Val → ℕ → Type 0
@@ -131,36 +132,60 @@ module _ (table : Table) (graph : List Obj) (made : List Made) (back : List ℕ)
     pub fits : (o s : ℕ) (trail : List (ℕ × ℕ)) → IsMadeAt made o s trail → (table_shapes table).fits graph (vals.Ref o) s
     pub fields : (o s : ℕ) (trail : List (ℕ × ℕ)) (i a : ℕ) → IsMadeAt made o s trail → Contains ((table_shapes table).needs graph (vals.Ref o) s) (i, a) → IsField o i trail a
     pub ways : (o t : ℕ) (trail : List (ℕ × ℕ)) → IsMadeAt made o t trail → IsTrue (is_asked_in table t) → IsFrom trail o t
+    pub again : (o t : ℕ) → Contains noted (o, t) → IsAlone table graph o t
 
   module _ (lawful : AreLawful (table_shapes table) Everything) (are : AreMade) where
-    fine_held : (trail : List (ℕ × ℕ)) (v : Val) (t : ℕ) → IsFine trail v t → IsHeld (table_shapes table) graph (typed_of made) v t
+    first_in : (o t : ℕ) (trail : List (ℕ × ℕ)) → IsMadeAt made o t trail → Contains pairs (o, t)
+    first_in o t trail at = Contains-append_left (typed_of made) noted (o, t) (typed_in made o t trail at)
+
+    again_held : (o t : ℕ) → IsMetAgain o t → IsHeld (table_shapes table) graph pairs (vals.Ref o) t
+    again_held o t again = ⊎_elim
+        (λ first. record {
+          fits = lawful.fits graph (vals.Ref o) first.type t (inl tt) first.equal (are.fits o first.type first.trail first.at);
+          listed = (first.type, first_in o first.type first.trail first.at, first.equal);
+        })
+        (λ second. record {
+          fits = (are.again o t second).fits;
+          listed = (t, Contains-append_right (typed_of made) noted (o, t) second, lawful.reflexive t tt);
+        })
+        again.typed
+
+    fine_held : (trail : List (ℕ × ℕ)) (v : Val) (t : ℕ) → IsFine trail v t → IsHeld (table_shapes table) graph pairs v t
     fine_held trail (vals.Int z) t fine = record { fits = some_if (fits_int (shape_at table t) z) fine; listed = tt }
     fine_held trail (vals.Atom tag) t fine = record { fits = some_if (fits_atom (shape_at table t) tag) fine; listed = tt }
-    fine_held trail (vals.Ref o) t (inl at) = record { fits = are.fits o t trail at; listed = (t, typed_in made o t trail at, lawful.reflexive t tt) }
-    fine_held trail (vals.Ref o) t (inr again) = record {
-      fits = lawful.fits graph (vals.Ref o) again.type t (inl tt) again.equal (are.fits o again.type again.trail again.at);
-      listed = (again.type, typed_in made o again.type again.trail again.at, again.equal);
-    }
+    fine_held trail (vals.Ref o) t (inl at) = record { fits = are.fits o t trail at; listed = (t, first_in o t trail at, lawful.reflexive t tt) }
+    fine_held trail (vals.Ref o) t (inr again) = again_held o t again
 
-    pub held_but : (o i : ℕ) (trail : List (ℕ × ℕ)) → missed ≡ (o, i) ∷ trail → AreHeldBut (table_shapes table) graph (typed_of made) ((o, i) ∷ []) root 0
+    -- a field of a pair
+    held_first : (o i : ℕ) (trail : List (ℕ × ℕ)) → missed ≡ (o, i) ∷ trail → (p s : ℕ) (way : List (ℕ × ℕ)) (j u : ℕ) → IsMadeAt made p s way → Contains ((table_shapes table).needs graph (vals.Ref p) s) (j, u) → Contains {X = ℕ × ℕ} ((o, i) ∷ []) (p, j) ⊎ IsSomeAnd (field_at graph p j) (λ v. IsHeld (table_shapes table) graph pairs v u)
+    held_first o i trail is p s way j u at need =
+        let f = are.fields p s way j u at need in
+        ⊎_elim
+        (λ fine. inr (subst (λ x. IsSomeAnd x (λ v. IsHeld (table_shapes table) graph pairs v u)) (sym f.field) (fine_held ((p, j) ∷ way) f.value u fine)))
+        (λ missed'.
+        let same : ◌≡◌ {A = ℕ × ℕ} (o, i) (p, j) = ap first_link (sym is ∙ missed'.here) in
+        inl (subst (λ (hole : ℕ × ℕ). Contains ((o, i) ∷ []) hole) same (Contains-first {X = ℕ × ℕ} (o, i) [])))
+        f.placed
+
+    held_again : (p s j u : ℕ) → Contains noted (p, s) → Contains ((table_shapes table).needs graph (vals.Ref p) s) (j, u) → IsSomeAnd (field_at graph p j) (λ v. IsHeld (table_shapes table) graph pairs v u)
+    held_again p s j u among need =
+        let found = IsSomeAnd-some (field_at graph p j) (λ v. FitsAlone table v u) ((are.again p s among).fields j u need) in
+        subst (λ x. IsSomeAnd x (λ v. IsHeld (table_shapes table) graph pairs v u)) (sym found.1) (held_alone table graph pairs found.0 u found.2)
+
+    pub held_but : (o i : ℕ) (trail : List (ℕ × ℕ)) → missed ≡ (o, i) ∷ trail → AreHeldBut (table_shapes table) graph pairs ((o, i) ∷ []) root 0
     held_but o i trail is = record {
       root_held = fine_held [] root 0 are.root_fine;
-      held = λ p s j u among need.
-          let at = made_of made p s among in
-          let f = are.fields p s at.0 j u at.1 need in
-          ⊎_elim
-          (λ fine. inr (subst (λ x. IsSomeAnd x (λ v. IsHeld (table_shapes table) graph (typed_of made) v u)) (sym f.field) (fine_held ((p, j) ∷ at.0) f.value u fine)))
-          (λ missed'.
-          let same : ◌≡◌ {A = ℕ × ℕ} (o, i) (p, j) = ap first_link (sym is ∙ missed'.here) in
-          inl (subst (λ (hole : ℕ × ℕ). Contains ((o, i) ∷ []) hole) same (Contains-first {X = ℕ × ℕ} (o, i) [])))
-          f.placed;
+      held = λ p s j u among need. ⊎_elim
+          (λ first. let at = made_of made p s first in held_first o i trail is p s at.0 j u at.1 need)
+          (λ second. inr (held_again p s j u second need))
+          (Contains-append_cases (typed_of made) noted (p, s) among);
     }
 
     -- an object that nothing leads back to has the trail of each place that holds it
     fine_trail : (o s a : ℕ) (trail place : List (ℕ × ℕ)) → IsMadeAt made o s trail → (Contains back o → ⊥) → IsFine place (vals.Ref o) a → trail ≡ place
     fine_trail o s a trail place at not (inl at') =
         ap (λ (m : Made). m.trail) (same_Some record { type = Some s; trail = trail } record { type = Some a; trail = place } (sym at ∙ at'))
-    fine_trail o s a trail place at not (inr again) = absurd (not again.noted)
+    fine_trail o s a trail place at not (inr again) = absurd (not again.led)
 
     placed_trail : (o s a : ℕ) (trail place : List (ℕ × ℕ)) → IsMadeAt made o s trail → (Contains back o → ⊥) → IsPlaced place (vals.Ref o) a → trail ≡ place
     placed_trail o s a trail place at not (inl fine) = fine_trail o s a trail place at not fine
@@ -168,12 +193,20 @@ module _ (table : Table) (graph : List Obj) (made : List Made) (back : List ℕ)
         let r = missed'.object o refl in
         ap (λ (m : Made). m.trail) (same_Some record { type = Some s; trail = trail } record { type = r.0; trail = place } (sym at ∙ r.1))
 
-    needed_trail : (o s p j : ℕ) (trail : List (ℕ × ℕ)) → IsMadeAt made o s trail → (Contains back o → ⊥) → IsNeededOf (table_shapes table) graph (typed_of made) p j (vals.Ref o) → (place : List (ℕ × ℕ)) × (trail ≡ (p, j) ∷ place)
-    needed_trail o s p j trail at not n =
-        let holder = made_of made p n.type n.among in
+    -- a field at a second type is no reference
+    not_again : (o p j t a : ℕ) → Contains noted (p, t) → Contains ((table_shapes table).needs graph (vals.Ref p) t) (j, a) → field_at graph p j ≡ Some (vals.Ref o) → ⊥
+    not_again o p j t a among needed field =
+        subst (λ x. IsSomeAnd x (λ v. FitsAlone table v a)) field ((are.again p t among).fields j a needed)
+
+    needed_trail : (o s p j : ℕ) (trail : List (ℕ × ℕ)) → IsMadeAt made o s trail → (Contains back o → ⊥) → IsNeededOf (table_shapes table) graph pairs p j (vals.Ref o) → (place : List (ℕ × ℕ)) × (trail ≡ (p, j) ∷ place)
+    needed_trail o s p j trail at not n = ⊎_elim
+        (λ first.
+        let holder = made_of made p n.type first in
         let f = are.fields p n.type holder.0 j n.asked holder.1 n.needed in
         let same : f.value ≡ vals.Ref o = same_Some f.value (vals.Ref o) (sym f.field ∙ n.field) in
-        (holder.0, placed_trail o s n.asked trail ((p, j) ∷ holder.0) at not (subst (λ v. IsPlaced ((p, j) ∷ holder.0) v n.asked) same f.placed))
+        (holder.0, placed_trail o s n.asked trail ((p, j) ∷ holder.0) at not (subst (λ v. IsPlaced ((p, j) ∷ holder.0) v n.asked) same f.placed)))
+        (λ second. absurd (not_again o p j n.type n.asked second n.needed n.field))
+        (Contains-append_cases (typed_of made) noted (p, n.type) n.among)
 
     no_cons : (link : ℕ × ℕ) (trail : List (ℕ × ℕ)) → [] ≡ link ∷ trail → ⊥
     no_cons link trail same = subst IsEmpty same tt where
@@ -188,7 +221,7 @@ module _ (table : Table) (graph : List Obj) (made : List Made) (back : List ℕ)
         let from = are.ways o s (link ∷ trail) at asked in
         (from.0, way_of trail link.0 from.0 from.1 from.2, from.3)
 
-    pub only_of : (trail : List (ℕ × ℕ)) (o s : ℕ) → IsMadeAt made o s trail → IsTrue (is_asked_in table s) → (Contains back o → ⊥) → All NotBack trail → IsOnlyWay (table_shapes table) graph (typed_of made) root trail o
+    pub only_of : (trail : List (ℕ × ℕ)) (o s : ℕ) → IsMadeAt made o s trail → IsTrue (is_asked_in table s) → (Contains back o → ⊥) → All NotBack trail → IsOnlyWay (table_shapes table) graph pairs root trail o
     only_of [] o s at asked not others = λ p j n.
         let r = needed_trail o s p j [] at not n in
         no_cons (p, j) r.0 r.1

@@ -1,5 +1,5 @@
 -- The last step: the one misfit, whose place was met, is the least fault.
-use Rattle.std.proofs.Common.{ℕ, ◌≡◌, List, [], ◌∷◌, Some, sym, ap, subst}
+use Rattle.std.proofs.Common.{ℕ, ◌≡◌, List, [], ◌∷◌, ◌++◌, Some, sym, ap, subst}
 use Rattle.std.specs.Prelude.{Contains, IsTrue, All}
 use Rattle.std.proofs.lemmas.List.Elements.{All-head, All-tail}
 use Rattle.om_model.specs.declared.value.Val.{Val}
@@ -28,23 +28,23 @@ module _ (table : Table) (graph : List Obj) (root : Val) (missed : Missed) where
     pub stepped : step (table_shapes table) graph (vals.Ref o) type i ≡ Some (value, missed.type)
     pub spelled : IsSpelledBy graph value missed.token
 
-  pub field_least : (made : List Made) (back : List ℕ) (o i : ℕ) (trail : List (ℕ × ℕ)) → AreLawful (table_shapes table) Everything → AreMade table graph made back root missed.trail → Misses table missed.type missed.token → IsMet made o i trail → All (λ (link : ℕ × ℕ). Contains back link.0 → ⊥) missed.trail → IsLeastMissed table graph root missed
-  field_least made back o i trail lawful are misses met others =
+  pub field_least : (made : List Made) (back : List ℕ) (noted : List (ℕ × ℕ)) (o i : ℕ) (trail : List (ℕ × ℕ)) → AreLawful (table_shapes table) Everything → AreMade table graph made back noted root missed.trail → Misses table missed.type missed.token → IsMet made o i trail → All (λ (link : ℕ × ℕ). Contains back link.0 → ⊥) missed.trail → IsLeastMissed table graph root missed
+  field_least made back noted o i trail lawful are misses met others =
       let shapes = table_shapes table in
       let others' = subst (λ τ. All (λ (link : ℕ × ℕ). Contains back link.0 → ⊥) τ) met.is others in
-      let held = held_but table graph made back root missed.trail lawful are o i trail met.is in
-      let way = way_of table graph made back root missed.trail lawful are trail o met.type met.at met.asked in
-      let only = only_of table graph made back root missed.trail lawful are trail o met.type met.at met.asked
+      let held = held_but table graph made back noted root missed.trail lawful are o i trail met.is in
+      let way = way_of table graph made back noted root missed.trail lawful are trail o met.type met.at met.asked in
+      let only = only_of table graph made back noted root missed.trail lawful are trail o met.type met.at met.asked
       (All-head (λ (link : ℕ × ℕ). Contains back link.0 → ⊥) (o, i) trail others')
       (All-tail (λ (link : ℕ × ℕ). Contains back link.0 → ⊥) (o, i) trail others') in
       let not = misses_do_not_fit table graph met.value missed.type missed.token misses met.spelled in
       record {
         value = met.value;
         at = subst (λ τ. value_at shapes graph root 0 (path_of τ) ≡ Some (met.value, missed.type)) (sym met.is)
-            (hole_at shapes lawful graph (typed_of made) root 0 trail o i met.type missed.type met.value held way only met.stepped);
+            (hole_at shapes lawful graph (typed_of made ++ noted) root 0 trail o i met.type missed.type met.value held way only met.stepped);
         spelled = met.spelled;
         least = subst (λ τ. IsLeastFault shapes graph root 0 (Misfit (path_of τ))) (sym met.is)
-            (only_misfit shapes lawful graph (typed_of made) root 0 trail o i met.type missed.type met.value held way only met.stepped not);
+            (only_misfit shapes lawful graph (typed_of made ++ noted) root 0 trail o i met.type missed.type met.value held way only met.stepped not);
       }
 
   -- the misfit is the root

@@ -1,12 +1,20 @@
 -- Tokens that lead from the start to the end, told from the front.
-use Rattle.std.proofs.Common.{ℕ, ◌≡◌, ◌⊎◌, inl, inr, List, [], ◌∷◌, ◌++◌, Some, None, refl, sym, subst, subst₂}
+use Rattle.std.proofs.Common.{ℕ, ◌≡◌, ◌⊎◌, ⊎_elim, inl, inr, List, [], ◌∷◌, ◌++◌, length, Some, None, refl, sym, subst, subst₂, ◌-◌}
+use Rattle.std.specs.Prelude.{Contains}
 use Rattle.std.proofs.lemmas.List.{append_assoc, append-nil}
+use Rattle.std.proofs.lemmas.List.Elements.{Contains-append_left, Contains-append_right, Contains-append_cases}
+use Rattle.om_model.proofs.Options.{Contains-first, Contains-cases, Contains-none}
 use Rattle.om_types.specs.Table.{Table}
-use Rattle.om_format.specs.Token.{Token}
-use Rattle.om_pass_law.specs.Asked.{Need, of_type}
-use Rattle.om_misfit_law.specs.PassedBut.{Place, Made, Missed, unasked, made_in, type_of_need, Takes, Misses, PassedBut, begin, fitting, missing, below}
+use Rattle.om_format.specs.Token.{Token, integer, atom, shared, block, leaf}
+use Rattle.om_pass_law.specs.Asked.{Need, of_type, hash_of}
+use Rattle.om_misfit_law.specs.PassedBut.{Place, Made, Missed, unasked, made_in, type_of_need, IsPlain, IsLedBack, Takes, Misses, PassedBut, begin, fitting, missing, below}
+use Rattle.om_misfit_law.proofs.PlainLemmas.{plain_more}
 
-module _ (back : List ℕ) (table : Table) (all : List Made) where
+-- the object has the second type
+abbrev pub Among : List (ℕ × ℕ) → ℕ → ℕ → Type 0
+Among noted o t = Contains noted (o, t)
+
+module _ (back : List ℕ) (table : Table) (noted : List (ℕ × ℕ)) (all : List Made) where
   -- From these objects and open places on, the tokens lead to all objects, and have these misfits.
   abbrev pub PassesBut : List Made → List Place → List Token → List Missed → Type 0
   PassesBut made [] [] missed = (made ≡ all) × (missed ≡ [])
@@ -14,7 +22,7 @@ module _ (back : List ℕ) (table : Table) (all : List Made) where
   PassesBut made (place ∷ places) [] missed = ⊥
   PassesBut made (place ∷ places) (token ∷ tokens) missed =
       ((need : Need) × (place.asks ≡ Some need) × (next : List Place)
-      × Takes back table made place.trail need token next
+      × Takes back table (Among noted) made place.trail need token next
       × PassesBut (made ++ made_in (type_of_need need) place.trail token) (next ++ places) tokens missed)
       ⊎ (((t : ℕ) × (place.asks ≡ Some (of_type t)) × Misses table t token × (later : List Missed)
       × (missed ≡ record { trail = place.trail; type = t; token = token } ∷ later)
@@ -28,20 +36,109 @@ module _ (back : List ℕ) (table : Table) (all : List Made) where
   rejoined : (front : List Token) (token : Token) (rest : List Token) (missed : List Missed) → FromStart (front ++ token ∷ rest) missed → FromStart ((front ++ token ∷ []) ++ rest) missed
   rejoined front token rest missed h = subst (λ ts. FromStart ts missed) (sym (append_assoc front (token ∷ []) rest)) h
 
-  passes_later : (front rest : List Token) (made : List Made) (places : List Place) (missed later : List Missed) → PassedBut back table front made places missed → PassesBut made places rest later → FromStart (front ++ rest) (missed ++ later)
-  passes_later front rest made places missed later begin h = h
-  passes_later front rest made places missed later (fitting tokens made' need trail places' next missed' token before takes) h =
-      rejoined tokens token rest (missed ++ later)
-      (passes_later tokens (token ∷ rest) made' (record { asks = Some need; trail = trail } ∷ places') missed later before (inl (need, refl, next, takes, h)))
-  passes_later front rest made places missed later (missing tokens made' t trail places' missed' token before misses) h =
-      let one : Missed = record { trail = trail; type = t; token = token } in
-      rejoined tokens token rest (missed ++ later)
-      (subst (λ ms. FromStart (tokens ++ token ∷ rest) ms) (sym (append_assoc missed' (one ∷ []) later))
-      (passes_later tokens (token ∷ rest) made' (record { asks = Some (of_type t); trail = trail } ∷ places') missed' (one ∷ later) before (inr (inl (t, refl, misses, later, refl, h)))))
-  passes_later front rest made places missed later (below tokens made' trail places' missed' token before) h =
-      rejoined tokens token rest (missed ++ later)
-      (passes_later tokens (token ∷ rest) made' (record { asks = None; trail = trail } ∷ places') missed later before (inr (inr (refl, h))))
+-- ---- the second types that are taken
 
-  pub passes_from_start : (tokens : List Token) (missed : List Missed) → PassedBut back table tokens all [] missed → FromStart tokens missed
+abbrev Keeps : List (ℕ × ℕ) → List (ℕ × ℕ) → Type 0
+Keeps pairs noted = (o t : ℕ) → Contains pairs (o, t) → Contains noted (o, t)
+
+module _ (back : List ℕ) (table : Table) (Second : ℕ → ℕ → Type 0) (made : List Made) where
+  -- with these pairs noted the token is taken
+  record IsTaken (trail : List (ℕ × ℕ)) (need : Need) (token : Token) (next : List Place) : Type 0 where
+    pairs : List (ℕ × ℕ)
+    each : (o t : ℕ) → Contains pairs (o, t) → Second o t
+    takes : (noted : List (ℕ × ℕ)) → Keeps pairs noted → Takes back table (Among noted) made trail need token next
+
+  -- no object is met again
+  plain_taken : (trail : List (ℕ × ℕ)) (need : Need) (token : Token) (next : List Place) → ((noted : List (ℕ × ℕ)) → Takes back table (Among noted) made trail need token next) → IsTaken trail need token next
+  plain_taken trail need token next takes = record { pairs = []; each = λ o t among. absurd (Contains-none {X = ℕ × ℕ} (o, t) among); takes = λ noted kept. takes noted }
+
+  led_taken : (trail : List (ℕ × ℕ)) (t offset : ℕ) (next : List Place) → next ≡ [] → IsLedBack back table Second made t offset → IsTaken trail (of_type t) (shared offset) next
+  led_taken trail t offset next ends led = ⊎_elim
+      (λ first. plain_taken trail (of_type t) (shared offset) next (λ noted. (inr record { some = led.some; few = led.few; typed = inl first; noted = led.noted }, ends)))
+      (λ second. record {
+        pairs = (length made - offset, t) ∷ [];
+        each = λ o u among. ⊎_elim
+            (λ (same : ◌≡◌ {A = ℕ × ℕ} (length made - offset, t) (o, u)). subst (λ (p : ℕ × ℕ). Second p.0 p.1) same second)
+            (λ none. absurd (Contains-none {X = ℕ × ℕ} (o, u) none))
+            (Contains-cases {X = ℕ × ℕ} (length made - offset, t) [] (o, u) among);
+        takes = λ noted kept.
+            let there = kept (length made - offset) t (Contains-first {X = ℕ × ℕ} (length made - offset, t) []) in
+            (inr record { some = led.some; few = led.few; typed = inr there; noted = led.noted }, ends);
+      })
+      led.typed
+
+  taken : (trail : List (ℕ × ℕ)) (need : Need) (token : Token) (next : List Place) → Takes back table Second made trail need token next → IsTaken trail need token next
+  taken trail (of_type t) (integer z) next takes = plain_taken trail (of_type t) (integer z) next (λ noted. takes)
+  taken trail (of_type t) (atom tag) next takes = plain_taken trail (of_type t) (atom tag) next (λ noted. takes)
+  taken trail (of_type t) (shared offset) next (inl hidden, ends) = plain_taken trail (of_type t) (shared offset) next (λ noted. (inl hidden, ends))
+  taken trail (of_type t) (shared offset) next (inr led, ends) = led_taken trail t offset next ends led
+  taken trail (of_type t) (block tag size) next takes = plain_taken trail (of_type t) (block tag size) next (λ noted. takes)
+  taken trail (of_type t) (leaf object) next takes = plain_taken trail (of_type t) (leaf object) next (λ noted. takes)
+  taken trail (hash_of tags) (integer z) next takes = plain_taken trail (hash_of tags) (integer z) next (λ noted. takes)
+  taken trail (hash_of tags) (atom tag) next takes = absurd takes
+  taken trail (hash_of tags) (shared offset) next takes = absurd takes
+  taken trail (hash_of tags) (block tag size) next takes = absurd takes
+  taken trail (hash_of tags) (leaf object) next takes = absurd takes
+
+-- ---- from the front
+
+module _ (back : List ℕ) (table : Table) (all : List Made) where
+  -- the objects that have a second type by these tokens, and what the tokens lead to with them
+  record IsFronted (front : List Token) (made : List Made) (places : List Place) (missed : List Missed) : Type 0 where
+    pairs : List (ℕ × ℕ)
+    each : (o t : ℕ) → Contains pairs (o, t) → IsPlain table front o t
+    passes : (noted : List (ℕ × ℕ)) → Keeps pairs noted → (rest : List Token) (later : List Missed) → PassesBut back table noted all made places rest later → FromStart back table noted all (front ++ rest) (missed ++ later)
+
+  each_more : (front more : List Token) (pairs : List (ℕ × ℕ)) → ((o t : ℕ) → Contains pairs (o, t) → IsPlain table front o t) → (o t : ℕ) → Contains pairs (o, t) → IsPlain table (front ++ more) o t
+  each_more front more pairs each o t among = plain_more table front more o t (each o t among)
+
+  fronted : (front : List Token) (made : List Made) (places : List Place) (missed : List Missed) → PassedBut back table front made places missed → IsFronted front made places missed
+  fronted front made places missed begin = record { pairs = []; each = λ o t among. absurd (Contains-none {X = ℕ × ℕ} (o, t) among); passes = λ noted kept rest later h. h }
+  fronted front made places missed (fitting tokens made' need trail places' next missed' token before takes) =
+      let place : Place = record { asks = Some need; trail = trail } in
+      let r = fronted tokens made' (place ∷ places') missed before in
+      let own = taken back table (IsPlain table tokens) made' trail need token next takes in
+      record {
+        pairs = r.pairs ++ own.pairs;
+        each = λ o t among. plain_more table tokens (token ∷ []) o t (⊎_elim (λ first. r.each o t first) (λ second. own.each o t second) (Contains-append_cases r.pairs own.pairs (o, t) among));
+        passes = λ noted kept rest later h.
+            rejoined back table noted all tokens token rest (missed ++ later)
+            (r.passes noted (λ o t among. kept o t (Contains-append_left r.pairs own.pairs (o, t) among)) (token ∷ rest) later
+            (inl (need, refl, next, own.takes noted (λ o t among. kept o t (Contains-append_right r.pairs own.pairs (o, t) among)), h)));
+      }
+  fronted front made places missed (missing tokens made' t trail places' missed' token before misses) =
+      let place : Place = record { asks = Some (of_type t); trail = trail } in
+      let one : Missed = record { trail = trail; type = t; token = token } in
+      let r = fronted tokens made' (place ∷ places') missed' before in
+      record {
+        pairs = r.pairs;
+        each = each_more tokens (token ∷ []) r.pairs r.each;
+        passes = λ noted kept rest later h.
+            rejoined back table noted all tokens token rest ((missed' ++ one ∷ []) ++ later)
+            (subst (λ ms. FromStart back table noted all (tokens ++ token ∷ rest) ms) (sym (append_assoc missed' (one ∷ []) later))
+            (r.passes noted kept (token ∷ rest) (one ∷ later) (inr (inl (t, refl, misses, later, refl, h)))));
+      }
+  fronted front made places missed (below tokens made' trail places' missed' token before) =
+      let place : Place = record { asks = None; trail = trail } in
+      let r = fronted tokens made' (place ∷ places') missed before in
+      record {
+        pairs = r.pairs;
+        each = each_more tokens (token ∷ []) r.pairs r.each;
+        passes = λ noted kept rest later h.
+            rejoined back table noted all tokens token rest (missed ++ later) (r.passes noted kept (token ∷ rest) later (inr (inr (refl, h))));
+      }
+
+  -- to the end
+  pub record IsFromStart (tokens : List Token) (missed : List Missed) : Type 0 where
+    pub noted : List (ℕ × ℕ)
+    pub each : (o t : ℕ) → Contains noted (o, t) → IsPlain table tokens o t
+    pub passes : FromStart back table noted all tokens missed
+
+  pub passes_from_start : (tokens : List Token) (missed : List Missed) → PassedBut back table tokens all [] missed → IsFromStart tokens missed
   passes_from_start tokens missed passed =
-      subst₂ FromStart (append-nil tokens) (append-nil missed) (passes_later tokens [] all [] missed [] passed (refl, refl))
+      let r = fronted tokens all [] missed passed in
+      record {
+        noted = r.pairs;
+        each = r.each;
+        passes = subst₂ (FromStart back table r.pairs all) (append-nil tokens) (append-nil missed) (r.passes r.pairs (λ o t among. among) [] [] (refl, refl));
+      }

@@ -41,29 +41,29 @@ hidden_fields : (shape : ShapeOf ℕ) (tag : ℕ) (values : List Val) → is_ask
 hidden_fields shapes.Anything tag values hidden = refl
 hidden_fields shape tag values hidden = absurd (false≢true (sym hidden))
 
-module _ (table : Table) (graph : List Obj) (all : List Made) (back : List ℕ) (whole : Val) (missed : List (ℕ × ℕ)) where
+module _ (table : Table) (graph : List Obj) (all : List Made) (back : List ℕ) (noted : List (ℕ × ℕ)) (whole : Val) (missed : List (ℕ × ℕ)) where
   pub record IsGoodBut (o t : ℕ) (trail : List (ℕ × ℕ)) : Type 0 where
     pub fits : (table_shapes table).fits graph (vals.Ref o) t
-    pub fields : (i a : ℕ) → Contains ((table_shapes table).needs graph (vals.Ref o) t) (i, a) → IsField table graph all back whole missed o i trail a
-    pub way : IsTrue (is_asked_in table t) → IsFrom table graph all back whole missed trail o t
+    pub fields : (i a : ℕ) → Contains ((table_shapes table).needs graph (vals.Ref o) t) (i, a) → IsField table graph all back noted whole missed o i trail a
+    pub way : IsTrue (is_asked_in table t) → IsFrom table graph all back noted whole missed trail o t
 
   module _ (o t : ℕ) (trail : List (ℕ × ℕ)) (real : IsRealIf table graph all whole trail (vals.Ref o) t) where
     -- an object, from what it is
-    object_good : (object : Obj) → slice_get graph o ≡ Some object → IsSome (object_fields (shape_at table t) object) → ((i a : ℕ) → Contains (or_none (object_fields (shape_at table t) object)) (i, a) → IsTrue (is_asked_in table a) → IsField table graph all back whole missed o i trail a) → IsGoodBut o t trail
+    object_good : (object : Obj) → slice_get graph o ≡ Some object → IsSome (object_fields (shape_at table t) object) → ((i a : ℕ) → Contains (or_none (object_fields (shape_at table t) object)) (i, a) → IsTrue (is_asked_in table a) → IsField table graph all back noted whole missed o i trail a) → IsGoodBut o t trail
     object_good object at some each = record {
       fits = subst (λ x. IsSome (option_and_then (object_fields (shape_at table t)) x)) (sym at) some;
       fields = λ i a needed.
           let typed = need_typed table graph (vals.Ref o) t i a needed in
           each i a (subst (λ x. Contains (or_none (option_and_then (object_fields (shape_at table t)) x)) (i, a)) at typed.0) typed.1;
-      way = λ asked. real_from table graph all whole back missed trail o t (real asked);
+      way = λ asked. real_from table graph all whole back noted missed trail o t (real asked);
     }
 
     pub leaf_good : (object : Obj) → slice_get graph o ≡ Some object → IsLeaf object → IsSome (object_fields (shape_at table t) object) → IsGoodBut o t trail
     leaf_good object at is some = object_good object at some (λ i a typed asked. absurd (leaf_needs (shape_at table t) object i a is typed))
 
-    module _ (tag : ℕ) (values : List Val) (needs : List Need) (placed : ArePlaced table graph all back whole missed o trail 0 values needs) where
+    module _ (tag : ℕ) (values : List Val) (needs : List Need) (placed : ArePlaced table graph all back noted whole missed o trail 0 values needs) where
       -- the fields of a tag that has an argument
-      tag_some : (tags : List (PolyTag ℕ)) (vs : List Val) → ArePlaced table graph all back whole missed o trail 0 vs (hash_of tags ∷ []) → IsSome (tag_fields tags vs)
+      tag_some : (tags : List (PolyTag ℕ)) (vs : List Val) → ArePlaced table graph all back noted whole missed o trail 0 vs (hash_of tags ∷ []) → IsSome (tag_fields tags vs)
       tag_some tags [] are = absurd are
       tag_some tags (v ∷ []) are = absurd are.2
       tag_some tags (v ∷ w ∷ x ∷ vs) are = absurd are.2.1
@@ -76,7 +76,7 @@ module _ (table : Table) (graph : List Obj) (all : List Made) (back : List ℕ) 
       fields_some : (fields : Option (List (ℕ × ℕ))) → AreFields values needs fields → IsSome fields
       fields_some fields (numbered ts asks its) = subst IsSome (sym its) refl
       fields_some fields (tagged tags asks its two) =
-          subst IsSome (sym its) (tag_some tags values (subst (ArePlaced table graph all back whole missed o trail 0 values) asks placed))
+          subst IsSome (sym its) (tag_some tags values (subst (ArePlaced table graph all back noted whole missed o trail 0 values) asks placed))
 
       -- a block, hidden or not
       pub block_good : slice_get graph o ≡ Some (objects.Block tag values) → fields_ask table t tag (length values) ≡ Some needs → IsGoodBut o t trail
@@ -86,7 +86,7 @@ module _ (table : Table) (graph : List Obj) (all : List Made) (back : List ℕ) 
             object_good (objects.Block tag values) at
             (fields_some (block_fields (shape_at table t) tag values) (fields_are (shape_at table t) tag values needs is))
             (λ i a typed asked_a.
-            let f = fields_placed table graph all back whole missed o trail (shape_at table t) tag values needs i a is placed typed in
+            let f = fields_placed table graph all back noted whole missed o trail (shape_at table t) tag values needs i a is placed typed in
             record {
               value = f.value;
               field = ap (option_and_then (λ object. slice_get (values_of object) i)) at ∙ f.at;

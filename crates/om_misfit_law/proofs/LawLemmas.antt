@@ -13,7 +13,8 @@ use Rattle.om_misfit_law.specs.MissedLaw.{IsSpelledBy, IsLeastMissed}
 use Rattle.om_misfit_law.specs.PassedBut.{Place, Made, Missed, PassedBut}
 use Rattle.om_misfit_law.proofs.BridgeLemmas.{IsMadeAt, AreMade}
 use Rattle.om_misfit_law.proofs.EndLemmas.{IsMet, field_least, root_least}
-use Rattle.om_misfit_law.proofs.FrontLemmas.{PassesBut, passes_from_start}
+use Rattle.om_misfit_law.proofs.FrontLemmas.{PassesBut, IsFromStart, passes_from_start}
+use Rattle.om_misfit_law.proofs.PlainLemmas.{plain_alone}
 use Rattle.om_misfit_law.proofs.ReadLemmas.{Good, IsMetAs, IsReadBut, all_in, tree_read}
 use Rattle.om_misfit_law.proofs.RealLemmas.{IsReal}
 
@@ -34,20 +35,27 @@ module _ (table : Table) (lawful : AreLawful (table_shapes table) Everything) (b
   abbrev start : List Place
   start = record { asks = Some (of_type 0); trail = [] } ∷ []
 
-  goes : PassesBut back table made [] start (tokens tree ++ []) (m ∷ [])
-  goes = subst (λ ts. PassesBut back table made [] start ts (m ∷ [])) (sym (append-nil (tokens tree))) (passes_from_start back table made (tokens tree) (m ∷ []) passed)
+  from : IsFromStart back table made (tokens tree) (m ∷ [])
+  from = passes_from_start back table made (tokens tree) (m ∷ []) passed
 
-  read : IsReadBut back table made graph whole m 0 0 [] tree [] [] (m ∷ [])
-  read = tree_read back table made graph whole m tree 0 [] [] [] [] (m ∷ []) is (refl, tt) (all_in [] graph) (λ asked. (refl, refl)) goes
+  -- the objects that have a second type
+  abbrev noted : List (ℕ × ℕ)
+  noted = from.noted
 
-  good : (o t : ℕ) (trail : List (ℕ × ℕ)) → IsMadeAt made o t trail → Good back table made graph whole m o t trail
+  goes : PassesBut back table noted made [] start (tokens tree ++ []) (m ∷ [])
+  goes = subst (λ ts. PassesBut back table noted made [] start ts (m ∷ [])) (sym (append-nil (tokens tree))) from.passes
+
+  read : IsReadBut back table noted made graph whole m 0 0 [] tree [] [] (m ∷ [])
+  read = tree_read back table noted made graph whole m tree 0 [] [] [] [] (m ∷ []) is (refl, tt) (all_in [] graph) (λ asked. (refl, refl)) goes
+
+  good : (o t : ℕ) (trail : List (ℕ × ℕ)) → IsMadeAt made o t trail → Good back table noted made graph whole m o t trail
   good o t trail at =
       let below = slice_get_within made o record { type = Some t; trail = trail } at in
       let long = ap length read.passes.0 in
       let many = read.many in
       read.good o (omega arith) (omega (arith, below, long, many)) t trail at
 
-  met : IsMetAs back table made graph whole m m
+  met : IsMetAs back table noted made graph whole m m
   met = ⊎_elim (λ same. absurd (no_list m [] (same ∙ read.passes.1))) (λ is. is) read.met
 
   -- something is asked of the root, where the trail begins with it
@@ -60,12 +68,13 @@ module _ (table : Table) (lawful : AreLawful (table_shapes table) Everything) (b
       root_asked trail link.0 from.0 from.1 from.2
 
   -- where the misfit is not the root, the root has what is asked for
-  all_made : (link : ℕ × ℕ) (trail : List (ℕ × ℕ)) → m.trail ≡ link ∷ trail → IsTrue (is_asked_in table 0) → AreMade table graph made back whole m.trail
+  all_made : (link : ℕ × ℕ) (trail : List (ℕ × ℕ)) → m.trail ≡ link ∷ trail → IsTrue (is_asked_in table 0) → AreMade table graph made back noted whole m.trail
   all_made link trail its asked = record {
     root_fine = ⊎_elim (λ fine. fine) (λ missed. absurd (no_list link trail (sym its ∙ missed.here))) (read.value asked);
     fits = λ o t trail at. (good o t trail at).fits;
     fields = λ o t trail i a at needed. (good o t trail at).fields i a needed;
     ways = λ o t trail at asked. (good o t trail at).way asked;
+    again = λ o t among. plain_alone table tree o t is (from.each o t among);
   }
 
   pub only_missed : All (λ (link : ℕ × ℕ). Contains back link.0 → ⊥) m.trail → IsLeastMissed table graph whole m
@@ -75,4 +84,4 @@ module _ (table : Table) (lawful : AreLawful (table_shapes table) Everything) (b
     by ((o, i) ∷ trail) its real =
         let are = all_made (o, i) trail its (root_asked trail o real.0 real.1 real.2) in
         let is_met : IsMet table graph whole m made o i trail = record { is = its; type = real.0; at = real.1; asked = real.2; value = met.value; stepped = real.3; spelled = met.spelled } in
-        field_least table graph whole m made back o i trail lawful are met.misses is_met others
+        field_least table graph whole m made back noted o i trail lawful are met.misses is_met others

@@ -3,6 +3,7 @@ pub mod BridgeLemmas
 pub mod MissLemmas
 pub mod FieldLemmas
 pub mod EndLemmas
+pub mod PlainLemmas
 pub mod FrontLemmas
 pub mod UnaskedLemmas
 pub mod PlacedLemmas

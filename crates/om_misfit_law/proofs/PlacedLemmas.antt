@@ -24,38 +24,38 @@ pub record IsHashOf (tags : List (PolyTag ℕ)) (v : Val) (type : ℕ) : Type 0 
   pub has_hash : tag_with tags hash ≡ Some tag
   pub has_argument : tag.arg ≡ Some type
 
-module _ (table : Table) (graph : List Obj) (made : List Made) (back : List ℕ) (root : Val) (missed : List (ℕ × ℕ)) where
+module _ (table : Table) (graph : List Obj) (made : List Made) (back : List ℕ) (noted : List (ℕ × ℕ)) (root : Val) (missed : List (ℕ × ℕ)) where
   -- a value of which nothing is asked may be anything
   abbrev pub IsPlacedIf : List (ℕ × ℕ) → Val → ℕ → Type 0
-  IsPlacedIf place v t = IsTrue (is_asked_in table t) → IsPlaced table graph made back root missed place v t
+  IsPlacedIf place v t = IsTrue (is_asked_in table t) → IsPlaced table graph made back noted root missed place v t
 
-module _ (table : Table) (graph : List Obj) (made : List Made) (back : List ℕ) (root : Val) (missed : List (ℕ × ℕ)) (p : ℕ) (trail : List (ℕ × ℕ)) where
+module _ (table : Table) (graph : List Obj) (made : List Made) (back : List ℕ) (noted : List (ℕ × ℕ)) (root : Val) (missed : List (ℕ × ℕ)) (p : ℕ) (trail : List (ℕ × ℕ)) where
   -- the values from number k on have what their places ask for, or are the misfit
   abbrev pub ArePlaced : ℕ → List Val → List Need → Type 0
   ArePlaced k [] [] = Unit {0}
   ArePlaced k [] (need ∷ needs) = ⊥
   ArePlaced k (v ∷ vs) [] = ⊥
   ArePlaced k (v ∷ vs) (of_type t ∷ needs) =
-      IsPlacedIf table graph made back root missed ((p, k) ∷ trail) v t × ArePlaced (suc k) vs needs
+      IsPlacedIf table graph made back noted root missed ((p, k) ∷ trail) v t × ArePlaced (suc k) vs needs
   ArePlaced k (v ∷ vs) (hash_of tags ∷ needs) =
       (t : ℕ) × IsHashOf tags v t × ArePlaced (suc k) vs (of_type t ∷ needs)
 
   pub record IsPlacedAt (values : List Val) (i place a : ℕ) : Type 0 where
     pub value : Val
     pub at : slice_get values i ≡ Some value
-    pub placed : IsPlacedIf table graph made back root missed ((p, place) ∷ trail) value a
+    pub placed : IsPlacedIf table graph made back noted root missed ((p, place) ∷ trail) value a
 
   listed_placed : (ts : List ℕ) (k : ℕ) (values : List Val) (i a : ℕ) → ArePlaced k values (map of_type ts) → slice_get ts i ≡ Some a → IsPlacedAt values i (k + i) a
   listed_placed [] k values i a are at_i = absurd (none-some a at_i)
   listed_placed (t ∷ ts) k [] i a are at_i = absurd are
   listed_placed (t ∷ ts) k (v ∷ vs) zero a are at_i =
       let same : k ≡ k + zero = omega arith in
-      let typed = subst (λ u. IsPlacedIf table graph made back root missed ((p, k) ∷ trail) v u) (same_Some t a at_i) are.0 in
-      record { value = v; at = refl; placed = subst (λ n. IsPlacedIf table graph made back root missed ((p, n) ∷ trail) v a) same typed }
+      let typed = subst (λ u. IsPlacedIf table graph made back noted root missed ((p, k) ∷ trail) v u) (same_Some t a at_i) are.0 in
+      record { value = v; at = refl; placed = subst (λ n. IsPlacedIf table graph made back noted root missed ((p, n) ∷ trail) v a) same typed }
   listed_placed (t ∷ ts) k (v ∷ vs) (suc i) a are at_i =
       let same : suc k + i ≡ k + suc i = omega arith in
       let r = listed_placed ts (suc k) vs i a are.1 at_i in
-      record { value = r.value; at = r.at; placed = subst (λ n. IsPlacedIf table graph made back root missed ((p, n) ∷ trail) r.value a) same r.placed }
+      record { value = r.value; at = r.at; placed = subst (λ n. IsPlacedIf table graph made back noted root missed ((p, n) ∷ trail) r.value a) same r.placed }
 
   tagged_placed : (tags : List (PolyTag ℕ)) (values : List Val) (i a : ℕ) → ArePlaced 0 values (hash_of tags ∷ []) → Contains (or_none (tag_fields tags values)) (i, a) → IsPlacedAt values i i a
   tagged_placed tags [] i a are among = absurd are

@@ -19,7 +19,7 @@ use Rattle.om_pass_law.proofs.PassLemmas.{leaf_made}
 use Rattle.om_misfit_law.specs.MissedLaw.{IsSpelledBy}
 use Rattle.om_misfit_law.specs.PassedBut.{Place, Made, Missed, places_of, unasked, made_in, type_of_need, IsLedBack, Takes, Misses}
 use Rattle.om_misfit_law.proofs.BridgeLemmas.{IsMadeAt, IsMetAgain}
-use Rattle.om_misfit_law.proofs.FrontLemmas.{PassesBut}
+use Rattle.om_misfit_law.proofs.FrontLemmas.{Among, PassesBut}
 use Rattle.om_misfit_law.proofs.GoodLemmas.{IsGoodBut, leaf_good, block_good}
 use Rattle.om_misfit_law.proofs.MissLemmas.{missed_is_asked}
 use Rattle.om_misfit_law.proofs.PlacedLemmas.{IsHashOf, IsPlacedIf, ArePlaced}
@@ -76,7 +76,7 @@ all_in front (x ∷ xs) = (there front, subst (λ n. AreIn (front ++ x ∷ xs) n
   there [] = refl
   there (y ∷ front) = there front
 
-module _ (back : List ℕ) (table : Table) (all : List Made) (graph : List Obj) (whole : Val) (m : Missed) where
+module _ (back : List ℕ) (table : Table) (noted : List (ℕ × ℕ)) (all : List Made) (graph : List Obj) (whole : Val) (m : Missed) where
   -- each of them is the misfit
   abbrev pub AreIt : List Missed → Type 0
   AreIt [] = Unit {0}
@@ -90,10 +90,10 @@ module _ (back : List ℕ) (table : Table) (all : List Made) (graph : List Obj) 
     pub misses : Misses table one.type one.token
 
   abbrev pub Goes : List Made → List Place → List Token → List Missed → Type 0
-  Goes made places rest ms = PassesBut back table all made places rest ms
+  Goes made places rest ms = PassesBut back table noted all made places rest ms
 
   abbrev pub Good : ℕ → ℕ → List (ℕ × ℕ) → Type 0
-  Good o t trail = IsGoodBut table graph all back whole m.trail o t trail
+  Good o t trail = IsGoodBut table graph all back noted whole m.trail o t trail
 
   -- what is known of the objects from number c on
   abbrev pub AreGoodBut : ℕ → ℕ → Type 0
@@ -102,7 +102,7 @@ module _ (back : List ℕ) (table : Table) (all : List Made) (graph : List Obj) 
   pub record IsReadBut (c t : ℕ) (trail : List (ℕ × ℕ)) (tree : Tree) (places : List Place) (rest : List Token) (ms : List Missed) : Type 0 where
     pub after : List Made
     pub many : length after ≡ c + made_of_tree tree
-    pub value : IsPlacedIf table graph all back whole m.trail trail (root tree c) t
+    pub value : IsPlacedIf table graph all back noted whole m.trail trail (root tree c) t
     pub good : AreGoodBut c (made_of_tree tree)
     pub later : List Missed
     pub only : AreIt later
@@ -112,7 +112,7 @@ module _ (back : List ℕ) (table : Table) (all : List Made) (graph : List Obj) 
   pub record AreReadBut (c p k : ℕ) (trail : List (ℕ × ℕ)) (asked : List Need) (forest : Forest) (places : List Place) (rest : List Token) (ms : List Missed) : Type 0 where
     pub after : List Made
     pub many : length after ≡ c + all_made forest
-    pub values : ArePlaced table graph all back whole m.trail p trail k (roots forest c) asked
+    pub values : ArePlaced table graph all back noted whole m.trail p trail k (roots forest c) asked
     pub good : AreGoodBut c (all_made forest)
     pub later : List Missed
     pub only : AreIt later
@@ -149,7 +149,7 @@ module _ (back : List ℕ) (table : Table) (all : List Made) (graph : List Obj) 
 
   abbrev Fits : Need → List (ℕ × ℕ) → List Made → List Place → Token → List Token → List Missed → Type 0
   Fits need trail made places token ts ms =
-      (next : List Place) × Takes back table made trail need token next
+      (next : List Place) × Takes back table (Among noted) made trail need token next
       × Goes (made ++ made_in (type_of_need need) trail token) (next ++ places) ts ms
 
   abbrev IsMissing : ℕ → List (ℕ × ℕ) → List Made → List Place → Token → List Token → List Missed → Type 0
@@ -195,7 +195,7 @@ module _ (back : List ℕ) (table : Table) (all : List Made) (graph : List Obj) 
   miss_read token f t trail made places rest ms is only are real (misses, later, its, h) =
       let c = length made in
       let only' = subst AreIt its only in
-      let over = after_token back table all token f trail made places rest later is h in
+      let over = after_token back table noted all token f trail made places rest later is h in
       record {
         after = over.after;
         many = over.many;
@@ -205,7 +205,7 @@ module _ (back : List ℕ) (table : Table) (all : List Made) (graph : List Obj) 
               let at = its_object token c t o is.0 misses same in
               let from = at.0 in (
                 None,
-                kept_at back table all (made ++ made_in None trail token) (unasked token ++ places) (forest_tokens f ++ rest) later o record { type = None; trail = trail } h
+                kept_at back table noted all (made ++ made_in None trail token) (unasked token ++ places) (forest_tokens f ++ rest) later o record { type = None; trail = trail } h
                     (made_there None trail made token is.0 o (omega (arith, from)) at.1),
               );
         };
@@ -218,7 +218,7 @@ module _ (back : List ℕ) (table : Table) (all : List Made) (graph : List Obj) 
 
   -- ---- a token without fields that fits
 
-  flat_read : (token : Token) (t : ℕ) (trail : List (ℕ × ℕ)) (made : List Made) (places : List Place) (rest : List Token) (ms : List Missed) → IsToken token → AreIt ms → (next : List Place) → next ≡ [] → Goes (made ++ made_in (Some t) trail token) (next ++ places) rest ms → IsPlacedIf table graph all back whole m.trail trail (value_of token (length made)) t → AreGoodBut (length made) (made_by token) → IsReadBut (length made) t trail (node token none) places rest ms
+  flat_read : (token : Token) (t : ℕ) (trail : List (ℕ × ℕ)) (made : List Made) (places : List Place) (rest : List Token) (ms : List Missed) → IsToken token → AreIt ms → (next : List Place) → next ≡ [] → Goes (made ++ made_in (Some t) trail token) (next ++ places) rest ms → IsPlacedIf table graph all back noted whole m.trail trail (value_of token (length made)) t → AreGoodBut (length made) (made_by token) → IsReadBut (length made) t trail (node token none) places rest ms
   flat_read token t trail made places rest ms is only next ends h placed good = record {
     after = made ++ made_in (Some t) trail token;
     many = let long = made_long (Some t) trail made token is in omega (arith, long);
@@ -236,16 +236,16 @@ module _ (back : List ℕ) (table : Table) (all : List Made) (graph : List Obj) 
   -- the object that a token makes is there in the end
   made_at : (token : Token) (t : ℕ) (trail : List (ℕ × ℕ)) (made : List Made) (places : List Place) (ts : List Token) (ms : List Missed) → IsToken token → 0 < made_by token → Goes (made ++ made_in (Some t) trail token) places ts ms → IsMadeAt all (length made) t trail
   made_at token t trail made places ts ms is some h =
-      kept_at back table all (made ++ made_in (Some t) trail token) places ts ms (length made) record { type = Some t; trail = trail } h
+      kept_at back table noted all (made ++ made_in (Some t) trail token) places ts ms (length made) record { type = Some t; trail = trail } h
       (made_there (Some t) trail made token is (length made) (omega arith) (omega (arith, some)))
 
-  led_back : (t offset : ℕ) (made : List Made) (places : List Place) (ts : List Token) (ms : List Missed) → Goes made places ts ms → IsLedBack back table made t offset → IsMetAgain table graph all back whole m.trail (length made - offset) t
+  led_back : (t offset : ℕ) (made : List Made) (places : List Place) (ts : List Token) (ms : List Missed) → Goes made places ts ms → IsLedBack back table (Among noted) made t offset → IsMetAgain table graph all back noted whole m.trail (length made - offset) t
   led_back t offset made places ts ms h led = record {
-    type = led.type;
-    trail = led.trail;
-    at = kept_at back table all made places ts ms (length made - offset) record { type = Some led.type; trail = led.trail } h led.at;
-    equal = led.equal;
-    noted = led.noted;
+    typed = ⊎_elim
+        (λ first. inl record { type = first.type; trail = first.trail; at = kept_at back table noted all made places ts ms (length made - offset) record { type = Some first.type; trail = first.trail } h first.at; equal = first.equal })
+        (λ second. inr second)
+        led.typed;
+    led = led.noted;
   }
 
   -- ---- a block that fits
@@ -286,8 +286,8 @@ module _ (back : List ℕ) (table : Table) (all : List Made) (graph : List Obj) 
     block_read real r =
         let c = length made in
         let long = block_long in
-        let values = subst (λ n. ArePlaced table graph all back whole m.trail c trail 0 (roots f n) fits.1.0) long r.values in
-        let good = block_good table graph all back whole m.trail c t trail real tag (roots f (c + 1)) fits.1.0 values are.0 (block_asks (c + 1)) in
+        let values = subst (λ n. ArePlaced table graph all back noted whole m.trail c trail 0 (roots f n) fits.1.0) long r.values in
+        let good = block_good table graph all back noted whole m.trail c t trail real tag (roots f (c + 1)) fits.1.0 values are.0 (block_asks (c + 1)) in
         let goods = subst (λ n. AreGoodBut n (all_made f)) long r.good in
         record {
           after = r.after;
@@ -333,7 +333,7 @@ module _ (back : List ℕ) (table : Table) (all : List Made) (graph : List Obj) 
         record {
           after = later.after;
           many = let more_many = later.many in omega (arith, place, more_many);
-          values = (first.value, subst (λ n. ArePlaced table graph all back whole m.trail p trail (suc k) (roots f n) asked) place later.values);
+          values = (first.value, subst (λ n. ArePlaced table graph all back noted whole m.trail p trail (suc k) (roots f n) asked) place later.values);
           good = both_good (length made) (made_of_tree tree) (all_made f) first.good (subst (λ n. AreGoodBut n (all_made f)) place later.good);
           later = later.later;
           only = later.only;
@@ -362,7 +362,7 @@ module _ (back : List ℕ) (table : Table) (all : List Made) (graph : List Obj) 
     hash_read later = record {
       after = later.after;
       many = let more_many = later.many in omega (arith, more_many);
-      values = (fits.1.type, is_hash, subst (λ n. ArePlaced table graph all back whole m.trail p trail (suc k) (roots f n) (of_type fits.1.type ∷ asked)) (sym same_place) later.values);
+      values = (fits.1.type, is_hash, subst (λ n. ArePlaced table graph all back noted whole m.trail p trail (suc k) (roots f n) (of_type fits.1.type ∷ asked)) (sym same_place) later.values);
       good = λ o from to. later.good o from (omega (arith, to));
       later = later.later;
       only = later.only;
@@ -396,7 +396,7 @@ module _ (back : List ℕ) (table : Table) (all : List Made) (graph : List Obj) 
         let c = length made in
         let one = leaf_made object is.0 in
         let at = made_at (leaf object) t trail made (fits.0 ++ places) rest ms is.0 (omega (arith, one)) fits.2 in
-        let good = only_good c t trail at (leaf_good table graph all back whole m.trail c t trail real object are.0 is.0 fits.1.0) in
+        let good = only_good c t trail at (leaf_good table graph all back noted whole m.trail c t trail real object are.0 is.0 fits.1.0) in
         flat_read (leaf object) t trail made places rest ms is.0 only fits.0 fits.1.1 fits.2 (λ asked. inl (inl at)) (subst (AreGoodBut c) (sym one) good))
         (λ missing. miss_read (leaf object) none t trail made places rest ms is only are real missing)
         (told trail made places (leaf object) rest ms t h)

@@ -29,9 +29,9 @@ module _ (table : Table) (graph : List Obj) (all : List Made) (whole : Val) wher
   abbrev pub IsRealIf : List (ℕ × ℕ) → Val → ℕ → Type 0
   IsRealIf trail v t = IsTrue (is_asked_in table t) → IsReal trail v t
 
-  pub real_from : (back : List ℕ) (missed trail : List (ℕ × ℕ)) (o t : ℕ) → IsReal trail (vals.Ref o) t → IsFrom table graph all back whole missed trail o t
-  real_from back missed [] o t real = real
-  real_from back missed (link ∷ trail) o t real = real
+  pub real_from : (back : List ℕ) (noted missed trail : List (ℕ × ℕ)) (o t : ℕ) → IsReal trail (vals.Ref o) t → IsFrom table graph all back noted whole missed trail o t
+  real_from back noted missed [] o t real = real
+  real_from back noted missed (link ∷ trail) o t real = real
 
   module _ (p : ℕ) (trail : List (ℕ × ℕ)) where
     -- the places of a block's values from number k on

@@ -22,7 +22,7 @@ use Rattle.om_format.proofs.SpellValues.{IsToken-spelled, IsToken-all_spelled}
 use Rattle.om_pass_law.specs.Asked.{Need, of_type, hash_of, values_in}
 use Rattle.om_pass_law.proofs.BlockLemmas.{fields_many}
 use Rattle.om_misfit_law.specs.MissedFront.{IsPassingBut, IsStated, OneMissedFronts}
-use Rattle.om_misfit_law.specs.PassedBut.{Place, Made, Missed, places_of, unasked, made_in, IsLedBack, Takes, PassedBut, begin, fitting, missing, below, values_of, values_at}
+use Rattle.om_misfit_law.specs.PassedBut.{Place, Made, Missed, places_of, unasked, made_in, IsPlain, IsLedBack, Takes, PassedBut, begin, fitting, missing, below, values_of, values_at}
 use Rattle.om_misfit_law.proofs.LawLemmas.{only_missed}
 use Rattle.om_misfit_law.proofs.UnaskedLemmas.{nothing, unasked_are, made_long}
 
@@ -49,22 +49,22 @@ need_some (hash_of tags) = omega arith
 
 module _ (back : List ℕ) (table : Table) where
   -- the places that a token brings, and its own
-  taken_many : (made : List Made) (trail : List (ℕ × ℕ)) (need : Need) (token : Token) (next : List Place) → Takes back table made trail need token next → values_at next + 1 ≡ values_in (need ∷ []) + of_object fields (measure_of token)
-  taken_many made trail (of_type t) (integer z) next takes = let is = ap values_at takes.1 in omega (arith, is)
-  taken_many made trail (of_type t) (atom tag) next takes = let is = ap values_at takes.1 in omega (arith, is)
-  taken_many made trail (of_type t) (shared offset) next takes = let is = ap values_at takes.1 in omega (arith, is)
-  taken_many made trail (of_type t) (block tag size) next takes =
+  taken_many : (Second : ℕ → ℕ → Type 0) (made : List Made) (trail : List (ℕ × ℕ)) (need : Need) (token : Token) (next : List Place) → Takes back table Second made trail need token next → values_at next + 1 ≡ values_in (need ∷ []) + of_object fields (measure_of token)
+  taken_many Second made trail (of_type t) (integer z) next takes = let is = ap values_at takes.1 in omega (arith, is)
+  taken_many Second made trail (of_type t) (atom tag) next takes = let is = ap values_at takes.1 in omega (arith, is)
+  taken_many Second made trail (of_type t) (shared offset) next takes = let is = ap values_at takes.1 in omega (arith, is)
+  taken_many Second made trail (of_type t) (block tag size) next takes =
       let is = ap values_at takes.2 in
       let many = values_at-places (length made) trail 0 takes.0 in
       let size' = fields_many table t tag size takes.0 takes.1 in
       omega (arith, is, many, size')
-  taken_many made trail (of_type t) (leaf object) next takes =
+  taken_many Second made trail (of_type t) (leaf object) next takes =
       let is = ap values_at takes.1 in let none' = leaf_fields object in omega (arith, is, none')
-  taken_many made trail (hash_of tags) (integer z) next takes = let is = ap values_at takes.argument in omega (arith, is)
-  taken_many made trail (hash_of tags) (atom tag) next takes = absurd takes
-  taken_many made trail (hash_of tags) (shared offset) next takes = absurd takes
-  taken_many made trail (hash_of tags) (block tag size) next takes = absurd takes
-  taken_many made trail (hash_of tags) (leaf object) next takes = absurd takes
+  taken_many Second made trail (hash_of tags) (integer z) next takes = let is = ap values_at takes.argument in omega (arith, is)
+  taken_many Second made trail (hash_of tags) (atom tag) next takes = absurd takes
+  taken_many Second made trail (hash_of tags) (shared offset) next takes = absurd takes
+  taken_many Second made trail (hash_of tags) (block tag size) next takes = absurd takes
+  taken_many Second made trail (hash_of tags) (leaf object) next takes = absurd takes
 
   unasked_many : (token : Token) → values_at (unasked token) ≡ of_object fields (measure_of token)
   unasked_many token = ap values_at (unasked_are token) ∙ values_at-unasked (of_object fields (measure_of token))
@@ -84,7 +84,7 @@ module _ (back : List ℕ) (table : Table) where
   passed_many ts made places missed begin = refl
   passed_many ts made places missed (fitting tokens made' need trail places' next missed' token before takes) =
       let place : Place = record { asks = Some need; trail = trail } in
-      pushed tokens token place places' next (passed_many tokens made' (place ∷ places') missed before) (need_some need) (taken_many made' trail need token next takes)
+      pushed tokens token place places' next (passed_many tokens made' (place ∷ places') missed before) (need_some need) (taken_many (IsPlain table tokens) made' trail need token next takes)
   passed_many ts made places missed (missing tokens made' t trail places' missed' token before misses) =
       let place : Place = record { asks = Some (of_type t); trail = trail } in
       pushed tokens token place places' (unasked token) (passed_many tokens made' (place ∷ places') missed' before) (need_some (of_type t)) (one_more token)
@@ -213,36 +213,33 @@ but_further back more table limit bytes head first n tokens made places missed p
 -- ---- one more object is led back to
 
 module _ (table : Table) (back : List ℕ) (more : List ℕ) where
-  led_more : (made : List Made) (t offset : ℕ) → IsLedBack back table made t offset → IsLedBack (back ++ more) table made t offset
-  led_more made t offset led = record {
+  led_more : (Second : ℕ → ℕ → Type 0) (made : List Made) (t offset : ℕ) → IsLedBack back table Second made t offset → IsLedBack (back ++ more) table Second made t offset
+  led_more Second made t offset led = record {
     some = led.some;
     few = led.few;
-    type = led.type;
-    trail = led.trail;
-    at = led.at;
-    equal = led.equal;
+    typed = led.typed;
     noted = Contains-append_left back more (length made - offset) led.noted;
   }
 
-  takes_more : (made : List Made) (trail : List (ℕ × ℕ)) (need : Need) (token : Token) (next : List Place) → Takes back table made trail need token next → Takes (back ++ more) table made trail need token next
-  takes_more made trail (of_type t) (integer z) next takes = takes
-  takes_more made trail (of_type t) (atom tag) next takes = takes
-  takes_more made trail (of_type t) (shared offset) next takes =
-      (⊎_elim (λ hidden. inl hidden) (λ led. inr (led_more made t offset led)) takes.0, takes.1)
-  takes_more made trail (of_type t) (block tag size) next takes = takes
-  takes_more made trail (of_type t) (leaf object) next takes = takes
-  takes_more made trail (hash_of tags) (integer z) next takes = takes
-  takes_more made trail (hash_of tags) (atom tag) next takes = absurd takes
-  takes_more made trail (hash_of tags) (shared offset) next takes = absurd takes
-  takes_more made trail (hash_of tags) (block tag size) next takes = absurd takes
-  takes_more made trail (hash_of tags) (leaf object) next takes = absurd takes
+  takes_more : (Second : ℕ → ℕ → Type 0) (made : List Made) (trail : List (ℕ × ℕ)) (need : Need) (token : Token) (next : List Place) → Takes back table Second made trail need token next → Takes (back ++ more) table Second made trail need token next
+  takes_more Second made trail (of_type t) (integer z) next takes = takes
+  takes_more Second made trail (of_type t) (atom tag) next takes = takes
+  takes_more Second made trail (of_type t) (shared offset) next takes =
+      (⊎_elim (λ hidden. inl hidden) (λ led. inr (led_more Second made t offset led)) takes.0, takes.1)
+  takes_more Second made trail (of_type t) (block tag size) next takes = takes
+  takes_more Second made trail (of_type t) (leaf object) next takes = takes
+  takes_more Second made trail (hash_of tags) (integer z) next takes = takes
+  takes_more Second made trail (hash_of tags) (atom tag) next takes = absurd takes
+  takes_more Second made trail (hash_of tags) (shared offset) next takes = absurd takes
+  takes_more Second made trail (hash_of tags) (block tag size) next takes = absurd takes
+  takes_more Second made trail (hash_of tags) (leaf object) next takes = absurd takes
 
   pub back_more : (ts : List Token) (made : List Made) (places : List Place) (missed : List Missed) → PassedBut back table ts made places missed → PassedBut (back ++ more) table ts made places missed
   back_more ts made places missed begin = begin
   back_more ts made places missed (fitting tokens made' need trail places' next missed' token before takes) =
       fitting tokens made' need trail places' next missed token
       (back_more tokens made' (record { asks = Some need; trail = trail } ∷ places') missed before)
-      (takes_more made' trail need token next takes)
+      (takes_more (IsPlain table tokens) made' trail need token next takes)
   back_more ts made places missed (missing tokens made' t trail places' missed' token before misses) =
       missing tokens made' t trail places' missed' token
       (back_more tokens made' (record { asks = Some (of_type t); trail = trail } ∷ places') missed' before) misses

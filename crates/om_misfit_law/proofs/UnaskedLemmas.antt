@@ -52,9 +52,9 @@ module _ (type : Option ℕ) (trail : List (ℕ × ℕ)) (made : List Made) wher
   made_there (block tag size) is o from to = last_there o from to
   made_there (leaf object) is o from to = let one = leaf_made object is in last_there o from (omega (arith, to, one))
 
-module _ (back : List ℕ) (table : Table) (all : List Made) where
+module _ (back : List ℕ) (table : Table) (noted : List (ℕ × ℕ)) (all : List Made) where
   -- what was made is there in the end
-  pub front : (made : List Made) (places : List Place) (tokens : List Token) (missed : List Missed) → PassesBut back table all made places tokens missed → (later : List Made) × (made ++ later ≡ all)
+  pub front : (made : List Made) (places : List Place) (tokens : List Token) (missed : List Missed) → PassesBut back table noted all made places tokens missed → (later : List Made) × (made ++ later ≡ all)
   front made [] [] missed h = ([], append-nil made ∙ h.0)
   front made [] (token ∷ tokens) missed h = absurd h
   front made (place ∷ places) [] missed h = absurd h
@@ -71,7 +71,7 @@ module _ (back : List ℕ) (table : Table) (all : List Made) where
       let r = front (made ++ one) (unasked token ++ places) tokens missed h in
       (one ++ r.0, sym (append_assoc made one r.0) ∙ r.1)
 
-  pub kept_at : (made : List Made) (places : List Place) (tokens : List Token) (missed : List Missed) (k : ℕ) (object : Made) → PassesBut back table all made places tokens missed → slice_get made k ≡ Some object → slice_get all k ≡ Some object
+  pub kept_at : (made : List Made) (places : List Place) (tokens : List Token) (missed : List Missed) (k : ℕ) (object : Made) → PassesBut back table noted all made places tokens missed → slice_get made k ≡ Some object → slice_get all k ≡ Some object
   kept_at made places tokens missed k object h at_k =
       let r = front made places tokens missed h in
       subst (λ xs. slice_get xs k ≡ Some object) r.1 (slice_get-append_left made r.0 k object at_k)
@@ -81,13 +81,13 @@ module _ (back : List ℕ) (table : Table) (all : List Made) where
     pub after : List Made
     pub many : length after ≡ c + n
     pub untyped : (o : ℕ) → c ≤ o → o < c + n → (trail : List (ℕ × ℕ)) × (slice_get all o ≡ Some record { type = None; trail = trail })
-    pub passes : PassesBut back table all after places rest missed
+    pub passes : PassesBut back table noted all after places rest missed
 
   -- where nothing is asked of a token's fields they are passed over
-  fields_next : (token : Token) (f : Forest) (made : List Made) (places : List Place) (rest : List Token) (missed : List Missed) → PassesBut back table all made (unasked token ++ places) (forest_tokens f ++ rest) missed → PassesBut back table all made (replicate (of_object fields (measure_of token)) nothing ++ places) (forest_tokens f ++ rest) missed
-  fields_next token f made places rest missed h = subst (λ xs. PassesBut back table all made (xs ++ places) (forest_tokens f ++ rest) missed) (unasked_are token) h
+  fields_next : (token : Token) (f : Forest) (made : List Made) (places : List Place) (rest : List Token) (missed : List Missed) → PassesBut back table noted all made (unasked token ++ places) (forest_tokens f ++ rest) missed → PassesBut back table noted all made (replicate (of_object fields (measure_of token)) nothing ++ places) (forest_tokens f ++ rest) missed
+  fields_next token f made places rest missed h = subst (λ xs. PassesBut back table noted all made (xs ++ places) (forest_tokens f ++ rest) missed) (unasked_are token) h
 
-  with_fields : (token : Token) (f : Forest) (trail : List (ℕ × ℕ)) (made : List Made) (places : List Place) (rest : List Token) (missed : List Missed) → IsToken token → PassesBut back table all (made ++ made_in None trail token) (unasked token ++ places) (forest_tokens f ++ rest) missed → IsPassedOver (length (made ++ made_in None trail token)) (all_made f) places rest missed → IsPassedOver (length made) (made_by token + all_made f) places rest missed
+  with_fields : (token : Token) (f : Forest) (trail : List (ℕ × ℕ)) (made : List Made) (places : List Place) (rest : List Token) (missed : List Missed) → IsToken token → PassesBut back table noted all (made ++ made_in None trail token) (unasked token ++ places) (forest_tokens f ++ rest) missed → IsPassedOver (length (made ++ made_in None trail token)) (all_made f) places rest missed → IsPassedOver (length made) (made_by token + all_made f) places rest missed
   with_fields token f trail made places rest missed is h r =
       let made' = made ++ made_in None trail token in
       let long = made_long None trail made token is in
@@ -102,7 +102,7 @@ module _ (back : List ℕ) (table : Table) (all : List Made) where
       }
 
   mutual
-    pub tree_over : (tree : Tree) (trail : List (ℕ × ℕ)) (made : List Made) (places : List Place) (rest : List Token) (missed : List Missed) → IsTree tree → PassesBut back table all made (record { asks = None; trail = trail } ∷ places) (tokens tree ++ rest) missed → IsPassedOver (length made) (made_of_tree tree) places rest missed
+    pub tree_over : (tree : Tree) (trail : List (ℕ × ℕ)) (made : List Made) (places : List Place) (rest : List Token) (missed : List Missed) → IsTree tree → PassesBut back table noted all made (record { asks = None; trail = trail } ∷ places) (tokens tree ++ rest) missed → IsPassedOver (length made) (made_of_tree tree) places rest missed
     tree_over (node token f) trail made places rest missed is (inl fits) = absurd (none-some fits.0 fits.1)
     tree_over (node token f) trail made places rest missed is (inr (inl missing)) = absurd (none-some (of_type missing.0) missing.1)
     tree_over (node token f) trail made places rest missed is (inr (inr (asks, h))) =
@@ -110,7 +110,7 @@ module _ (back : List ℕ) (table : Table) (all : List Made) where
         with_fields token f [] made places rest missed is.0 h
         (forest_over f (of_object fields (measure_of token)) made' places rest missed is.2 is.1 (fields_next token f made' places rest missed h))
 
-    pub forest_over : (f : Forest) (n : ℕ) (made : List Made) (places : List Place) (rest : List Token) (missed : List Missed) → AreTrees f → trees_in f ≡ n → PassesBut back table all made (replicate n nothing ++ places) (forest_tokens f ++ rest) missed → IsPassedOver (length made) (all_made f) places rest missed
+    pub forest_over : (f : Forest) (n : ℕ) (made : List Made) (places : List Place) (rest : List Token) (missed : List Missed) → AreTrees f → trees_in f ≡ n → PassesBut back table noted all made (replicate n nothing ++ places) (forest_tokens f ++ rest) missed → IsPassedOver (length made) (all_made f) places rest missed
     forest_over none zero made places rest missed are many h = record {
       after = made;
       many = omega arith;
@@ -120,7 +120,7 @@ module _ (back : List ℕ) (table : Table) (all : List Made) where
     forest_over none (suc n) made places rest missed are many h = absurd (omega (arith, many))
     forest_over (more tree f) zero made places rest missed are many h = absurd (omega (arith, many))
     forest_over (more tree f) (suc n) made places rest missed are many h =
-        let h' = subst (λ ts. PassesBut back table all made (nothing ∷ (replicate n nothing ++ places)) ts missed) (append_assoc (tokens tree) (forest_tokens f) rest) h in
+        let h' = subst (λ ts. PassesBut back table noted all made (nothing ∷ (replicate n nothing ++ places)) ts missed) (append_assoc (tokens tree) (forest_tokens f) rest) h in
         let first = tree_over tree [] made (replicate n nothing ++ places) (forest_tokens f ++ rest) missed are.0 h' in
         let later = forest_over f n first.after places rest missed are.1 (omega (arith, many)) first.passes in
         let place = first.many in
@@ -135,7 +135,7 @@ module _ (back : List ℕ) (table : Table) (all : List Made) where
         }
 
   -- after a token at which nothing is asked, or which misses
-  pub after_token : (token : Token) (f : Forest) (trail : List (ℕ × ℕ)) (made : List Made) (places : List Place) (rest : List Token) (missed : List Missed) → IsTree (node token f) → PassesBut back table all (made ++ made_in None trail token) (unasked token ++ places) (forest_tokens f ++ rest) missed → IsPassedOver (length made) (made_by token + all_made f) places rest missed
+  pub after_token : (token : Token) (f : Forest) (trail : List (ℕ × ℕ)) (made : List Made) (places : List Place) (rest : List Token) (missed : List Missed) → IsTree (node token f) → PassesBut back table noted all (made ++ made_in None trail token) (unasked token ++ places) (forest_tokens f ++ rest) missed → IsPassedOver (length made) (made_by token + all_made f) places rest missed
   after_token token f trail made places rest missed is h =
       let made' = made ++ made_in None trail token in
       with_fields token f trail made places rest missed is.0 h

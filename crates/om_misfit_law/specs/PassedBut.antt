@@ -9,6 +9,7 @@ use Rattle.om_types.specs.Table.{Table, table_shapes}
 use Rattle.om_format.specs.Token.{Token, integer, atom, shared, block, leaf}
 use Rattle.om_pass_law.specs.Asked.{Need, of_type, hash_of, values_in, shape_at, IsHidden}
 use Rattle.om_pass_law.specs.Asked.{fields_ask}
+use Rattle.om_pass_law.specs.Noted.{IsFlatNoted}
 
 -- an open place: what it asks for, or None below a misfit; its trail begins with the object and the
 -- field that the place is, and that of the root is empty
@@ -70,17 +71,26 @@ abbrev pub type_of_need : Need → Option ℕ
 type_of_need (of_type t) = Some t
 type_of_need (hash_of tags) = None
 
--- a reference leads back to an object of an equal type, which is noted
+-- The block of the object is flat, and has what the type asks for, too. No object's type is known:
+-- its fields are integers, atoms and what is hidden.
+abbrev pub IsPlain : Table → List Token → ℕ → ℕ → Type 0
+IsPlain table tokens o t = IsFlatNoted table [] [] tokens o t
+
+-- the type that the object's place asked for is equal
+pub record HasFirst (table : Table) (made : List Made) (o t : ℕ) : Type 0 where
+  pub type : ℕ
+  pub trail : List (ℕ × ℕ)
+  pub at : slice_get made o ≡ Some record { type = Some type; trail = trail }
+  pub equal : (table_shapes table).equal type t
+
+-- a reference leads back to an object that has the type, at first or a second time, and that is
+-- noted
 pub record IsLedBack
-    (back : List ℕ) (table : Table) (made : List Made) (t offset : ℕ)
+    (back : List ℕ) (table : Table) (Second : ℕ → ℕ → Type 0) (made : List Made) (t offset : ℕ)
     : Type 0 where
   pub some : 1 ≤ offset
   pub few : offset ≤ length made
-  pub type : ℕ
-  pub trail : List (ℕ × ℕ)
-  pub at :
-      slice_get made (length made - offset) ≡ Some record { type = Some type; trail = trail }
-  pub equal : (table_shapes table).equal type t
+  pub typed : HasFirst table made (length made - offset) t ⊎ Second (length made - offset) t
   pub noted : Contains back (length made - offset)
 
 -- a tag with this hash has an argument, whose place is the next
@@ -92,25 +102,27 @@ pub record IsTaggedBut (tags : List (PolyTag ℕ)) (z : ℤ) (trail : List (ℕ 
   pub has_argument : tag.arg ≡ Some type
   pub argument : next ≡ record { asks = Some (of_type type); trail = field_after trail } ∷ []
 
--- the token has what its place asks for, and these places come with it
+-- the token has what its place asks for, where objects have second types, and these places come
+-- with it
 abbrev pub Takes :
-    List ℕ → Table → List Made → List (ℕ × ℕ) → Need → Token → List Place → Type 0
-Takes back table made trail (of_type t) (integer z) next =
+    List ℕ → Table → (ℕ → ℕ → Type 0) → List Made → List (ℕ × ℕ) → Need → Token → List Place
+    → Type 0
+Takes back table Second made trail (of_type t) (integer z) next =
     IsTrue (fits_int (shape_at table t) z) × (next ≡ [])
-Takes back table made trail (of_type t) (atom tag) next =
+Takes back table Second made trail (of_type t) (atom tag) next =
     IsTrue (fits_atom (shape_at table t) tag) × (next ≡ [])
-Takes back table made trail (of_type t) (shared offset) next =
-    (IsHidden table t ⊎ IsLedBack back table made t offset) × (next ≡ [])
-Takes back table made trail (of_type t) (block tag size) next =
+Takes back table Second made trail (of_type t) (shared offset) next =
+    (IsHidden table t ⊎ IsLedBack back table Second made t offset) × (next ≡ [])
+Takes back table Second made trail (of_type t) (block tag size) next =
     (needs : List Need) × (fields_ask table t tag size ≡ Some needs)
     × (next ≡ places_of (length made) trail 0 needs)
-Takes back table made trail (of_type t) (leaf object) next =
+Takes back table Second made trail (of_type t) (leaf object) next =
     IsSome (object_fields (shape_at table t) object) × (next ≡ [])
-Takes back table made trail (hash_of tags) (integer z) next = IsTaggedBut tags z trail next
-Takes back table made trail (hash_of tags) (atom tag) next = ⊥
-Takes back table made trail (hash_of tags) (shared offset) next = ⊥
-Takes back table made trail (hash_of tags) (block tag size) next = ⊥
-Takes back table made trail (hash_of tags) (leaf object) next = ⊥
+Takes back table Second made trail (hash_of tags) (integer z) next = IsTaggedBut tags z trail next
+Takes back table Second made trail (hash_of tags) (atom tag) next = ⊥
+Takes back table Second made trail (hash_of tags) (shared offset) next = ⊥
+Takes back table Second made trail (hash_of tags) (block tag size) next = ⊥
+Takes back table Second made trail (hash_of tags) (leaf object) next = ⊥
 
 -- the token certainly does not fit a place of the type; of a reference this is never known
 abbrev pub Misses : Table → ℕ → Token → Type 0
@@ -132,7 +144,7 @@ pub data PassedBut
       (places next : List Place) (missed : List Missed) (token : Token)
       → PassedBut back table tokens made (record { asks = Some need; trail = trail } ∷ places)
       missed
-      → Takes back table made trail need token next
+      → Takes back table (IsPlain table tokens) made trail need token next
       → PassedBut back table (tokens ++ token ∷ [])
       (made ++ made_in (type_of_need need) trail token) (next ++ places) missed
   missing :

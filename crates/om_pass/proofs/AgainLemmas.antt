@@ -1,11 +1,10 @@
 -- Tokens that were passed, read again from a place among them.
-use Rattle.std.proofs.Common.{ℕ, suc, ◌+◌, ◌*◌, ◌/◌, ◌<◌, ◌≤◌, ◌≡◌, ◌∙◌, refl, inl, inr, ⊎_elim, List, [], ◌∷◌, ◌++◌, length, map, take, drop, get_or, Some, Ok, sym, ap, subst, arith, take_at}
+use Rattle.std.proofs.Common.{ℕ, suc, ◌+◌, ◌*◌, ◌/◌, ◌<◌, ◌≤◌, ◌≡◌, ◌∙◌, refl, inl, ⊎_elim, List, [], ◌∷◌, ◌++◌, length, map, take, drop, get_or, Some, Ok, sym, ap, subst, arith, take_at}
 use Rattle.std.specs.Prelude.{slice_get, IsTrue, IfSome, Option, None, ◌-◌}
 use Rattle.std.proofs.lemmas.List.{append_assoc, append-nil, length-append, length-drop, length-map, drop-append-le, drop-drop, drop_at, drop_all, take_rest}
 use Rattle.std.proofs.Math.Seq.{drop-cons}
 use Rattle.std.proofs.lemmas.Option.{none-some}
 use Rattle.om_canonical.proofs.ListLemmas.{slice_get_push_cases}
-use Rattle.om_model.specs.declared.value.Obj.{Obj}
 use Rattle.om_model.specs.declared.value.Obj.TheVariants as objs
 use Rattle.om_model.specs.declared.code.CodeKind.{CodeKind}
 use Rattle.om_types.specs.Table.{Table}
@@ -13,7 +12,7 @@ use Rattle.om_types.specs.Fitting.{is_mutable}
 use Rattle.om_format.specs.Words.{objects}
 use Rattle.om_format.specs.Code.{kind_of}
 use Rattle.om_format.specs.Raw.{fixed_bytes, variable_bytes, raw_length}
-use Rattle.om_format.specs.Token.{Token, block, leaf, IsToken, Spells, SpellsAfter, SpellsFrom, SpellsCustom, measure_of}
+use Rattle.om_format.specs.Token.{Token, block, IsToken, Spells, SpellsAfter, SpellsFrom, measure_of}
 use Rattle.om_format.specs.Tree.{made_by, value_of}
 use Rattle.om_format.proofs.RawLemmas.{raw_length-append, raw_length-ok}
 use Rattle.om_format.proofs.SpellLemmas.{IsRaw-spelled}
@@ -66,12 +65,6 @@ pub no_marks : (front : List ℕ) (tokens : List Token) → AreMarks front [] to
 no_marks front tokens k p is = absurd (none-some p is)
 
 -- ---- what a look says
-
-leaf_custom : (piece : List ℕ) (t : Token) → SpellsCustom piece t → (o : Obj) × (t ≡ leaf o)
-leaf_custom piece t (inl s) = (_, s.3)
-leaf_custom piece t (inr (inl s)) = (_, s.3)
-leaf_custom piece t (inr (inr (inl s))) = (_, s.3)
-leaf_custom piece t (inr (inr (inr s))) = (_, s.3)
 
 -- a token of the kind begins the bytes, and its length is known
 pub looked :

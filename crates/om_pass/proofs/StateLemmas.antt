@@ -3,9 +3,9 @@ use Rattle.std.proofs.Common.{ℕ, ℤ, ◌≡◌, ◌∙◌, ◌+◌, ◌++◌,
 use Rattle.std.specs.Prelude.{IsTrue}
 use Rattle.std.proofs.lemmas.List.{append-nil}
 use Rattle.om_types.specs.declared.shape.PolyTag.{PolyTag}
-use Rattle.om_types.specs.Fitting.{fits_int, fits_atom, tag_with}
+use Rattle.om_types.specs.Fitting.{fits_int, tag_with}
 use Rattle.om_types.specs.Table.{Table}
-use Rattle.om_format.specs.Token.{integer, atom, shared, block}
+use Rattle.om_format.specs.Token.{integer, shared, block}
 use Rattle.om_pass_law.specs.Asked.{Need, of_type, hash_of, shape_at, fields_ask, IsBackAt}
 use Rattle.om_pass.specs.declared.state.State.{State}
 use Rattle.om_pass.specs.State.{types_in, needs_in, Took}
@@ -14,16 +14,6 @@ use Rattle.om_pass.specs.declared.words.Words.{Words}
 module _ (table : Table) (state : State) where
   pub took_integer : (t : ℕ) (z : ℤ) → IsTrue (fits_int (shape_at table t) z) → Took table state state (of_type t) (integer z)
   took_integer t z fits = record {
-    next = [];
-    asks = (fits, refl);
-    types = sym (append-nil (types_in state));
-    needs = refl;
-    w32 = omega arith;
-    w64 = omega arith;
-  }
-
-  pub took_atom : (t tag : ℕ) → IsTrue (fits_atom (shape_at table t) tag) → Took table state state (of_type t) (atom tag)
-  took_atom t tag fits = record {
     next = [];
     asks = (fits, refl);
     types = sym (append-nil (types_in state));

@@ -1,13 +1,17 @@
-//! An object that is met at a second type: it is known there where its block is flat, that is, where
-//! its fields are integers, atoms and references back.
+//! An object that is met at a second type: it is known there where its block is flat, that is,
+//! where its fields are integers, atoms and references back.
 
-ghost use Rattle.std.specs.Prelude.{◌≤◌, ◌<◌, ◌+◌, ◌-◌, List, [], length, drop, IfOk, OnOk};
-ghost use Rattle.std.specs.Prelude.{Contains};
+ghost use Rattle.std.specs.Prelude.{◌≡◌, ◌≤◌, ◌+◌, ◌-◌, ℕ, List, [], length, drop, IfOk, OnOk};
+ghost use Rattle.std.specs.Prelude.{slice_get, Some, Contains, false};
 ghost use Rattle.std.specs.Bool.{OnTrue};
+ghost use Rattle.om_model.specs.declared.value.Val.{Val};
 ghost use Rattle.om_model.specs.declared.value.Val.TheVariants as vals;
+ghost use Rattle.om_model.specs.declared.value.Obj.TheVariants as objects;
+ghost use Rattle.om_types.specs.Fitting as fitting;
 ghost use Rattle.om_format.specs.Token.{Token};
 ghost use Rattle.om_format.specs.Tree.{value_of};
 ghost use Rattle.om_type_table.specs.Made.{table_of};
+ghost use Rattle.om_pass_law.specs.Asked.{shape_at};
 ghost use Rattle.om_pass_law.specs.Noted.{IsAt, IsFlat, IsFlatNoted};
 ghost use Rattle.om_pass.specs.Again.{IsSeen, SpellAll, AreMarks, AreFields, IsKnown, AreNotes};
 
@@ -22,24 +26,27 @@ use om_type_table::TypeTable;
 /// So many notes are kept.
 const MOST_NOTES: usize = 16;
 
-/// Whether a reference in an object, back by so many, leads to an object of an equal type, or is
-/// hidden.
+/// Whether a reference in an object, back by so many, is hidden, or leads to an object of an equal
+/// type, where that is known.
 fn fits_back(table: &TypeTable, types: &[u16], object: usize, ty: usize, offset: u64) -> bool
-    requires { object < length types.now }
     ensures { OnTrue result
         (IsAt (table_of table.now) types.now [] (vals.Ref (object + 1 - offset)) ty) }
 {
-    let next = object as u64 + 1;
+    if is_hidden(table, ty) {
+        return true;
+    }
+    let Some(next) = (object as u64).checked_add(1) else {
+        return false;
+    };
     if offset == 0 || next < offset {
         return false;
     }
-    let target = type_at(types, (next - offset) as usize);
-    is_equal(table, target, ty) || is_hidden(table, ty)
+    let target = (next - offset) as usize;
+    target < types.len() && is_equal(table, type_at(types, target), ty)
 }
 
 /// Whether a field of an object is flat and has the type.
 fn is_flat_field(table: &TypeTable, types: &[u16], object: usize, ty: usize, seen: Seen) -> bool
-    requires { object < length types.now }
     ensures { OnTrue result ((token : Token) → IsSeen seen token
         → IsFlat token
         × IsAt (table_of table.now) types.now [] (value_of token (object + 1)) ty) }
@@ -65,8 +72,7 @@ fn are_fields(
     object: usize,
     fields: &[usize],
 ) -> bool
-    requires object { object < length types.now }
-    requires start { start ≤ length front.now }
+    requires { start ≤ length front.now }
     ensures { OnTrue result ((tokens : List Token) → SpellAll tokens (drop start front.now)
         → AreFields (table_of table.now) types.now object fields.now tokens) }
 {
@@ -84,9 +90,26 @@ fn are_fields(
     true
 }
 
-/// Whether an object is a flat block that has the type, too, and may not be changed.
+/// Whether a block of the tag may not be changed at the type of the object, where that is known.
+fn is_fixed_at_first(table: &TypeTable, types: &[u16], object: usize, tag: u8) -> bool
+    ensures { OnTrue result
+        ((u : ℕ) → slice_get types.now object ≡ Some u → (values : List Val)
+        → fitting.is_mutable (shape_at (table_of table.now) u) (Some (objects.Block tag values))
+        ≡ false) }
+{
+    if object >= types.len() {
+        return true;
+    }
+    let Some(first) = shape_of(table, type_at(types, object)) else {
+        return false;
+    };
+    !may_change(first, tag)
+}
+
+/// Whether an object is a flat block that has the type, too, and may not be changed. The types of
+/// the first objects are known.
 #[inline(never)]
-fn is_flat(
+pub fn is_flat(
     table: &TypeTable,
     types: &[u16],
     front: &[u8],
@@ -95,7 +118,6 @@ fn is_flat(
     object: usize,
     ty: usize,
 ) -> bool
-    requires { object < length types.now }
     ensures { OnTrue result ((tokens : List Token) → AreMarks front.now marks.now tokens
         → IsFlatNoted (table_of table.now) types.now [] tokens object ty) }
 {
@@ -106,13 +128,13 @@ fn is_flat(
         return false;
     }
     *left -= size;
-    let Some(first) = shape_of(table, type_at(types, object)) else {
+    if !is_fixed_at_first(table, types, object, tag) {
         return false;
-    };
+    }
     let Some(shape) = shape_of(table, ty) else {
         return false;
     };
-    if may_change(first, tag) || may_change(shape, tag) {
+    if may_change(shape, tag) {
         return false;
     }
     match block_places(shape, tag, size) {
@@ -124,14 +146,14 @@ fn is_flat(
 }
 
 /// Whether an object is noted at a type.
-fn is_noted(notes: &[(usize, usize)], object: usize, ty: usize) -> bool
+pub fn is_noted(notes: &[(usize, usize)], object: usize, ty: usize) -> bool
     ensures { OnTrue result (Contains notes.now (object, ty)) }
 {
     notes.iter().any(|note| note.0 == object && note.1 == ty)
 }
 
 /// Notes an object at a type, beside a few of those that were noted last.
-fn note(notes: &mut Vec<(usize, usize)>, object: usize, ty: usize) -> Result<(), Memory>
+pub fn note(notes: &mut Vec<(usize, usize)>, object: usize, ty: usize) -> Result<(), Memory>
     ensures { OnOk result (AreNotes notes.old.items object ty notes.new.items) }
 {
     if notes.len() >= MOST_NOTES {

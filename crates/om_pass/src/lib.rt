@@ -5,7 +5,7 @@
 mod again;
 mod back;
 pub mod fits;
-mod flat;
+pub mod flat;
 mod hot;
 mod passing;
 pub mod piece;
@@ -15,6 +15,7 @@ mod step;
 pub mod whole;
 mod words;
 
+pub use back::mark;
 pub use passing::{Passing, pass};
 pub use places::{Open, Places};
 pub use state::State;

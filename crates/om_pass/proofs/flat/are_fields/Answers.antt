@@ -6,7 +6,7 @@ use Rattle.om_pass.proofs.AgainLemmas.{looks_from, no_fields, fields_more}
 use Rattle.om_pass.proofs.flat.are_fields.Goals as goal
 
 pub fields-init : goal.fields-init
-fields-init c = (c.requires.start, λ whole. whole)
+fields-init c = (c.requires, λ whole. whole)
 
 pub fields-preserved : goal.fields-preserved
 fields-preserved c =

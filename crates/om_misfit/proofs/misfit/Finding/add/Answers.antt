@@ -15,7 +15,7 @@ returns-then-values_left-eq0 c =
     let none : left_values c.args.left ≡ 0 = sym c.values_left.ensures ∙ c.if-values_left-eq0.true in
     adds_one old _ c.args.ty c.args.said c.args.left c.in-Some.measure (measured c.args.said _ c.in-Some.ensures.measured) c.requires.is_way
     (sym (ap (λ ps. ps ++ way_places old.way) (none_opened (length old.types.items) (trail_in old.way) c.args.left none)))
-    refl c.in_ok-push.ensures.items c.in_ok-make.ensures (if_true c.spend.result c.if-not-spend.false c.spend.ensures)
+    refl refl c.in_ok-push.ensures.items c.in_ok-make.ensures (if_true c.spend.result c.if-not-spend.false c.spend.ensures)
 
 pub returns : goal.returns
 returns c =
@@ -24,5 +24,5 @@ returns c =
     taken_weaker c.open.result
     (λ opened. adds_one old _ c.args.ty c.args.said c.args.left c.in-Some.measure (measured c.args.said _ c.in-Some.ensures.measured) opened.0
     (opened.1 ∙ ap (λ n. opened_places n (trail_in old.way) c.args.left ++ way_places old.way) many)
-    refl c.in_ok-push.ensures.items c.in_ok-make.ensures (if_true c.spend.result c.if-not-spend.false c.spend.ensures))
+    refl refl c.in_ok-push.ensures.items c.in_ok-make.ensures (if_true c.spend.result c.if-not-spend.false c.spend.ensures))
     c.open.ensures

@@ -11,17 +11,17 @@ hash-requires-clause-hash c = subst (λ asked. OnHash asked (IsAfterHash c.args.
 pub returns-in-Type : goal.returns-in-Type
 returns-in-Type c =
     taken_weaker c.typed.result
-    (λ comes. subst (λ asked. Comes (table_of c.args.table.now) c.args.stated c.args.self.now asked c.args.said c.typed.new.self) (sym c.in-Type.is) comes)
+    (λ comes. subst (λ asked. Comes (table_of c.args.table.now) c.args.stated c.args.front.now c.args.self.now asked c.args.said c.typed.new.self) (sym c.in-Type.is) comes)
     c.typed.ensures
 
 pub returns-in-Hash : goal.returns-in-Hash
 returns-in-Hash c =
     on_true_weaker c.hash.result
-    (λ comes. subst (λ asked. Comes (table_of c.args.table.now) c.args.stated c.args.self.now asked c.args.said c.hash.new.self) (sym c.in-Hash.is) (comes (table_of c.args.table.now) c.args.stated))
+    (λ comes. subst (λ asked. Comes (table_of c.args.table.now) c.args.stated c.args.front.now c.args.self.now asked c.args.said c.hash.new.self) (sym c.in-Hash.is) (comes (table_of c.args.table.now) c.args.stated c.args.front.now))
     c.hash.ensures
 
 pub returns-in-Nothing : goal.returns-in-Nothing
 returns-in-Nothing c =
     taken_weaker c.below.result
-    (λ comes. subst (λ asked. Comes (table_of c.args.table.now) c.args.stated c.args.self.now asked c.args.said c.below.new.self) (sym c.in-Nothing.is) (comes (table_of c.args.table.now)))
+    (λ comes. subst (λ asked. Comes (table_of c.args.table.now) c.args.stated c.args.front.now c.args.self.now asked c.args.said c.below.new.self) (sym c.in-Nothing.is) (comes (table_of c.args.table.now) c.args.front.now))
     c.below.ensures

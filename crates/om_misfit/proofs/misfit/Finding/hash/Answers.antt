@@ -6,7 +6,7 @@ use Rattle.om_misfit.proofs.ComesLemmas.{comes_hash}
 use Rattle.om_misfit.proofs.misfit.Finding.hash.Goals as goal
 
 pub returns : goal.returns
-returns c = λ table stated.
+returns c = λ table stated front.
     let same : to_z w64 (of_z w64 c.in-Integer.z) ≡ c.in-Integer.z = to_z-of_z w64 c.in-Integer.z (search rules) in
-    comes_hash table stated c.args.self.now _ c.args.tags c.args.said c.in-Integer.z c.in-Some.tag.now c.in-Some-arg.ty c.in-Integer.is
-    (ap (tag_with c.args.tags.now) (sym same) ∙ sym c.in-Some.ensures) c.in-Some-arg.is c.argument.ensures.is_way c.argument.ensures.argument refl refl refl refl
+    comes_hash table stated front c.args.self.now _ c.args.tags c.args.said c.in-Integer.z c.in-Some.tag.now c.in-Some-arg.ty c.in-Integer.is
+    (ap (tag_with c.args.tags.now) (sym same) ∙ sym c.in-Some.ensures) c.in-Some-arg.is c.argument.ensures.is_way c.argument.ensures.argument refl refl refl refl refl

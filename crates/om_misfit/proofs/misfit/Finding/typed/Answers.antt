@@ -1,6 +1,6 @@
 use Rattle.std.proofs.Common.{rules, ◌<◌, refl, sym, subst}
 use Rattle.om_type_table.specs.Made.{table_of}
-use Rattle.om_pass.proofs.Weaker.{taken_weaker, on_true_weaker}
+use Rattle.om_pass.proofs.Weaker.{taken_weaker}
 use Rattle.om_misfit.specs.declared.way.Asked.TheVariants as asks
 use Rattle.om_misfit.specs.declared.way.Left.TheVariants as lefts
 use Rattle.om_misfit.specs.Find.{no_type, Comes}
@@ -20,7 +20,7 @@ pub returns-in-Fits : goal.returns-in-Fits
 returns-in-Fits c =
     let some : c.args.ty < no_type = search rules in
     taken_weaker c.add.result
-    (λ adds. comes_fits (table_of c.args.table.now) c.args.stated c.args.self.now c.add.new.self c.args.ty c.args.said (lefts.Unasked 0) some c.in-Fits.ensures.apt c.in-Fits.ensures.judged adds)
+    (λ adds. comes_fits (table_of c.args.table.now) c.args.stated c.args.front.now c.args.self.now c.add.new.self c.args.ty c.args.said (lefts.Unasked 0) some c.in-Fits.ensures.apt c.in-Fits.ensures.judged adds)
     c.add.ensures
 
 pub returns-in-Opens : goal.returns-in-Opens
@@ -28,17 +28,17 @@ returns-in-Opens c =
     let some : c.args.ty < no_type = search rules in
     let block = c.in-Opens.ensures.apt in
     taken_weaker c.add-in-Opens.result
-    (λ adds. comes_fits (table_of c.args.table.now) c.args.stated c.args.self.now c.add-in-Opens.new.self c.args.ty c.args.said (lefts.Asked c.in-Opens.places) some (no_back_block c.args.said block.0 block.1 block.2) c.in-Opens.ensures.judged adds)
+    (λ adds. comes_fits (table_of c.args.table.now) c.args.stated c.args.front.now c.args.self.now c.add-in-Opens.new.self c.args.ty c.args.said (lefts.Asked c.in-Opens.places) some (no_back_block c.args.said block.0 block.1 block.2) c.in-Opens.ensures.judged adds)
     c.add-in-Opens.ensures
 
 pub returns-in-Back : goal.returns-in-Back
 returns-in-Back c =
-    on_true_weaker c.back.result
-    (λ comes. subst (λ said. Comes (table_of c.args.table.now) c.args.stated c.args.self.now (asks.Type c.args.ty) said c.back.new.self) (sym c.in-Back.ensures.apt) comes)
+    taken_weaker c.back.result
+    (λ comes. subst (λ said. Comes (table_of c.args.table.now) c.args.stated c.args.front.now c.args.self.now (asks.Type c.args.ty) said c.back.new.self) (sym c.in-Back.ensures.apt) comes)
     c.back.ensures
 
 pub returns-in-Misses : goal.returns-in-Misses
 returns-in-Misses c =
     taken_weaker c.miss.result
-    (λ comes. comes (table_of c.args.table.now) c.args.stated c.in-Misses.ensures.judged)
+    (λ comes. comes (table_of c.args.table.now) c.args.stated c.args.front.now c.in-Misses.ensures.judged)
     c.miss.ensures
