@@ -29,8 +29,8 @@ pub record IsTypedNext
   pub none : new.kept.items ≡ []
   pub glance : (other : Table) (limit' : ℕ) → IsGlance other limit' new
 
--- they are a value whose least fault is one misfit, at one of the table's
--- types, and it is held; nothing is taken of the next one
+-- they are a value whose least fault is one misfit, at one of the table's types, and it is held;
+-- nothing is taken of the next one
 pub record IsMissedNext
     (table : Table) (limit : ℕ) (old : Glance) (piece : List ℕ) (new : Glance) (n : ℕ)
     : Type 0 where
@@ -51,3 +51,8 @@ Glances table limit old piece new answers.More =
     (new.kept.items ≡ old.kept.items ++ piece) × IsGlance table limit new
 Glances table limit old piece new answers.Untold =
     (new.kept.items ≡ old.kept.items) × IsGlance table limit new
+
+-- unless one is found, the misfit that was held still is, or none is, as before
+abbrev pub HoldsOn : Glance → Glance → Answer → Type 0
+HoldsOn old new (answers.Missed n) = Unit {0}
+HoldsOn old new answer = new.found ≡ old.found

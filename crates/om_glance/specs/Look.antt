@@ -7,8 +7,8 @@ use Rattle.om_pass_law.specs.OnePass.{IsTypedFront}
 use Rattle.om_pass.specs.State.{IsUnderway}
 use Rattle.om_misfit.specs.Find.{IsFound, IsSought}
 use Rattle.om_glance.specs.declared.look.Looking.{Looking}
-use Rattle.om_glance.specs.declared.look.Seen.{Seen}
-use Rattle.om_glance.specs.declared.look.Seen.TheVariants as seen
+use Rattle.om_glance.specs.declared.look.Shown.{Shown}
+use Rattle.om_glance.specs.declared.look.Shown.TheVariants as shown
 
 -- where tokens are begun the bytes lead to what is passed, and where a misfit is sought they lead
 -- to what is known of it
@@ -18,13 +18,13 @@ pub record IsLooking (table : Table) (limit : ℕ) (bytes : List ℕ) (looking :
   pub sought : looking.sought ≡ true → IsSought table limit bytes looking.seeking
 
 -- what a look at all bytes of the value so far shows, and what is then known of it
-abbrev pub IsSeen : Table → ℕ → List ℕ → Looking → Seen → Type 0
-IsSeen table limit bytes looking (seen.Typed n) = IsTypedFront table limit n bytes
-IsSeen table limit bytes looking (seen.Missed n found) =
+abbrev pub IsShown : Table → ℕ → List ℕ → Looking → Shown → Type 0
+IsShown table limit bytes looking (shown.Typed n) = IsTypedFront table limit n bytes
+IsShown table limit bytes looking (shown.Missed n found) =
     IsFound table limit n bytes found × (found.ty < length table.nodes)
-IsSeen table limit bytes looking seen.More =
+IsShown table limit bytes looking shown.More =
     IsFront limit bytes × IsLooking table limit bytes looking
-IsSeen table limit bytes looking seen.Untold = Unit {0}
+IsShown table limit bytes looking shown.Untold = Unit {0}
 
 -- after n bytes stands a part of a token, and a header that states so many bytes has room for it
 -- and for so many values more

@@ -1,6 +1,6 @@
 //! The value in hand, whose bytes come in pieces.
 
-use crate::look::{Looking, Seen};
+use crate::look::{Looking, Shown};
 use om_misfit::Found;
 use om_model::Memory;
 use om_type_table::TypeTable;
@@ -11,8 +11,8 @@ use std::alloc::Global;
 pub enum Answer {
     /// So many bytes of it complete a value that has the type.
     Typed(usize),
-    /// So many bytes of it complete a value with one misfit, which is held until it is taken, or the
-    /// next one is found.
+    /// So many bytes of it complete a value with one misfit, which is held until it is taken, or
+    /// the next one is found. No other answer changes what is held.
     Missed(usize),
     /// All of it was taken: more of the value has to come.
     More,
@@ -21,8 +21,8 @@ pub enum Answer {
     Untold,
 }
 
-/// The bytes taken so far of the value in hand, how far they were looked at, and the misfit of the
-/// value before.
+/// The bytes taken so far of the value in hand, how far they were looked at, and the misfit that
+/// was found last, until it is taken.
 #[derive(Drop)]
 pub struct Glance<'a> {
     kept: Vec<u8>,
@@ -31,14 +31,15 @@ pub struct Glance<'a> {
 }
 
 impl<'a> Glance<'a> {
-    ghost use Rattle.std.specs.Prelude.{ℕ, ◌≡◌, [], IfOk};
+    ghost use Rattle.std.specs.Prelude.{ℕ, ◌≡◌, [], None, IfOk};
     ghost use Rattle.om_types.specs.Table.{Table};
     ghost use Rattle.om_type_table.specs.Made.{table_of};
-    ghost use Rattle.om_glance.specs.Glance.{IsGlance, Glances};
+    ghost use Rattle.om_glance.specs.Glance.{IsGlance, Glances, HoldsOn};
 
-    /// No byte was taken. It takes no memory.
+    /// No byte was taken, and no misfit is held. It takes no memory.
     pub fn new(alloc: Global) -> Glance<'a>
         ensures none { result.kept.items ≡ [] }
+        ensures found { result.found ≡ None }
         ensures glance { (table : Table) (limit : ℕ) → IsGlance table limit result }
     {
         Glance {
@@ -48,16 +49,17 @@ impl<'a> Glance<'a> {
         }
     }
 
-    /// The bytes that were taken.
+    /// The bytes that were taken of the value in hand.
     pub fn kept(&self) -> &[u8]
         ensures { result.now ≡ self.now.kept.items }
     {
         self.kept.as_slice()
     }
 
-    /// Takes the misfit of the value that ended last.
+    /// Takes the misfit that was found last, if it was not taken before.
     pub fn missed(&mut self) -> Option<Found>
         ensures found { result ≡ self.old.found }
+        ensures taken { self.new.found ≡ None }
         ensures kept { self.new.kept.items ≡ self.old.kept.items }
         ensures glance { (table : Table) (limit : ℕ)
             → IsGlance table limit self.old → IsGlance table limit self.new }
@@ -68,13 +70,14 @@ impl<'a> Glance<'a> {
     /// A value ends: the next one begins, in the same memory.
     fn end(&mut self)
         ensures none { self.new.kept.items ≡ [] }
+        ensures found { self.new.found ≡ self.old.found }
         ensures glance { (table : Table) (limit : ℕ) → IsGlance table limit self.new }
     {
         self.kept.clear();
         self.looking.restart();
     }
 
-    /// Takes a piece that is no front of the value's.
+    /// Takes a piece where no byte of the value was taken before.
     fn first(
         &mut self,
         alloc: Global,
@@ -84,19 +87,21 @@ impl<'a> Glance<'a> {
     ) -> Result<Answer, Memory>
         requires glance { IsGlance (table_of table.now) limit self.old }
         requires none { self.old.kept.items ≡ [] }
-        ensures { IfOk result (Glances (table_of table.now) limit self.old piece.now self.new) }
+        ensures glances { IfOk result
+            (Glances (table_of table.now) limit self.old piece.now self.new) }
+        ensures holds { IfOk result (HoldsOn self.old self.new) }
     {
         match self.looking.look(alloc, table, limit, piece)? {
-            Seen::Typed(n) if n > 0 => {
+            Shown::Typed(n) if n > 0 => {
                 self.end();
                 Ok(Answer::Typed(n))
             }
-            Seen::Missed(n, found) if n > 0 => {
+            Shown::Missed(n, found) if n > 0 => {
                 self.end();
                 self.found = Some(found);
                 Ok(Answer::Missed(n))
             }
-            Seen::More => {
+            Shown::More => {
                 self.kept.extend_from_slice(piece)?;
                 Ok(Answer::More)
             }
@@ -107,7 +112,7 @@ impl<'a> Glance<'a> {
         }
     }
 
-    /// The same where bytes of the value were kept.
+    /// The same where bytes of the value were taken, and kept.
     fn next(
         &mut self,
         alloc: Global,
@@ -116,7 +121,9 @@ impl<'a> Glance<'a> {
         piece: &[u8],
     ) -> Result<Answer, Memory>
         requires glance { IsGlance (table_of table.now) limit self.old }
-        ensures { IfOk result (Glances (table_of table.now) limit self.old piece.now self.new) }
+        ensures glances { IfOk result
+            (Glances (table_of table.now) limit self.old piece.now self.new) }
+        ensures holds { IfOk result (HoldsOn self.old self.new) }
     {
         let before = self.kept.len();
         self.kept.extend_from_slice(piece)?;
@@ -124,16 +131,16 @@ impl<'a> Glance<'a> {
             .looking
             .look(alloc, table, limit, self.kept.as_slice())?
         {
-            Seen::Typed(n) if n > before => {
+            Shown::Typed(n) if n > before => {
                 self.end();
                 Ok(Answer::Typed(n - before))
             }
-            Seen::Missed(n, found) if n > before => {
+            Shown::Missed(n, found) if n > before => {
                 self.end();
                 self.found = Some(found);
                 Ok(Answer::Missed(n - before))
             }
-            Seen::More => Ok(Answer::More),
+            Shown::More => Ok(Answer::More),
             _ => {
                 self.kept.truncate(before);
                 self.looking.forget(alloc);
@@ -152,7 +159,9 @@ impl<'a> Glance<'a> {
         piece: &[u8],
     ) -> Result<Answer, Memory>
         requires glance { IsGlance (table_of table.now) limit self.old }
-        ensures { IfOk result (Glances (table_of table.now) limit self.old piece.now self.new) }
+        ensures glances { IfOk result
+            (Glances (table_of table.now) limit self.old piece.now self.new) }
+        ensures holds { IfOk result (HoldsOn self.old self.new) }
     {
         if self.kept.is_empty() {
             self.first(alloc, table, limit, piece)

@@ -21,7 +21,7 @@ use std::alloc::Global;
 
 /// What all bytes of the value so far show.
 #[derive(Drop)]
-pub enum Seen {
+pub enum Shown {
     /// So many of them are a value that has the type.
     Typed(usize),
     /// So many of them are a value whose least fault is this misfit.
@@ -99,7 +99,7 @@ impl<'a> Looking<'a> {
     ghost use Rattle.om_types.specs.Table.{Table};
     ghost use Rattle.om_type_table.specs.Made.{table_of};
     ghost use Rattle.om_misfit.specs.Find.{IsSought};
-    ghost use Rattle.om_glance.specs.Look.{IsLooking, IsSeen};
+    ghost use Rattle.om_glance.specs.Look.{IsLooking, IsShown};
 
     /// Nothing was looked at. It takes no memory.
     pub fn new(alloc: Global) -> Looking<'a>
@@ -140,9 +140,9 @@ impl<'a> Looking<'a> {
         table: &'a TypeTable,
         limit: u64,
         bytes: &[u8],
-    ) -> Result<Seen, Memory>
+    ) -> Result<Shown, Memory>
         requires looking { IsLooking (table_of table.now) limit bytes.now self.old }
-        ensures { IfOk result (IsSeen (table_of table.now) limit bytes.now self.new) }
+        ensures { IfOk result (IsShown (table_of table.now) limit bytes.now self.new) }
     {
         if self.sought {
             return self.seek(alloc, table, limit, bytes);
@@ -150,22 +150,22 @@ impl<'a> Looking<'a> {
         if !self.begun {
             if !self.passing.begin(bytes, limit)? {
                 if is_header_cut(bytes) {
-                    return Ok(Seen::More);
+                    return Ok(Shown::More);
                 }
-                return Ok(Seen::Untold);
+                return Ok(Shown::Untold);
             }
             self.begun = true;
         }
         match self.passing.go(table, limit, bytes)? {
-            Stop::Typed(n) => Ok(Seen::Typed(n)),
+            Stop::Typed(n) => Ok(Shown::Typed(n)),
             Stop::Cut(_) => {
                 let mut left = self.passing.left;
                 let is_front = is_front(&self.passing, &mut left, bytes);
                 self.passing.left = left;
                 if is_front {
-                    Ok(Seen::More)
+                    Ok(Shown::More)
                 } else {
-                    Ok(Seen::Untold)
+                    Ok(Shown::Untold)
                 }
             }
             Stop::Untold => self.search(alloc, table, limit, bytes),
@@ -179,11 +179,11 @@ impl<'a> Looking<'a> {
         table: &'a TypeTable,
         limit: u64,
         bytes: &[u8],
-    ) -> Result<Seen, Memory>
-        ensures { IfOk result (IsSeen (table_of table.now) limit bytes.now self.new) }
+    ) -> Result<Shown, Memory>
+        ensures { IfOk result (IsShown (table_of table.now) limit bytes.now self.new) }
     {
         if !self.seeking.begin(bytes, limit) {
-            return Ok(Seen::Untold);
+            return Ok(Shown::Untold);
         }
         self.seek(alloc, table, limit, bytes)
     }
@@ -196,33 +196,33 @@ impl<'a> Looking<'a> {
         table: &'a TypeTable,
         limit: u64,
         bytes: &[u8],
-    ) -> Result<Seen, Memory>
+    ) -> Result<Shown, Memory>
         requires sought { IsSought (table_of table.now) limit bytes.now self.old.seeking }
-        ensures { IfOk result (IsSeen (table_of table.now) limit bytes.now self.new) }
+        ensures { IfOk result (IsShown (table_of table.now) limit bytes.now self.new) }
     {
         self.begun = false;
         self.sought = true;
         match self.seeking.go(alloc, table, limit, bytes)? {
             End::Found(n) => {
                 let Some(found) = self.seeking.finding.found.take() else {
-                    return Ok(Seen::Untold);
+                    return Ok(Shown::Untold);
                 };
                 if found.ty >= table.count() {
-                    return Ok(Seen::Untold);
+                    return Ok(Shown::Untold);
                 }
-                Ok(Seen::Missed(n, found))
+                Ok(Shown::Missed(n, found))
             }
             End::Cut => {
                 let mut left = self.seeking.left;
                 let is_front = is_front_but(&self.seeking, &mut left, bytes);
                 self.seeking.left = left;
                 if !is_front {
-                    return Ok(Seen::Untold);
+                    return Ok(Shown::Untold);
                 }
                 self.passing = Passing::new(alloc);
-                Ok(Seen::More)
+                Ok(Shown::More)
             }
-            End::Untold => Ok(Seen::Untold),
+            End::Untold => Ok(Shown::Untold),
         }
     }
 }

@@ -45,11 +45,6 @@ use Rattle.om_declared.specs.Bytes.{PutsBytes}
 
 module _ (r : Prepared) (others : List Other) (k : ℕ) (line : ScriptLine) where
   -- a line of another value changes nothing
-  pub other_line : (value : Value) → IsValue (length value.heap) value.root → (line.value == k) ≡ false → EditsOn r others k line value value
-  other_line value valid other = record {
-    valid = valid;
-    goes_on = λ rest all edits. subst (λ b. Edit r others (if b then line ∷ lines_of_value k rest else lines_of_value k rest) value.heap value.root all) (sym other) edits;
-  }
 
   module _ (ready : IsReady r) (alike : TablesAnswerLinesAlike) (own : line.value ≡ k) (old : Value) where
     own_line : (rest : List ScriptLine) (all : Edited Ty) → Edit r others (line ∷ lines_of_value k rest) old.heap old.root all → Edit r others (lines_of_value k (line ∷ rest)) old.heap old.root all

@@ -110,7 +110,8 @@ IsUnchangedGlimpse r limit piece new unchanged.More =
 IsUnchangedGlimpse r limit piece new unchanged.Untold =
     (new.kept.items ≡ []) × IsGlance (table_of r.table) limit new
 
--- no line edits value k, none copies from it into a later one, and each reader may hold it
+-- no line edits value k, none copies from it into a later one, and it is put whatever readers can
+-- hold it
 pub record IsLeft (e : Edits) (k : ℕ) : Type 0 where
   pub compat : e.compat ≡ false
   pub lines : lines_of_value k e.script.now.lines ≡ []

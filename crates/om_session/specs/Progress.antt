@@ -1,4 +1,4 @@
--- What was taken of the input, where a pass looks at values before they are read.
+-- What was taken of the input, where looks are taken at values before they are read.
 use Rattle.std.specs.Prelude.{ℕ, ◌≡◌, ◌⊎◌, List, [], ◌++◌}
 use Rattle.om_type_table.specs.Made.{table_of}
 use Rattle.om_outcome.specs.Outcome.{Said}

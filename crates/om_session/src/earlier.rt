@@ -104,8 +104,8 @@ fn drop_used(kept: &mut [Earlier], script: &Script, number: u64)
 }
 
 /// Once the value of this number is edited: lets those go that no later line copies from, and keeps
-/// this one, if a part of it is copied into a later value, up to `last`. A reader waits for the next
-/// value, in the memory of this one unless that is kept.
+/// this one, if a part of it is copied into a later value, up to `last`. A reader waits for the
+/// next value, in the memory of this one unless that is kept.
 pub fn next_reader(
     alloc: Global,
     limit: u64,

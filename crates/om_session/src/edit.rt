@@ -38,8 +38,8 @@ impl Edits<'_> {
     ghost use Rattle.std.specs.Bool.{OnTrue};
     ghost use Rattle.om_session.specs.Glimpse.{IsLeft};
 
-    /// Whether no line edits the value of this number or copies from it into a later one, and each
-    /// reader may hold it: then its canonical bytes are put.
+    /// Whether no line edits the value of this number or copies from it into a later one, and it is
+    /// put whatever readers can hold it: then its canonical bytes are put.
     pub fn leave(self, number: u64) -> bool
         ensures { OnTrue result (IsLeft self.entry number) }
     {
@@ -57,8 +57,8 @@ impl Edits<'_> {
     }
 }
 
-/// Edits the value of this number by its lines, which may copy parts of earlier values that are
-/// kept, and puts its bytes.
+/// Checks the value of this number against the type, edits it by its lines, which may copy parts of
+/// earlier values that are kept, and puts its bytes.
 pub fn edit_value<K: Sink>(
     alloc: Global,
     value: &mut Value,
@@ -191,6 +191,7 @@ fn line_stop(
     Ok(Stop::Script(number, text))
 }
 
+/// Whether memory ran out.
 fn is_memory(refusal: &EditRefusal) -> bool
     ensures { result ≡ false → (reason : Reason ℕ) × (reason_of refusal.now ≡ Some reason) }
 {
@@ -203,6 +204,7 @@ fn is_memory(refusal: &EditRefusal) -> bool
     }
 }
 
+/// The same of a literal.
 fn is_memory_in(fault: LiteralFault) -> bool
     ensures { result ≡ false → (reason : Reason ℕ) × (literal_reason fault ≡ Some reason) }
 {

@@ -20,16 +20,16 @@ use om_table::tables_decide;
 use om_written::is_as_written;
 use std::alloc::Global;
 
-/// After so many looks in a row that showed nothing most values are not looked at.
-const MISSES: u8 = 8;
+/// After so many looks in a row that were of no use most values are not looked at.
+const USELESS: u8 = 8;
 
 /// So many are not before the next one is.
 const SKIPPED: u8 = 64;
 
-/// How many values in a row were of no use to look at, and how many are not looked at now.
+/// How many looks in a row were of no use, and how many values are not looked at now.
 #[derive(Clone, Copy)]
 pub struct Looks {
-    missed: u8,
+    useless: u8,
     skipped: u8,
 }
 
@@ -37,12 +37,12 @@ impl Looks {
     /// The first values are looked at.
     pub fn new() -> Looks {
         Looks {
-            missed: 0,
+            useless: 0,
             skipped: 0,
         }
     }
 
-    /// Whether the value that begins is looked at.
+    /// Whether the value that begins is looked at. One that is not is counted.
     pub fn is_due(&mut self) -> bool {
         if self.skipped == 0 {
             return true;
@@ -51,17 +51,17 @@ impl Looks {
         false
     }
 
-    /// A look showed the verdict on a value.
-    pub fn hit(&mut self) {
-        self.missed = 0;
+    /// A look was of use.
+    pub fn count_useful(&mut self) {
+        self.useless = 0;
     }
 
-    /// A look showed nothing.
-    pub fn miss(&mut self) {
-        if self.missed < MISSES {
-            self.missed += 1;
+    /// A look was of no use.
+    pub fn count_useless(&mut self) {
+        if self.useless < USELESS {
+            self.useless += 1;
         }
-        if self.missed == MISSES {
+        if self.useless == USELESS {
             self.skipped = SKIPPED;
         }
     }
@@ -134,7 +134,8 @@ fn is_front_as_written(bytes: &[u8], n: usize) -> bool
 /// What a look shows of a value that is to be put as it came.
 #[derive(Clone, Copy)]
 pub enum Unchanged {
-    /// So many bytes of the piece are a value that has the type, and what the runtime writes for it.
+    /// So many bytes of the piece are a value that has the type, and what the runtime writes for
+    /// it.
     Whole(usize),
     /// All of the piece was taken: more has to come.
     More,

@@ -1,5 +1,5 @@
-//! A job over the values of the input: where only the verdict is told of each, or they are edited, a
-//! pass looks at their bytes first.
+//! A job over the values of the input: where only the verdict is told of each, or they are edited,
+//! a look is taken at the bytes of most first.
 
 ghost use Rattle.std.specs.Prelude.{◌≡◌, ◌≢◌, ◌<◌, ◌+◌, ◌^◌, ℕ, List, [], length, OnOk, MatchBool};
 ghost use Rattle.std.specs.Bool.{OnTrue};
@@ -114,7 +114,7 @@ impl<'a> Progress<'a> {
         }
     }
 
-    /// Takes what was kept and bytes in hand without a look.
+    /// Takes bytes in hand without a look, after those that were kept.
     fn read_on<K: Sink>(
         &mut self,
         alloc: Global,
@@ -135,8 +135,8 @@ impl<'a> Progress<'a> {
         self.values.read_some(alloc, self.job, in_hand, out)
     }
 
-    /// The same where values are edited: one that is left as it is, whole in hand, is put without
-    /// being read, where a look shows what is to be known of it.
+    /// Takes bytes in hand where values are edited: one that is left as it is, whole in hand, is
+    /// put without being read, where a look shows what is to be known of it.
     fn feed_edited<K: Sink>(
         &mut self,
         alloc: Global,
@@ -162,15 +162,15 @@ impl<'a> Progress<'a> {
         let answer = glimpse_unchanged(alloc, edits.requested, limit, &mut self.glance, in_hand)?;
         match answer {
             Unchanged::Whole(n) => {
-                self.looks.hit();
+                self.looks.count_useful();
                 self.values.take_left(edits, limit, in_hand, n, out)
             }
             Unchanged::More => {
-                self.looks.miss();
+                self.looks.count_useless();
                 Ok(in_hand.len())
             }
             Unchanged::Untold => {
-                self.looks.miss();
+                self.looks.count_useless();
                 self.read_on(alloc, in_hand, out)
             }
         }
@@ -203,18 +203,18 @@ impl Work for Progress<'_> {
         let seen = glimpse(alloc, requested, limit, &mut self.glance, in_hand)?;
         match seen {
             Seen::Yes(n) => {
-                self.looks.hit();
+                self.looks.count_useful();
                 self.values
                     .take_told(requested, limit, in_hand, n, b"yes\n", true, out)
             }
             Seen::No(n, line) => {
-                self.looks.hit();
+                self.looks.count_useful();
                 self.values
                     .take_told(requested, limit, in_hand, n, line.as_slice(), false, out)
             }
             Seen::More => Ok(in_hand.len()),
             Seen::Untold => {
-                self.looks.miss();
+                self.looks.count_useless();
                 self.read_on(alloc, in_hand, out)
             }
         }

@@ -265,8 +265,8 @@ impl Values {
         }
     }
 
-    /// Takes a value, of which bytes were kept and the first n in hand are the others: looks at them
-    /// showed the verdict on it. Its line is put.
+    /// Takes a value, of which bytes were kept and the first n in hand are the others: looks at
+    /// them showed the verdict on it. Its line is put.
     pub fn take_told<K: Sink>(
         &mut self,
         requested: &Requested,
@@ -297,8 +297,8 @@ impl Values {
         Ok(n)
     }
 
-    /// Takes a value, the first n bytes in hand: no line needs it, and a look showed that it has the
-    /// type and that they are its canonical bytes. They are put.
+    /// Takes a value, the first n bytes in hand: no line needs it, and a look showed that it has
+    /// the type and that they are its canonical bytes. They are put.
     pub fn take_left<K: Sink>(
         &mut self,
         edits: Edits<'_>,
@@ -371,7 +371,7 @@ impl Values {
         }
     }
 
-    /// The input ends here with a value: a line that edits no value stops the run.
+    /// The input ends here, where values are edited: a line that edits none of them stops the run.
     fn finish_script(&self, alloc: Global, edits: Edits<'_>) -> Result<bool, Halt>
         ensures { (trees : List Tree) → self.now.count ≡ length trees
             → EndsScript edits.entry trees self.now.well result }

@@ -126,9 +126,9 @@ fn put_checked(
     put_line(text, alloc, value, requested, saying, &verdict)
 }
 
-/// Puts `no` and the fault at the end, where the verdict alone is told and the fault is near the
-/// root: a look at a value's bytes came before, and one that it did not show to have the type has
-/// most often a fault. The answer is whether it was put.
+/// Puts `no` and the fault at the end, where the verdict alone is told and the fault is found near
+/// the root: no look at the value's bytes told the verdict, and most such values have a fault. The
+/// answer is whether it was put.
 fn put_soon(
     text: &mut Vec<u8>,
     alloc: Global,

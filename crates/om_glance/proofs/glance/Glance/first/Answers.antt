@@ -15,8 +15,8 @@ look-requires c = record {
       subst (λ kept. IsLooking table c.args.limit (kept ++ piece) old.looking) c.requires.none (looking_longer table c.args.limit old.kept.items piece old.looking c.requires.glance.looking);
 }
 
-pub returns-in_ok-extend_from_slice-in-More : goal.returns-in_ok-extend_from_slice-in-More
-returns-in_ok-extend_from_slice-in-More c =
+pub returns-in_ok-extend_from_slice-in-More-clause-glances : goal.returns-in_ok-extend_from_slice-in-More-clause-glances
+returns-in_ok-extend_from_slice-in-More-clause-glances c =
     let here = rw c.in-More.is at c.in_ok-n.ensures in
     let old = c.args.self.now in
     let table = table_of c.args.table.now in
@@ -25,8 +25,8 @@ returns-in_ok-extend_from_slice-in-More c =
     (subst (λ kept. IsFront c.args.limit (kept ++ piece)) (sym c.requires.none) here.0)
     (subst (λ kept. IsLooking table c.args.limit (kept ++ piece) c.look.new.self) (sym c.requires.none) here.1)
 
-pub returns-in-Missed : goal.returns-in-Missed
-returns-in-Missed c =
+pub returns-in-Missed-clause-glances : goal.returns-in-Missed-clause-glances
+returns-in-Missed-clause-glances c =
     let here = rw c.in-Missed.is at c.in_ok-n.ensures in
     let none = ap length c.requires.none in
     let some : 0 < c.in-Missed.n = search rules in

@@ -1,4 +1,4 @@
-use Rattle.std.proofs.Common.{rules, ◌≡◌, ◌∙◌, ◌≤◌, ℕ, [], sym, subst, arith}
+use Rattle.std.proofs.Common.{rules, ◌∙◌, ◌≤◌, sym}
 use Rattle.std.specs.Prelude.{unwrap_or}
 use Rattle.om_session.proofs.EarlierLemmas.{used_up_to, used_within}
 use Rattle.om_session.proofs.edit.Edits.leave.Goals as goal
