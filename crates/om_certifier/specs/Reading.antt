@@ -1,20 +1,16 @@
 -- What has been read of the values, and said of them, as their bytes come.
-use Rattle.std.specs.Prelude.{ℕ, ◌<◌, ◌≡◌, Bool, false, List, [], ◌∷◌, ◌++◌, length, Result, Ok}
-use Rattle.std.specs.Prelude.{Err}
+use Rattle.std.specs.Prelude.{ℕ, ◌≡◌, Bool, false, List, [], Result, Ok, Err}
 use Rattle.om_model.specs.declared.value.Obj.{Obj}
 use Rattle.om_model.specs.declared.value.Val.{Val}
-use Rattle.om_format.specs.Front.{IsFront}
 use Rattle.om_read.specs.declared.reader.Reader.{Reader}
-use Rattle.om_read.specs.Reader.{Leads, IsDone}
 use Rattle.om_type_table.specs.Made.{table_of}
 use Rattle.om_certify.specs.Leasts.{AreLeasts}
 use Rattle.om_edge.specs.Sink.{Puts, PutsPart}
 use Rattle.om_edge.specs.State.{ByteState, Change}
-use Rattle.om_outcome.specs.Outcome.{Said, all_well}
+use Rattle.om_outcome.specs.Outcome.{Said}
 use Rattle.om_stops.specs.declared.stop.Halt.{Halt}
 use Rattle.om_stops.specs.declared.stop.Halt.TheVariants as halts
-use Rattle.om_promises.specs.Commands.{Item, SaysFirst}
-use Rattle.om_work.specs.Works.{AreSaid}
+use Rattle.om_value_work.specs.Reading as work
 use Rattle.om_declared.specs.declared.requested.Prepared.{Prepared}
 use Rattle.om_declared.specs.Language.{TypeOver}
 use Rattle.om_declared.specs.Types.{type_over, IsReady}
@@ -45,43 +41,23 @@ PutsSection t number graph v out (Err halts.WriteFault) =
     (text : List ℕ) × (well : Bool)
     × SaysSection t number graph v (record { text = text; well = well }) × PutsPart out text
 
-module _ (r : Prepared) (leasts : List ℕ) (limit : ℕ) (reader : Reader) (count : ℕ) (well : Bool)
-    (taken : List ℕ) (said : List Said) where
-  -- Of these bytes the reader has taken what comes after the values, a front of the next one; this
-  -- is said of the values.
-  pub record HasRead : Type 0 where
-    pub ready : IsReady r
-    pub least : AreLeasts (table_of r.table) leasts
-    pub items : List Item
-    pub front : List ℕ
-    pub first : SaysFirst on_certified (certified r limit) taken items said front
-    pub is_front : IsFront limit front
-    pub leads : Leads limit front reader
-    pub counted : count ≡ length items
-    pub is_well : well ≡ all_well said
+-- what is ready for the values
+abbrev pub Ready : Prepared → List ℕ → Type 0
+Ready r leasts = IsReady r × AreLeasts (table_of r.table) leasts
 
-  -- the same where the reader has taken all of the next one
-  pub record IsValueRead : Type 0 where
-    pub ready : IsReady r
-    pub least : AreLeasts (table_of r.table) leasts
-    pub items : List Item
-    pub whole : List ℕ
-    pub first : SaysFirst on_certified (certified r limit) taken items said whole
-    pub some : 0 < length whole
-    pub leads : Leads limit whole reader
-    pub done : IsDone reader
-    pub counted : count ≡ length items
-    pub is_well : well ≡ all_well said
+module _ (r : Prepared) (leasts : List ℕ) (limit : ℕ) where
+  -- what has been read of the values and said of them, with a front of the next one
+  abbrev pub HasRead : Reader → ℕ → Bool → List ℕ → List Said → Type 0
+  HasRead = work.HasRead on_certified (certified r limit) limit (Ready r leasts)
 
--- What is said of the value that is there, after these, is put, and the reader waits for the next
--- one; or memory ran out, and nothing is put; or out failed.
-abbrev pub PutsNext : {U : Type 0} → Prepared → List ℕ → ℕ → Reader → ℕ → Bool → List ℕ
-    → List Said → Change ByteState → Result U Halt → Type 0
-PutsNext r leasts limit reader count well taken said out (Ok unit) =
-    (next : Said) × HasRead r leasts limit reader count well taken (said ++ next ∷ [])
-    × Puts out next.text
-PutsNext r leasts limit reader count well taken said out (Err (halts.Stop stop)) =
-    (stop ≡ out_of_memory) × Puts out []
-PutsNext r leasts limit reader count well taken said out (Err halts.WriteFault) =
-    (next : Said) × AreSaid on_certified (certified r limit) taken (said ++ next ∷ [])
-    × PutsPart out next.text
+  -- the same with all of the next one
+  abbrev pub IsValueRead : Reader → ℕ → Bool → List ℕ → List Said → Type 0
+  IsValueRead = work.IsValueRead on_certified (certified r limit) limit (Ready r leasts)
+
+  -- What is said of the value that is there is put; or memory ran out, and nothing is put; or out
+  -- failed.
+  abbrev pub PutsNext : {U : Type 0} → Reader → ℕ → Bool → List ℕ → List Said
+      → Change ByteState → Result U Halt → Type 0
+  PutsNext reader count well taken said =
+      work.PutsNext on_certified (certified r limit) limit (Ready r leasts) reader count well taken
+      said (λ stop. stop ≡ out_of_memory)

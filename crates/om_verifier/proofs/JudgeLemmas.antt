@@ -1,7 +1,6 @@
 -- What comes of a section by the requested table is shown at the type.
-use Rattle.std.proofs.Common.{ℕ, ◌≡◌, ◌≤◌, true, false, List, ◌++◌, length, Some, Result, Ok, Err, inl, inr, refl, sym, subst}
+use Rattle.std.proofs.Common.{ℕ, ◌≡◌, true, false, List, ◌++◌, Some, Result, Ok, Err, inl, inr, refl, sym, subst}
 use Rattle.std.specs.Prelude.{codes, slice_get, IfOk}
-use Rattle.std.proofs.lemmas.Option.{slice_get_past}
 use Rattle.om_model.specs.declared.value.Val.{Val}
 use Rattle.om_model.specs.declared.value.Obj.{Obj}
 use Rattle.om_types.specs.declared.fault.Fault.{Fault}
@@ -148,8 +147,3 @@ module _ (t : TypeOver) (all : List Section) (number : ℕ) (graph : List Obj) (
       → IfOk result (JudgesAt t all number graph root)
   judged_ok section at (Ok judged) h = judged_at section at judged h
   judged_ok section at (Err e) h = h
-
-  pub judged_none :
-      length all ≤ number → (reason : List ℕ) → reason ≡ codes "no section"
-      → JudgesAt t all number graph root (Uncertified reason)
-  judged_none past reason is = inl (slice_get_past all number past, is)

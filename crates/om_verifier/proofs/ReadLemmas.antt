@@ -1,58 +1,50 @@
 -- What is said of the values so far, as a piece is taken.
-use Rattle.std.proofs.Common.{◌≡◌, ◌⊎◌, ℕ, zero, suc, ◌+◌, ◌^◌, ◌<◌, ◌≤◌, Bool, true, false, List, [], ◌∷◌, ◌++◌, length, take, drop, Result, Ok, Err, inl, inr, refl, sym, ap, ◌∙◌, subst, append_assoc, append-nil, length-append, take_all, arith}
+use Rattle.std.proofs.Common.{◌≡◌, ◌⊎◌, ℕ, ◌+◌, ◌<◌, ◌≤◌, Bool, List, [], ◌∷◌, ◌++◌, length, take, drop, Result, Ok, Err, inl, inr, refl, sym, ap, ◌∙◌, subst, append_assoc, append-nil}
 use Rattle.std.specs.Prelude.{◌&&◌, IsErrAnd, if◌then◌else◌}
 use Rattle.std.proofs.lemmas.Bool.{lt-ltb, le-ltb}
-use Rattle.std.proofs.lemmas.List.{length-take-le, take-append-drop}
-use Rattle.om_model.specs.declared.refusal.ReadRefusal.{ReadRefusal}
-use Rattle.om_model.specs.declared.value.Obj.{Obj}
-use Rattle.om_model.specs.declared.value.Val.{Val}
-use Rattle.om_format.specs.Front.{IsFront, IsRefused}
-use Rattle.om_format.specs.Spelled.{SpelledUnder}
+use Rattle.std.proofs.lemmas.List.{take-append-drop}
 use Rattle.om_format.specs.Stream.{clean, cut}
 use Rattle.om_format.specs.Tree.{Tree, objects_of}
 use Rattle.om_read.specs.declared.reader.Reader.{Reader}
-use Rattle.om_read.specs.declared.reader.Fed.{Fed}
-use Rattle.om_read.specs.declared.reader.Truncated.{Truncated}
 use Rattle.om_read.specs.declared.value.Value.{Value}
-use Rattle.om_read.specs.Reading.{IsValueOf, RefusedIn}
-use Rattle.om_read.specs.Reader.{Leads, Feeds, Finishes, EndsInput}
-use Rattle.om_read.proofs.ReadingLemmas.{unless_memory}
+use Rattle.om_read.specs.Reading.{IsValueOf}
+use Rattle.om_read.specs.Reader.{Leads, Finishes, EndsInput}
 use Rattle.om_section.specs.declared.section.Section.{Section}
-use Rattle.om_edge.specs.Sink.{Puts, PutsPart}
+use Rattle.om_edge.specs.Sink.{Puts}
 use Rattle.om_edge.specs.State.{ByteState, Change, change}
 use Rattle.om_outcome.specs.Outcome as outcome
 use Rattle.om_outcome.specs.Outcome.{Said, says, nothing_said, all_well, line}
-use Rattle.om_outcome.specs.RefusalText.{refusal_text, truncated_text}
 use Rattle.om_outcome.specs.declared.stop.Stop.{Stop}
 use Rattle.om_outcome.specs.declared.stop.Stop.TheVariants.{Uncertified as uncertified_value, SectionsLeft as sections_left, Memory as out_of_memory}
-use Rattle.om_outcome.specs.declared.stop.Stop.TheVariants as stops
 use Rattle.om_stops.specs.declared.stop.Halt.{Halt}
 use Rattle.om_stops.specs.declared.stop.Halt.TheVariants as halts
-use Rattle.om_stops.specs.Stops.{IsOrMemory, IsStopOf}
-use Rattle.om_promises.specs.Account.{HoldNoStop}
-use Rattle.om_promises.specs.Commands.{Item, value as value_item, Cut, SaysFirst}
-use Rattle.om_promises.proofs.LengthLemmas.{spelled_some}
+use Rattle.om_promises.specs.Commands.{Item, value as value_item}
 use Rattle.om_promises.proofs.PutLemmas.{puts_nothing}
-use Rattle.om_promises.proofs.ValueLemmas.{not_whole, nothing_front, and_true, all_well-snoc}
-use Rattle.om_commands.specs.Tasks.{IsFirstValue}
-use Rattle.om_commands.proofs.FirstLemmas.{front_end}
-use Rattle.om_work.specs.Works.{ItemsStay, HaltsIn, PutsLast}
-use Rattle.om_work.proofs.FirstLemmas.{first_stays, first_next}
+use Rattle.om_promises.proofs.ValueLemmas.{and_true, all_well-snoc}
+use Rattle.om_work.specs.Works.{PutsLast}
+use Rattle.om_value_work.proofs.ReadLemmas.{HasValues, halt_is, none_left, value_told, value_done}
 use Rattle.om_declared.specs.declared.requested.Prepared.{Prepared}
 use Rattle.om_declared.specs.Language.{TypeOver, declared_types}
-use Rattle.om_declared.specs.Types.{type_over, IsReady}
-use Rattle.om_verification.specs.Verification.{Shown, shows, rejects, Verification, IsShown, IsUncertified, StopsHere}
+use Rattle.om_declared.specs.Types.{type_over}
+use Rattle.om_verification.specs.Verification.{Shown, shows, rejects, Verification, SaysOf, IsShown, IsUncertified, StopsHere}
 use Rattle.om_verification.proofs.ItemLemmas.{item_stays, stop_stays, goes_on}
 use Rattle.om_verifier.specs.Shown.{IsShownAt, reads_sections, declared_sections}
 use Rattle.om_verifier.specs.Judged.{IsShownBy, IsUncertifiedBy, PutsShown}
-use Rattle.om_verifier.specs.Reading.{on_certificates, certified, HasRead, IsValueRead, PutsNext}
+use Rattle.om_verifier.specs.Reading.{on_certificates, certified, HasRead, IsValueRead, StopsNext, PutsNext}
 
--- a value stays one when bytes follow
-pub values_stay :
+-- its items are values
+abbrev pub has_values :
     (r : Prepared) (all : List Section) (limit : ℕ)
-    → ItemsStay on_certificates (certified r all limit)
-values_stay r all limit items =
-    item_stays declared_sections (certified r all limit) declared_types reads_sections
+    → HasValues declared_types on_certificates (certified r all limit) limit
+has_values r all limit =
+    let a = certified r all limit in record {
+      value_first = λ items bytes item more h. h;
+      first_value = λ items bytes item more h. h;
+      stay = λ items. item_stays declared_sections a declared_types reads_sections;
+      goes_on = goes_on declared_sections a declared_types reads_sections;
+      refuses = λ items bytes stop h. inr h;
+      cuts = λ items bytes n tail. (cut n, tail, refl);
+    }
 
 -- what is said of a value in memory is said of its tree
 shown_read :
@@ -92,304 +84,95 @@ module _ (r : Prepared) (all : List Section) (limit : ℕ) where
   abbrev a : Verification TypeOver Section
   a = certified r all limit
 
-  pub begins :
-      (reader : Reader) → IsReady r → Leads limit [] reader
-      → HasRead r all limit reader 0 true [] []
-  begins reader ready leads = record {
-    ready = ready;
-    items = [];
-    front = [];
-    first = record { cut = refl; all_say = tt };
-    is_front = nothing_front limit leads.bytes;
-    leads = leads;
-    counted = refl;
-    is_well = refl;
-  }
+  -- a stop at a value is one at the bytes that it begins
+  pub stop_begins :
+      (items : List Item) (front rest : List ℕ) (n : ℕ) (stop : Stop)
+      → StopsNext r all limit items (front ++ take n rest) stop
+      → StopsHere declared_sections a items (front ++ rest) stop ⊎ (stop ≡ out_of_memory)
+  stop_begins items front rest n stop (inl memory) = inr memory
+  stop_begins items front rest n stop (inr comes) =
+      let more = stop_stays declared_sections a items (front ++ take n rest) (drop n rest) stop
+      (inl comes) in
+      let same : (front ++ take n rest) ++ drop n rest ≡ front ++ rest =
+      append_assoc front (take n rest) (drop n rest)
+      ∙ ap (λ r. front ++ r) (take-append-drop n rest) in
+      inl (subst (λ b. StopsHere declared_sections a items b stop) same more)
 
-  -- there are no more values than bytes
-  cut_count :
-      (before : List Item) (bytes : List ℕ) (items : List Item) (rest : List ℕ)
-      → Cut on_certificates a before bytes items rest
-      → length items + length rest ≤ length bytes
-  cut_count before bytes [] rest same =
-      let e : length bytes ≡ length rest = ap length same in omega (arith, e)
-  cut_count before bytes (item ∷ items) rest (more, is, next) =
-      let s = is.spelled in
-      let some = spelled_some limit s.0 is.tree s.3 in
-      let fewer = cut_count (before ++ item ∷ []) more items rest next in
-      let size : length bytes ≡ length s.0 + length s.1 =
-      ap length s.2 ∙ length-append s.0 s.1 in
-      let same : length s.1 ≡ length more = ap length s.4 in
-      omega (arith, some, fewer, size, same)
-
-  module _ (reader : Reader) (count : ℕ) (well : Bool) (taken : List ℕ) (said : List Said) where
-    abbrev Has : Type 0
-    Has = HasRead r all limit reader count well taken said
-
-    abbrev Whole : Type 0
-    Whole = IsValueRead r all limit reader count well taken said
-
-    -- what was taken holds no stop
-    abbrev pub holds : Has → HoldNoStop on_certificates a taken said
-    holds h =
-        let e = front_end limit h.front h.is_front in record {
-          items = h.items;
-          rest = h.front;
-          first = h.first;
-          goes_on = goes_on declared_sections a declared_types reads_sections h.items h.front
-              h.leads.bytes e.0 e.1 e.2;
-        }
-
-    pub room_for_one : Whole → length taken < 2 ^ 64 → count + 1 < 2 ^ 64
-    room_for_one v short =
-        let fewer = cut_count [] taken v.items v.whole v.first.cut in
-        let counted = v.counted in
-        let some = v.some in omega (arith, fewer, short, counted, some)
-
+  module _ {reader : Reader} {count : ℕ} {well : Bool} {taken : List ℕ} {said : List Said} where
     -- ---- the input's end
 
-    abbrev Ends : Has → Change ByteState → Result Bool Halt → Type 0
-    Ends h out result = PutsLast on_certificates a said h.items h.front out result
+    module _ (h : HasRead r all limit reader count well taken said)
+        (end : EndsInput {U = Unit {0}} limit h.front (Ok tt)) where
+      abbrev Ends : Change ByteState → Result Bool Halt → Type 0
+      Ends out result = PutsLast on_certificates a said h.items h.front out result
 
-    -- the reader is at the end of a value
-    none_left : (h : Has) → EndsInput {U = Unit {0}} limit h.front (Ok tt) → h.front ≡ []
-    none_left h (inl empty) = empty
-    none_left h (inr (tree, spelled)) =
-        absurd (not_whole limit h.front tree h.leads.bytes h.is_front spelled)
-
-    -- sections are left
-    pub ends_left :
-        (h : Has) → EndsInput {U = Unit {0}} limit h.front (Ok tt) → count < length all
-        → (o : ByteState) → Ends h (change o o) (Err (halts.Stop sections_left))
-    ends_left h end less o =
-        let fewer : length h.items < length all = subst (λ n. n < length all) h.counted less in (
-          inl (
-            clean,
-            none_left h end,
-            ap (λ b. if b then outcome.stops sections_left else says nothing_said)
-                (sym (lt-ltb (length h.items) (length all) fewer)),
-          ),
-          puts_nothing o,
-        )
-
-    -- or none
-    pub ends_all :
-        (h : Has) → EndsInput {U = Unit {0}} limit h.front (Ok tt) → length all ≤ count
-        → (o : ByteState) → Ends h (change o o) (Ok well)
-    ends_all h end most o =
-        let enough : length all ≤ length h.items = subst (λ n. length all ≤ n) h.counted most in (
-          nothing_said,
-          (
-            clean,
-            none_left h end,
-            ap (λ b. if b then outcome.stops sections_left else says nothing_said)
-                (sym (le-ltb (length h.items) (length all) enough)),
-          ),
-          h.is_well ∙ sym (all_well-snoc said nothing_said ∙ and_true (all_well said)),
-          puts_nothing o,
-        )
-
-    -- a value is cut
-    pub ends_cut :
-        (h : Has) (truncated : Truncated) → EndsInput {U = Unit {0}} limit h.front (Err truncated)
-        → (o : ByteState) (stop : Stop)
-        → IsOrMemory (stops.Value count (truncated_text truncated.taken)) stop
-        → Ends h (change o o) (Err (halts.Stop stop))
-    ends_cut h truncated within o stop (inr memory) = (inr memory, puts_nothing o)
-    ends_cut h truncated within o stop (inl told) =
-        let is : stop ≡ stops.Value (length h.items) (truncated_text (length h.front)) =
-        told ∙ (ap (λ n. stops.Value n (truncated_text truncated.taken)) h.counted
-        ∙ ap (λ n. stops.Value (length h.items) (truncated_text n)) within.0) in (
-          inl (
-            cut (length h.front),
-            (within.1, refl, h.is_front),
-            ap (λ stop. outcome.stops stop) is,
-          ),
-          puts_nothing o,
-        )
-
-    -- ---- bytes in hand
-
-    module _ (h : Has) (rest : List ℕ) (new : Reader) (fed : Fed)
-        (f : Feeds limit h.front rest new fed) where
-      -- they complete the value
-      abbrev pub whole_read :
-          fed.done ≡ true → IsValueRead r all limit new count well (taken ++ take fed.taken rest) said
-      whole_read done = record {
-        ready = h.ready;
-        items = h.items;
-        whole = h.front ++ take fed.taken rest;
-        first = first_stays on_certificates a (values_stay r all limit) taken h.items said h.front
-            (take fed.taken rest) h.first;
-        some = spelled_some limit (h.front ++ take fed.taken rest) (f.done done).1.0 (f.done done).1.1;
-        leads = f.leads;
-        done = (f.done done).0;
-        counted = h.counted;
-        is_well = h.is_well;
-      }
-
-      pub few_read :
-          length taken + length rest < 2 ^ 63 → length (taken ++ take fed.taken rest) < 2 ^ 64
-      few_read short =
-          let size = length-append taken (take fed.taken rest) in
-          let some = length-take-le fed.taken rest in
-          let fits = f.within in omega (arith, size, some, short, fits)
-
-      -- then there are some
-      pub some_taken : fed.done ≡ true → 0 < fed.taken
-      some_taken done = some fed.taken refl where
-        some : (n : ℕ) → fed.taken ≡ n → 0 < n
-        some zero e =
-            let none : h.front ++ take fed.taken rest ≡ h.front =
-            ap (λ n. h.front ++ take n rest) e ∙ append-nil h.front in
-            let whole = (f.done done).1 in
-            absurd (not_whole limit h.front whole.0 h.leads.bytes h.is_front
-            (subst (λ b. SpelledUnder limit b whole.0) none whole.1))
-        some (suc n) e = omega arith
-
-      -- they are all taken, and do not complete it
-      pub front_read :
-          fed.done ≡ false
-          → HasRead r all limit new count well (taken ++ take fed.taken rest) (said ++ [])
-      front_read not_done =
-          let more = f.more not_done in
-          let same : take fed.taken rest ≡ rest = take_all fed.taken rest (omega (arith, more.0)) in
-          subst (λ s. HasRead r all limit new count well (taken ++ take fed.taken rest) s)
-          (sym (append-nil said)) (record {
-            ready = h.ready;
-            items = h.items;
-            front = h.front ++ take fed.taken rest;
-            first = first_stays on_certificates a (values_stay r all limit) taken h.items said h.front
-                (take fed.taken rest) h.first;
-            is_front = subst (λ b. IsFront limit (h.front ++ b)) (sym same) more.1;
-            leads = f.leads;
-            counted = h.counted;
-            is_well = h.is_well;
-          })
-
-    -- ---- a halt, in what is in hand
-
-    module _ (h : Has) (rest : List ℕ) where
-      abbrev Halts : Change ByteState → Halt → Type 0
-      Halts out halt = HaltsIn on_certificates a taken rest said out halt
-
-      abbrev StopsIn : Stop → Type 0
-      StopsIn stop =
-          StopsHere declared_sections a h.items (h.front ++ rest) stop
-          ⊎ (stop ≡ out_of_memory)
-
-      -- what is refused
-      pub stops_in :
-          (refusal : ReadRefusal) (stop : Stop) → RefusedIn limit (h.front ++ rest) refusal
-          → IsStopOf count refusal stop → StopsIn stop
-      stops_in refusal stop refused (inl memory) = inr memory
-      stops_in refusal stop refused (inr (some, is)) =
-          elim ((unless_memory refusal ((n : ℕ) × (n ≤ length (h.front ++ rest)) × IsRefused limit (take n (h.front ++ rest)) refusal)).1 refused) [
-            | inl e ↦ absurd (some e)
-            | inr tail ↦ inl (inr (record {
-              refusal = refusal;
-              tail = tail;
-              is = subst (λ n. stop ≡ stops.Value n (refusal_text refusal)) h.counted is;
-            }))
-          ]
-
-      pub stops_now :
-          (stop : Stop) → StopsIn stop → (o : ByteState)
-          → Halts (change o o) (halts.Stop stop)
-      stops_now stop why o = (holds h, why, puts_nothing o)
-
-      -- at the value that ends there
-      pub next_halts :
-          (n : ℕ) (out : Change ByteState) (reader' : Reader) (count' : ℕ) (well' : Bool)
-          (halt : Halt)
-          → PutsNext {U = Unit {0}} r all limit reader' count' well' (taken ++ take n rest) said
-          h.items (h.front ++ take n rest) out (Err halt)
-          → Halts out halt
-      next_halts n out reader' count' well' (halts.Stop stop) (inl memory, none) =
-          (holds h, inr memory, none)
-      next_halts n out reader' count' well' (halts.Stop stop) (inr comes, none) =
-          let more = stop_stays declared_sections a h.items (h.front ++ take n rest) (drop n rest)
-          stop (inl comes) in
-          let same : (h.front ++ take n rest) ++ drop n rest ≡ h.front ++ rest =
-          append_assoc h.front (take n rest) (drop n rest)
-          ∙ ap (λ r. h.front ++ r) (take-append-drop n rest) in (
-            holds h,
-            inl (subst (λ b. StopsHere declared_sections a h.items b stop) same more),
-            none,
-          )
-      next_halts n out reader' count' well' halts.WriteFault (next, (items, left, first), part) =
-          let same : (taken ++ take n rest) ++ drop n rest ≡ taken ++ rest =
-          append_assoc taken (take n rest) (drop n rest)
-          ∙ ap (λ r. taken ++ r) (take-append-drop n rest) in
-          let more = first_stays on_certificates a (values_stay r all limit) (taken ++ take n rest)
-          items (said ++ next ∷ []) left (drop n rest) first in (
-            holds h,
-            next,
-            (
-              items,
-              left ++ drop n rest,
-              subst (λ b. SaysFirst on_certificates a b items (said ++ next ∷ []) (left ++ drop n rest))
-                  same more,
+      -- sections are left
+      pub ends_left :
+          count < length all → (o : ByteState) → Ends (change o o) (Err (halts.Stop sections_left))
+      ends_left less o =
+          let fewer : length h.items < length all = subst (λ n. n < length all) h.counted less in (
+            inl (
+              clean,
+              none_left limit h.front reader h.is_front h.leads end,
+              ap (λ b. if b then outcome.stops sections_left else says nothing_said)
+                  (sym (lt-ltb (length h.items) (length all) fewer)),
             ),
-            part,
+            puts_nothing o,
+          )
+
+      -- or none
+      pub ends_all : length all ≤ count → (o : ByteState) → Ends (change o o) (Ok well)
+      ends_all most o =
+          let enough : length all ≤ length h.items = subst (λ n. length all ≤ n) h.counted most in (
+            nothing_said,
+            (
+              clean,
+              none_left limit h.front reader h.is_front h.leads end,
+              ap (λ b. if b then outcome.stops sections_left else says nothing_said)
+                  (sym (le-ltb (length h.items) (length all) enough)),
+            ),
+            h.is_well ∙ sym (all_well-snoc said nothing_said ∙ and_true (all_well said)),
+            puts_nothing o,
           )
 
     -- ---- a value that was read whole
 
-    module _ (v : Whole) (value : Value) (f : Finishes limit v.whole value) where
-      abbrev first_value : IsFirstValue declared_types limit v.whole (value_item f.tree) []
-      first_value = record {
-        tree = f.tree;
-        is = refl;
-        spelled = (v.whole, [], sym (append-nil v.whole), f.spelled, refl);
-      }
-
+    module _ (v : IsValueRead r all limit reader count well taken said) (value : Value)
+        (f : Finishes limit v.whole value) where
       -- this is said of it
       value_said :
           (text : List ℕ) (fine : Bool)
           → IsShownBy (type_over r) all count value.heap value.root (shows text fine)
-          → SaysFirst on_certificates a taken (v.items ++ value_item f.tree ∷ [])
-          (said ++ record { text = line text; well = fine } ∷ []) []
-      value_said text fine by =
-          first_next on_certificates a taken v.items said v.whole (value_item f.tree) []
-          (record { text = line text; well = fine }) v.first first_value (record {
-            tree = f.tree;
-            is = refl;
-            text = text;
-            shown = subst (λ n. IsShown declared_sections a n f.tree (shows text fine)) v.counted
-                (shown_read (type_over r) all limit count value f.tree (shows text fine) f.is_value by);
-            said_is = refl;
-          })
+          → SaysOf declared_sections a v.items (value_item f.tree)
+          (record { text = line text; well = fine })
+      value_said text fine by = record {
+        tree = f.tree;
+        is = refl;
+        text = text;
+        shown = subst (λ n. IsShown declared_sections a n f.tree (shows text fine)) v.counted
+            (shown_read (type_over r) all limit count value f.tree (shows text fine) f.is_value by);
+        said_is = refl;
+      }
 
       -- it was put, and the reader waits for the next one
       pub value_put :
           (out : Change ByteState) (fine : Bool)
           → PutsShown (type_over r) all count value.heap value.root out (Ok fine)
           → (new : Reader) → Leads limit [] new → (fine_all : Bool) → fine_all ≡ (well && fine)
-          → (next : Said)
-          × HasRead r all limit new (count + 1) fine_all taken (said ++ next ∷ [])
+          → (next : Said) × HasRead r all limit new (count + 1) fine_all taken (said ++ next ∷ [])
           × Puts out next.text
-      value_put out fine (text, by, put) new leads fine_all is = (
-        record { text = line text; well = fine },
-        record {
-          ready = v.ready;
-          items = v.items ++ value_item f.tree ∷ [];
-          front = [];
-          first = value_said text fine by;
-          is_front = nothing_front limit leads.bytes;
-          leads = leads;
-          counted = ap (λ n. n + 1) v.counted
-              ∙ sym (length-append v.items (value_item f.tree ∷ []));
-          is_well = is ∙ (ap (λ w. w && fine) v.is_well
-              ∙ sym (all_well-snoc said (record { text = line text; well = fine })));
-        },
-        put,
-      )
+      value_put out fine (text, by, put) new leads fine_all is =
+          let next : Said = record { text = line text; well = fine } in (
+            next,
+            value_done (has_values r all limit) v f next (value_said text fine by) new leads fine_all
+                is,
+            put,
+          )
 
       value_halt :
           (out : Change ByteState) (halt : Halt) (new : Reader) (count' : ℕ) (well' : Bool)
           → PutsShown (type_over r) all count value.heap value.root out (Err halt)
-          → PutsNext {U = Unit {0}} r all limit new count' well' taken said v.items v.whole out
+          → PutsNext r all limit {U = Unit {0}} new count' well' taken said v.items v.whole out
           (Err halt)
       value_halt out (halts.Stop stop) new count' well' (inl memory, none) = (inl memory, none)
       value_halt out (halts.Stop stop) new count' well' (inr (reason, by, is), none) = (
@@ -404,38 +187,16 @@ module _ (r : Prepared) (all : List Section) (limit : ℕ) where
         }),
         none,
       )
-      value_halt out halts.WriteFault new count' well' (text, fine, by, part) = (
-        record { text = line text; well = fine },
-        (v.items ++ value_item f.tree ∷ [], [], value_said text fine by),
-        part,
-      )
+      value_halt out halts.WriteFault new count' well' (text, fine, by, part) =
+          let next : Said = record { text = line text; well = fine } in
+          (next, value_told (has_values r all limit) v f next (value_said text fine by), part)
 
       -- or it was not
       pub value_halts :
           (out : Change ByteState) (halt : Halt) (new : Reader) (count' : ℕ) (well' : Bool)
           (result : Result (Unit {0}) Halt) → IsErrAnd result (λ h. h ≡ halt)
           → PutsShown (type_over r) all count value.heap value.root out (Err halt)
-          → PutsNext {U = Unit {0}} r all limit new count' well' taken said v.items v.whole out result
-      value_halts out halt new count' well' (Ok unit) is p = absurd is
-      value_halts out halt new count' well' (Err h) is p =
-          subst (λ h. PutsNext {U = Unit {0}} r all limit new count' well' taken said v.items v.whole
-          out (Err h)) (sym is) (value_halt out halt new count' well' p)
-
--- ---- what is put of a value
-
-module _ (t : TypeOver) (all : List Section) (number : ℕ) (graph : List Obj) (v : Val)
-    (out : Change ByteState) where
-  pub shown_memory :
-      (result : Result Bool Halt) → IsErrAnd result (λ h. h ≡ halts.Stop out_of_memory)
-      → Puts out [] → PutsShown t all number graph v out result
-  shown_memory (Ok well) is none = absurd is
-  shown_memory (Err halt) is none =
-      subst (λ h. PutsShown t all number graph v out (Err h)) (sym is) (inl refl, none)
-
-  pub shown_fault :
-      (result : Result Bool Halt) → IsErrAnd result (λ h. h ≡ halts.WriteFault)
-      → (said : List ℕ) (well : Bool) → IsShownBy t all number graph v (shows said well)
-      → PutsPart out (line said) → PutsShown t all number graph v out result
-  shown_fault (Ok fine) is said well by part = absurd is
-  shown_fault (Err halt) is said well by part =
-      subst (λ h. PutsShown t all number graph v out (Err h)) (sym is) (said, well, by, part)
+          → PutsNext r all limit new count' well' taken said v.items v.whole out result
+      value_halts out halt new count' well' result is p =
+          halt_is (PutsNext r all limit new count' well' taken said v.items v.whole out) halt result is
+          (value_halt out halt new count' well' p)

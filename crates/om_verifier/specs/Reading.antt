@@ -1,17 +1,13 @@
 -- What has been read of the values, and said of them by their sections, as their bytes come.
-use Rattle.std.specs.Prelude.{ℕ, ◌<◌, ◌≡◌, Bool, false, List, [], ◌∷◌, ◌++◌, length, Result, Ok}
-use Rattle.std.specs.Prelude.{Err}
-use Rattle.om_format.specs.Front.{IsFront}
+use Rattle.std.specs.Prelude.{ℕ, Bool, false, List, length, Result}
 use Rattle.om_read.specs.declared.reader.Reader.{Reader}
-use Rattle.om_read.specs.Reader.{Leads, IsDone}
 use Rattle.om_section.specs.declared.section.Section.{Section}
-use Rattle.om_edge.specs.Sink.{Puts, PutsPart}
 use Rattle.om_edge.specs.State.{ByteState, Change}
-use Rattle.om_outcome.specs.Outcome.{Said, all_well}
+use Rattle.om_outcome.specs.Outcome.{Said}
+use Rattle.om_outcome.specs.declared.stop.Stop.{Stop}
 use Rattle.om_stops.specs.declared.stop.Halt.{Halt}
-use Rattle.om_stops.specs.declared.stop.Halt.TheVariants as halts
-use Rattle.om_promises.specs.Commands.{Item, Commands, SaysFirst}
-use Rattle.om_work.specs.Works.{AreSaid}
+use Rattle.om_promises.specs.Commands.{Item, Commands}
+use Rattle.om_value_work.specs.Reading as work
 use Rattle.om_declared.specs.Checked.{OrMemory}
 use Rattle.om_declared.specs.declared.requested.Prepared.{Prepared}
 use Rattle.om_declared.specs.Language.{TypeOver, declared_types}
@@ -40,44 +36,25 @@ abbrev pub certified_after :
 certified_after r sections reading =
     (record { bytes = reading.skip; copied = false }, certified r sections reading.limit)
 
-module _ (r : Prepared) (sections : List Section) (limit : ℕ) (reader : Reader) (count : ℕ)
-    (well : Bool) (taken : List ℕ) (said : List Said) where
-  -- Of these bytes the reader has taken what comes after the values, a front of the next one; this
-  -- is said of the values.
-  pub record HasRead : Type 0 where
-    pub ready : IsReady r
-    pub items : List Item
-    pub front : List ℕ
-    pub first : SaysFirst on_certificates (certified r sections limit) taken items said front
-    pub is_front : IsFront limit front
-    pub leads : Leads limit front reader
-    pub counted : count ≡ length items
-    pub is_well : well ≡ all_well said
+module _ (r : Prepared) (sections : List Section) (limit : ℕ) where
+  -- what has been read of the values and said of them, with a front of the next one
+  abbrev pub HasRead : Reader → ℕ → Bool → List ℕ → List Said → Type 0
+  HasRead = work.HasRead on_certificates (certified r sections limit) limit (IsReady r)
 
-  -- the same where the reader has taken all of the next one
-  pub record IsValueRead : Type 0 where
-    pub ready : IsReady r
-    pub items : List Item
-    pub whole : List ℕ
-    pub first : SaysFirst on_certificates (certified r sections limit) taken items said whole
-    pub some : 0 < length whole
-    pub leads : Leads limit whole reader
-    pub done : IsDone reader
-    pub counted : count ≡ length items
-    pub is_well : well ≡ all_well said
+  -- the same with all of the next one
+  abbrev pub IsValueRead : Reader → ℕ → Bool → List ℕ → List Said → Type 0
+  IsValueRead = work.IsValueRead on_certificates (certified r sections limit) limit (IsReady r)
 
--- What is said of the value that is there, after these, is put, and the reader waits for the next
--- one; or the value is not certified, or memory ran out; or out failed.
-abbrev pub PutsNext : {U : Type 0} → Prepared → List Section → ℕ → Reader → ℕ → Bool → List ℕ
-    → List Said → List Item → List ℕ → Change ByteState → Result U Halt → Type 0
-PutsNext r sections limit reader count well taken said items whole out (Ok unit) =
-    (next : Said) × HasRead r sections limit reader count well taken (said ++ next ∷ [])
-    × Puts out next.text
-PutsNext r sections limit reader count well taken said items whole out (Err (halts.Stop stop)) =
-    OrMemory (λ stop. ComesUncertified declared_sections (certified r sections limit)
-    (length items) whole stop) stop
-    × Puts out []
-PutsNext r sections limit reader count well taken said items whole out (Err halts.WriteFault) =
-    (next : Said)
-    × AreSaid on_certificates (certified r sections limit) taken (said ++ next ∷ [])
-    × PutsPart out next.text
+  -- the value after these is not certified, or memory ran out
+  abbrev pub StopsNext : List Item → List ℕ → Stop → Type 0
+  StopsNext items whole =
+      OrMemory (λ stop. ComesUncertified declared_sections (certified r sections limit)
+      (length items) whole stop)
+
+  -- What is said of the value that is there, after these, is put; or the value is not certified,
+  -- or memory ran out, and nothing is put; or out failed.
+  abbrev pub PutsNext : {U : Type 0} → Reader → ℕ → Bool → List ℕ → List Said → List Item
+      → List ℕ → Change ByteState → Result U Halt → Type 0
+  PutsNext reader count well taken said items whole =
+      work.PutsNext on_certificates (certified r sections limit) limit (IsReady r) reader count
+      well taken said (StopsNext items whole)

@@ -1,4 +1,4 @@
-use Rattle.std.proofs.Common.{rules, ◌≡◌, ◌+◌, ◌<◌, ◌≤◌, ◌^◌, ◌++◌, [], length, take, refl, inl, inr, arith, ◌∙◌, length-append}
+use Rattle.std.proofs.Common.{rules, ◌+◌, ◌++◌, [], length, take, refl, inl, inr, arith, ◌∙◌, length-append}
 use Rattle.std.proofs.lemmas.List.{length-take}
 use Rattle.om_outcome.specs.Outcome.{unasked, at_fault, at_length}
 use Rattle.om_edge.specs.State.{as_source}
