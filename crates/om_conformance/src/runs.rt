@@ -2,9 +2,9 @@
 //! fail. A question gives between tabs settings, the input in hexadecimal digits, the text of
 //! `f.ml` behind `=`, or `none`, and the words.
 //!
-//! A setting is `fetch=N`, `read=N` or `take=N` where the call N of this kind fails, counted from 0,
-//! and `put=N` where the call N of each of out and err does, `put_out=N` and `put_err=N` of one of
-//! them; several numbers stand with commas. `out=N` or `err=N` is there where so many bytes fit,
+//! A setting is `fetch=N`, `read=N` or `take=N` where the call N of this kind fails, counted from
+//! 0, and `put=N` where the call N of each of out and err does, `put_out=N` and `put_err=N` of one
+//! of them; several numbers stand with commas. `out=N` or `err=N` is there where so many bytes fit,
 //! `piece=N` where a take gives at most so many bytes, and `script=` with hexadecimal digits where
 //! there is a file `script` of these bytes; so `file=` in the place of `=`, for a text of more than
 //! one line, and `word=` for one word more, behind the others.

@@ -1,5 +1,3 @@
-//! Tests of lexemes, scripts and literals.
+//! Tests of lexemes.
 
 mod lexemes;
-mod literals;
-mod scripts;

@@ -3,10 +3,6 @@
 mod certificates;
 mod doubles;
 mod dumps;
-mod generated;
 mod given;
 mod leaves;
-mod lines;
 mod passes;
-mod questions;
-mod trees;

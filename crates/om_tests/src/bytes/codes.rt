@@ -6,31 +6,27 @@ use om_codes::{
 };
 
 // A letter for the kind, small where the code itself carries its number, and the numbers: 1 says
-// little endian, or the code of an old runtime.
-fn told(kind: CodeKind) -> (char, u8, u8) {
-    match kind {
-        CodeKind::SmallBlock(tag, size) => ('b', tag, size),
-        CodeKind::SmallInt(number) => ('i', number, 0),
-        CodeKind::SmallString(len) => ('s', len, 0),
-        CodeKind::Int(width) => ('I', width, 0),
-        CodeKind::Shared(width) => ('R', width, 0),
-        CodeKind::Block(width) => ('B', width, 0),
-        CodeKind::Str(width) => ('S', width, 0),
-        CodeKind::Double(little) => ('D', 8, u8::from(little)),
-        CodeKind::Doubles(width, little) => ('A', width, u8::from(little)),
-        CodeKind::Custom(old) => ('C', 0, u8::from(old)),
-    }
-}
-
-fn is_told(code: u8, want: (char, u8, u8)) -> bool {
+// little endian, or the code of an old runtime. For what is no token, a letter for what is wrong.
+fn told(code: u8) -> (char, u8, u8) {
     match code_kind(code) {
-        Ok(kind) => told(kind) == want,
-        Err(_) => false,
+        Ok(CodeKind::SmallBlock(tag, size)) => ('b', tag, size),
+        Ok(CodeKind::SmallInt(number)) => ('i', number, 0),
+        Ok(CodeKind::SmallString(len)) => ('s', len, 0),
+        Ok(CodeKind::Int(width)) => ('I', width, 0),
+        Ok(CodeKind::Shared(width)) => ('R', width, 0),
+        Ok(CodeKind::Block(width)) => ('B', width, 0),
+        Ok(CodeKind::Str(width)) => ('S', width, 0),
+        Ok(CodeKind::Double(little)) => ('D', 8, u8::from(little)),
+        Ok(CodeKind::Doubles(width, little)) => ('A', width, u8::from(little)),
+        Ok(CodeKind::Custom(old)) => ('C', 0, u8::from(old)),
+        Err(CodeFault::BadCode) => ('?', 0, 0),
+        Err(CodeFault::PointerCode) => ('p', 0, 0),
+        Err(CodeFault::CustomLen) => ('c', 0, 0),
     }
 }
 
 // A code, and what it is by the runtime's header.
-static KINDS: [(u8, (char, u8, u8)); 30] = [
+static KINDS: [(u8, (char, u8, u8)); 35] = [
     (0x80, ('b', 0, 0)),
     (0xa1, ('b', 1, 2)),
     (0xff, ('b', 15, 7)),
@@ -61,35 +57,12 @@ static KINDS: [(u8, (char, u8, u8)); 30] = [
     (0x17, ('A', 8, 1)),
     (0x12, ('C', 0, 1)),
     (0x19, ('C', 0, 0)),
+    (0x10, ('p', 0, 0)),
+    (0x11, ('p', 0, 0)),
+    (0x18, ('c', 0, 0)),
+    (0x1a, ('?', 0, 0)),
+    (0x1f, ('?', 0, 0)),
 ];
-
-// A letter for what is wrong with a code, if anything is.
-fn fault(code: u8) -> char {
-    match code_kind(code) {
-        Ok(_) => ' ',
-        Err(CodeFault::BadCode) => 'b',
-        Err(CodeFault::PointerCode) => 'p',
-        Err(CodeFault::CustomLen) => 'c',
-    }
-}
-
-static NO_TOKEN: [(u8, char); 5] = [
-    (0x10, 'p'),
-    (0x11, 'p'),
-    (0x18, 'c'),
-    (0x1a, 'b'),
-    (0x1f, 'b'),
-];
-
-#[test]
-fn knows_each_code(rt: HostRuntime) {
-    for (code, want) in &KINDS {
-        assert!(rt; is_told(*code, *want));
-    }
-    for (code, want) in &NO_TOKEN {
-        assert!(rt; fault(*code) == *want);
-    }
-}
 
 // From OCaml's `Marshal.to_string`.
 static INTEGERS: [(i64, &[u8]); 12] = [
@@ -123,7 +96,10 @@ fn is_integer_spelled(number: i64, bytes: &[u8]) -> bool {
 
 // From OCaml's `Marshal.to_string`, as the integers.
 #[test]
-fn spells_integers_and_what_comes_before_a_content(rt: HostRuntime) {
+fn codes_are_known_and_spelled(rt: HostRuntime) {
+    for (code, want) in &KINDS {
+        assert!(rt; told(*code) == *want);
+    }
     for (number, bytes) in &INTEGERS {
         assert!(rt; is_integer_spelled(*number, bytes));
     }

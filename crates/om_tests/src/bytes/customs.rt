@@ -19,14 +19,6 @@ static CUSTOMS: [(Custom, &[u8]); 4] = [
     ),
 ];
 
-#[test]
-fn spells_customs(rt: HostRuntime) {
-    for (custom, bytes) in &CUSTOMS {
-        let (spelled, n) = spell(*custom);
-        assert!(rt; &spelled[..n] == *bytes);
-    }
-}
-
 // A letter for what the data of a `Nativeint` say, with how many bytes are missing or the kind
 // byte, and the number.
 fn told(step: NativeStep) -> (char, usize, i64) {
@@ -51,7 +43,11 @@ static NATIVES: [(&[u8], (char, usize, i64)); 8] = [
 ];
 
 #[test]
-fn reads_nativeints(rt: HostRuntime) {
+fn customs_are_spelled_and_read(rt: HostRuntime) {
+    for (custom, bytes) in &CUSTOMS {
+        let (spelled, n) = spell(*custom);
+        assert!(rt; &spelled[..n] == *bytes);
+    }
     for (bytes, want) in &NATIVES {
         assert!(rt; told(read_native(bytes)) == *want);
     }

@@ -33,6 +33,18 @@ fn states(bytes: &[u8], length: u64, objects: u64, w32: u64, w64: u64) -> bool {
     }
 }
 
+// What the headers state that OCaml 4.13 writes for such a value alone.
+static SIZES: [(Measure, (u64, u64)); 8] = [
+    (Measure::Block(2), (3, 3)),
+    (Measure::Bytes(3), (2, 2)),
+    (Measure::Bytes(4), (3, 2)),
+    (Measure::Double, (3, 2)),
+    (Measure::Doubles(2), (5, 3)),
+    (Measure::Custom(4, 4), (3, 3)),
+    (Measure::Custom(8, 8), (4, 3)),
+    (Measure::Custom(4, 8), (3, 3)),
+];
+
 #[test]
 fn headers_are_spelled_and_read(rt: HostRuntime) {
     let small = Head {
@@ -52,22 +64,6 @@ fn headers_are_spelled_and_read(rt: HostRuntime) {
         w64: 9,
     };
     assert!(rt; is_spelled(spell(big), &BIG));
-}
-
-// What the headers state that OCaml 4.13 writes for such a value alone.
-static SIZES: [(Measure, (u64, u64)); 8] = [
-    (Measure::Block(2), (3, 3)),
-    (Measure::Bytes(3), (2, 2)),
-    (Measure::Bytes(4), (3, 2)),
-    (Measure::Double, (3, 2)),
-    (Measure::Doubles(2), (5, 3)),
-    (Measure::Custom(4, 4), (3, 3)),
-    (Measure::Custom(8, 8), (4, 3)),
-    (Measure::Custom(4, 8), (3, 3)),
-];
-
-#[test]
-fn counts_words(rt: HostRuntime) {
     for (measure, words) in &SIZES {
         assert!(rt; words_of(*measure) == *words);
     }

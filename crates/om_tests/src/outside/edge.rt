@@ -2,11 +2,9 @@
 //! stand in `om_conformance`.
 
 use om_edge::{
-    DiskFiles, Failed, MemFiles, OpenError, Opener, Sink, Source, StdSink, StdSource, WriteError,
-    put_all,
+    DiskFiles, Failed, OpenError, Opener, Sink, Source, StdSink, StdSource, WriteError, put_all,
 };
 use om_model::Memory;
-use std::alloc::Global;
 use std::fs::File;
 use std::io::{Error, ErrorKind, Read, Write};
 use std::test::Fail;
@@ -126,12 +124,6 @@ static ON_DISK: [Fetch; 4] = [
     ("a.bytes", Ok(()), &[Ok(2), Ok(1)], b"abc"),
 ];
 
-// A fetch that fails, and one of a file that is not there.
-static IN_MEMORY: [Fetch; 2] = [
-    ("a.ml", Err(OpenError::Failed), &[Ok(0)], b""),
-    ("b.ml", Err(OpenError::Missing), &[Ok(0)], b""),
-];
-
 // Whether all fetches answer so.
 fn fetches<O: Opener>(files: &mut O, all: &[Fetch]) -> Result<bool, Memory> {
     for (name, opened, answers, bytes) in all {
@@ -156,22 +148,6 @@ fn files_on_the_disk_are_fetched_and_taken(rt: HostRuntime) -> Result<(), Fail> 
     };
     assert!(rt; are_fetched? && are_told);
     fs::remove_file(&rt, "a.bytes")?;
-    Ok(())
-}
-
-// Whether files in memory, of which there are none and whose first fetch fails, answer so.
-fn are_in_memory(alloc: Global) -> Result<bool, Memory> {
-    let failing = Vec::from_slice(alloc, &[0])?;
-    let mut files = MemFiles::new(alloc, Vec::new(alloc), failing, Vec::new(alloc));
-    match fetches(&mut files, &IN_MEMORY) {
-        Ok(are_fetched) => Ok(are_fetched && files.last_open_fault() == Some("a.ml")),
-        Err(Memory) => Err(Memory),
-    }
-}
-
-#[test]
-fn files_in_memory_tell_which_fetch_failed(rt: HostRuntime) -> Result<(), Fail> {
-    assert!(rt; are_in_memory(rt.alloc())?);
     Ok(())
 }
 

@@ -1,38 +1,14 @@
-//! Sinks that fail while a value is written, and sizes that do not fit a 32-bit machine. Values
-//! that OCaml wrote are written again in `om_conformance`, which also tries the integers at the
-//! ends of 31 and 32 bits.
+//! Sizes that do not fit a 32-bit machine, and a sink that fails while a value is written for one.
+//! Values that OCaml wrote are written again in `om_conformance`, which also tries the integers at
+//! the ends of 31 and 32 bits, and sinks that fail.
 
-use om_edge::{MemSink, WriteError};
+use om_edge::MemSink;
 use om_heap::Heap;
 use om_model::Memory;
 use om_model::value::Val;
-use om_write::{Compat, Write32Error, write, write32};
+use om_write::{Compat, Write32Error, write32};
 use std::alloc::Global;
 use std::test::Fail;
-
-// Whether a text of 100,000 bytes is written to a sink with this room whose call of this number
-// fails; how many bytes come to the sink, and how many of its calls fail.
-fn written(alloc: Global, room: usize, failing: u64) -> Result<(bool, usize, u64), Memory> {
-    let mut heap = Heap::new(alloc);
-    let text = heap.add_bytes(100_000)?;
-    let failing = Vec::from_slice(alloc, &[failing])?;
-    let mut sink = MemSink::new(alloc, room, failing)?;
-    match write(alloc, &heap, Val::Ref(text), &mut sink) {
-        Err(WriteError::Memory) => Err(Memory),
-        result => Ok((result.is_ok(), sink.written().len(), sink.faults())),
-    }
-}
-
-// Calls of `put` that fail, and a sink that is full, also after a first call that did not fail.
-#[test]
-fn faults_are_told(rt: HostRuntime) -> Result<(), Fail> {
-    assert!(rt; written(rt.alloc(), 200_000, 0)? == (false, 0, 1));
-    let (is_well, bytes, faults) = written(rt.alloc(), 200_000, 1)?;
-    assert!(rt; !is_well && bytes < 100_025 && faults == 1);
-    assert!(rt; written(rt.alloc(), 100_024, 200)? == (false, 100_024, 1));
-    assert!(rt; written(rt.alloc(), 100_025, 200)? == (true, 100_025, 0));
-    Ok(())
-}
 
 /// An object of so many fields, bytes or doubles.
 #[derive(Clone, Copy)]

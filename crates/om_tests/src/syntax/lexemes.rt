@@ -89,45 +89,47 @@ fn put_lexemes(text: &mut String, lexemes: &[Lexeme]) -> Result<(), AllocError> 
     Ok(())
 }
 
-// A fault's name and place, unless memory ran out.
-fn fault_told(fault: LexFault) -> Result<(&'static str, usize), Memory> {
-    match fault {
-        LexFault::BadByte(place) => Ok(("BadByte", place)),
-        LexFault::OpenString(place) => Ok(("OpenString", place)),
-        LexFault::OpenComment(place) => Ok(("OpenComment", place)),
-        LexFault::TooBig(place) => Ok(("TooBig", place)),
-        LexFault::Memory => Err(Memory),
-    }
-}
-
-// Puts what becomes of a text.
-fn put_told(alloc: Global, text: &[u8], told: &mut String) -> Result<(), Memory> {
-    match tokens(alloc, text) {
-        Ok(lexemes) => put_lexemes(told, lexemes.as_slice())?,
-        Err(fault) => {
-            let (name, place) = fault_told(fault)?;
-            write!(told, "{name} {place}")?;
-        }
-    }
-    Ok(())
-}
-
-// Whether this becomes of a text.
-fn is_told(alloc: Global, text: &[u8], want: &str) -> Result<bool, Memory> {
+// Whether this is what is put of lexemes.
+fn are_told(alloc: Global, lexemes: &[Lexeme], want: &str) -> Result<bool, Memory> {
     let mut told = String::new(alloc);
-    put_told(alloc, text, &mut told)?;
+    put_lexemes(&mut told, lexemes)?;
     Ok(told.as_str() == want)
 }
 
-// The values and places that the lexer of OCaml 4.13.1 gives.
-static OCAMLS: [(&str, &str); 33] = [
+// Whether a text has these lexemes.
+fn has_lexemes(alloc: Global, text: &[u8], want: &str) -> Result<bool, Memory> {
+    match tokens(alloc, text) {
+        Ok(lexemes) => are_told(alloc, lexemes.as_slice(), want),
+        Err(LexFault::Memory) => Err(Memory),
+        Err(_) => Ok(false),
+    }
+}
+
+// The name and the place of the fault of a text.
+fn fault_of(alloc: Global, text: &[u8]) -> Result<(&'static str, usize), Memory> {
+    match tokens(alloc, text) {
+        Ok(_) => Ok(("none", 0)),
+        Err(LexFault::BadByte(place)) => Ok(("BadByte", place)),
+        Err(LexFault::OpenString(place)) => Ok(("OpenString", place)),
+        Err(LexFault::OpenComment(place)) => Ok(("OpenComment", place)),
+        Err(LexFault::TooBig(place)) => Ok(("TooBig", place)),
+        Err(LexFault::Memory) => Err(Memory),
+    }
+}
+
+// The values and places that the lexer of OCaml 4.13.1 gives, and by hand those of the forms that
+// are not OCaml's or not read so by it.
+static LEXEMES: [(&str, &str); 44] = [
     (
         "type t = A of int * string | B",
-        "Type @0+4;lower t @5+1;Equals @7+1;upper A @9+1;Of @11+2;lower int @14+3;Star @18+1;lower string @20+6;Bar @27+1;upper B @29+1;",
+        "Type @0+4;lower t @5+1;Equals @7+1;upper A @9+1;Of @11+2;lower int @14+3;Star @18+1;\
+        lower string @20+6;Bar @27+1;upper B @29+1;",
     ),
     (
         "and t_1 = {mutable x : a; y': _z}",
-        "And @0+3;lower t_1 @4+3;Equals @8+1;OpenBrace @10+1;Mutable @11+7;lower x @19+1;Colon @21+1;lower a @23+1;Semicolon @24+1;lower y' @26+2;Colon @28+1;lower _z @30+2;CloseBrace @32+1;",
+        "And @0+3;lower t_1 @4+3;Equals @8+1;OpenBrace @10+1;Mutable @11+7;lower x @19+1;\
+        Colon @21+1;lower a @23+1;Semicolon @24+1;lower y' @26+2;Colon @28+1;lower _z @30+2;\
+        CloseBrace @32+1;",
     ),
     ("type'", "lower type' @0+5;"),
     ("types", "lower types @0+5;"),
@@ -175,53 +177,54 @@ static OCAMLS: [(&str, &str); 33] = [
     ("x(*y*)z", "lower x @0+1;lower z @6+1;"),
     ("(***)1", "int plus 1 Absent @5+1;"),
     ("\t\r\n\u{c}x", "lower x @4+1;"),
-];
-
-// The forms that are not OCaml's or not read so by it, and faults at edges. By hand.
-static OWN: [(&[u8], &str); 22] = [
-    (b"'a 'b", "variable a @0+2;variable b @3+2;"),
-    (b"'type", "variable type @0+5;"),
-    (b"`A `b `type", "tag A @0+2;tag b @3+2;tag type @6+5;"),
-    (b"5list", "int plus 5 Int32 @0+2;lower ist @2+3;"),
-    (b"1_000", "int plus 1 Absent @0+1;lower _000 @1+4;"),
+    // Not OCaml's, or not read so by it.
+    ("'a 'b", "variable a @0+2;variable b @3+2;"),
+    ("'type", "variable type @0+5;"),
+    ("`A `b `type", "tag A @0+2;tag b @3+2;tag type @6+5;"),
+    ("5list", "int plus 5 Int32 @0+2;lower ist @2+3;"),
+    ("1_000", "int plus 1 Absent @0+1;lower _000 @1+4;"),
     (
-        b"-5 -0 0",
+        "-5 -0 0",
         "int minus -5 Absent @0+2;int minus 0 Absent @3+2;int plus 0 Absent @6+1;",
     ),
     (
-        b"-9223372036854775808n",
+        "-9223372036854775808n",
         "int minus -9223372036854775808 Native @0+21;",
     ),
     (
-        b"$FFFfffFFFfffFFFf0",
+        "$FFFfffFFFfffFFFf0",
         "double ffffffffffffffff @0+17;int plus 0 Absent @17+1;",
     ),
     (
-        b"||]|;:",
+        "||]|;:",
         "Bar @0+1;CloseArray @1+2;Bar @3+1;Semicolon @4+1;Colon @5+1;",
     ),
-    (b"*)", "Star @0+1;CloseParen @1+1;"),
-    (b"(* \" ' *)", ""),
-    (b"--1", "BadByte 0"),
-    (b"'\n'", "BadByte 0"),
-    (b"'A", "BadByte 0"),
-    (b"'a''", "BadByte 3"),
-    (b"\"\\25\"", "BadByte 2"),
-    (b"\"\\xg0\"", "BadByte 2"),
-    (b"\"a\\q", "BadByte 3"),
-    (b"\"a\nb\"", "OpenString 0"),
-    (b"x (* (* *)", "OpenComment 2"),
-    (b"x -9223372036854775809l", "TooBig 2"),
-    (b"\xc3\xa9", "BadByte 0"),
+    ("*)", "Star @0+1;CloseParen @1+1;"),
+    ("(* \" ' *)", ""),
+];
+
+// Faults at edges. By hand.
+static FAULTS: [(&[u8], (&str, usize)); 11] = [
+    (b"--1", ("BadByte", 0)),
+    (b"'\n'", ("BadByte", 0)),
+    (b"'A", ("BadByte", 0)),
+    (b"'a''", ("BadByte", 3)),
+    (b"\"\\25\"", ("BadByte", 2)),
+    (b"\"\\xg0\"", ("BadByte", 2)),
+    (b"\"a\\q", ("BadByte", 3)),
+    (b"\"a\nb\"", ("OpenString", 0)),
+    (b"x (* (* *)", ("OpenComment", 2)),
+    (b"x -9223372036854775809l", ("TooBig", 2)),
+    (b"\xc3\xa9", ("BadByte", 0)),
 ];
 
 #[test]
 fn lexemes_and_faults(rt: HostRuntime) -> Result<(), Fail> {
-    for (text, want) in &OCAMLS {
-        assert!(rt; is_told(rt.alloc(), text.as_bytes(), want)?);
+    for (text, want) in &LEXEMES {
+        assert!(rt; has_lexemes(rt.alloc(), text.as_bytes(), want)?);
     }
-    for (text, want) in &OWN {
-        assert!(rt; is_told(rt.alloc(), text, want)?);
+    for (text, want) in &FAULTS {
+        assert!(rt; fault_of(rt.alloc(), text)? == *want);
     }
     Ok(())
 }

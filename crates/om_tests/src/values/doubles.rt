@@ -1,8 +1,7 @@
 //! Of doubles as decimals: the texts that Python's `repr` gives, but for how an exponent, a whole
 //! number and what is no number are written.
 
-use om_decimal::{put_double, read_decimal};
-use om_decimal_texts::{given_place, put_decimal_text, put_plain};
+use om_decimal::put_double;
 use std::test::Fail;
 
 static TEXTS: [(u64, &str); 18] = [
@@ -33,30 +32,5 @@ fn doubles_have_their_texts(rt: HostRuntime) -> Result<(), Fail> {
         put_double(&mut text, *bits)?;
         assert!(rt; text.as_slice() == want.as_bytes());
     }
-    Ok(())
-}
-
-#[test]
-fn decimals_are_read(rt: HostRuntime) -> Result<(), Fail> {
-    assert!(rt; read_decimal(b"01.50e+3;") == Some((0x4097_7000_0000_0000, 8)));
-    assert!(rt; read_decimal(b"-1e-999 ") == Some((0x8000_0000_0000_0000, 7)));
-    assert!(rt; read_decimal(b"1e999") == Some((0x7ff0_0000_0000_0000, 5)));
-    assert!(rt; read_decimal(b"0.1.2") == Some((0x3fb9_9999_9999_999a, 3)));
-    assert!(rt; read_decimal(b"15").is_none());
-    assert!(rt; read_decimal(b".5").is_none());
-    Ok(())
-}
-
-static PLAIN: &[u8] = b"{ a = $3ff8000000000000; b = [ $7ff8000000000000 ] }";
-
-#[test]
-fn texts_have_decimals(rt: HostRuntime) -> Result<(), Fail> {
-    let mut text = Vec::new(rt.alloc());
-    put_decimal_text(rt.alloc(), &mut text, PLAIN)?;
-    assert!(rt; text.as_slice() == b"{ a = 1.5; b = [ $7ff8000000000000 ] }".as_slice());
-    let mut plain = Vec::new(rt.alloc());
-    put_plain(&mut plain, PLAIN, &[])?;
-    assert!(rt; plain.as_slice() == PLAIN);
-    assert!(rt; given_place(&[], 5) == 5);
     Ok(())
 }

@@ -17,10 +17,6 @@ use std::alloc::Global;
 pub(crate) const LIST: &[u8] =
     b"\x84\x95\xa6\xbe\0\0\0\x05\0\0\0\x02\0\0\0\x06\0\0\0\x06\xa0\x41\xa0\x42\x40";
 
-// The declaration of maps from strings, as the library of OCaml has it.
-pub(crate) const MAPS: &[u8] =
-    b"type 'a map = Empty | Node of {l: 'a map; v: string; d: 'a; r: 'a map; h: int}";
-
 // The table of a type over declarations.
 fn table_over(alloc: Global, decls: &[Decl], ty: &Ty) -> Result<Option<TypeTable>, Memory>
     requires well { AreWellFormed decls.now }

@@ -1,9 +1,13 @@
-//! One look at bytes: whether they begin with a value of a type.
+//! Looks at bytes, in one piece or two: whether they begin with a value of a type.
 
-use crate::values::given::{LIST, MAPS, table_in};
+ghost use Rattle.om_type_table.specs.Made.{table_of};
+ghost use Rattle.om_glance.specs.Glance.{IsGlance};
+
+use crate::values::given::{LIST, table_in};
 use om_glance::{Answer, Glance};
 use om_model::Memory;
 use om_pass::pass;
+use om_type_table::TypeTable;
 use std::alloc::Global;
 use std::test::Fail;
 
@@ -14,6 +18,10 @@ fn looked(alloc: Global, file: &[u8], text: &[u8], bytes: &[u8]) -> Result<Optio
         None => Ok(None),
     }
 }
+
+// The declaration of maps from strings, as the library of OCaml has it.
+const MAPS: &[u8] =
+    b"type 'a map = Empty | Node of {l: 'a map; v: string; d: 'a; r: 'a map; h: int}";
 
 // What OCaml writes for a map from one to four by their names.
 const MAP: &[u8] =
@@ -62,35 +70,30 @@ const NATIVE: &[u8] =
 const BLUE: &[u8] =
     b"\x84\x95\xa6\xbe\0\0\0\x07\0\0\0\x01\0\0\0\x03\0\0\0\x03\xa0\x02\x2b\xf2\x6e\xba\x43";
 
-// TYPE, bytes, and how many of them are the value, where they are one of the type and one look
-// shows it.
-static LOOKS: [(&[u8], &[u8], Option<usize>); 21] = [
-    (b"int list", LIST, Some(25)),
-    (b"bool list", LIST, None),
-    (b"string", TEXT, Some(23)),
-    (b"int", TEXT, None),
-    (b"int", LARGE, Some(25)),
-    (b"int", NEGATIVE, Some(25)),
-    (b"char", LARGE, None),
-    (b"int array", NOTHING, Some(21)),
-    (b"int list", NOTHING, None),
-    (b"float", DOUBLE, Some(29)),
-    (b"int32", DOUBLE, None),
-    (b"float array", DOUBLES, Some(46)),
-    (b"int array", DOUBLES, None),
-    (b"int32", INT32, Some(28)),
-    (b"int64", INT32, None),
-    (b"int64", INT64, Some(32)),
-    (b"nativeint", NATIVE, Some(29)),
-    (b"int32", NATIVE, None),
-    (b"[ `Red | `Blue of int ]", BLUE, Some(27)),
-    (b"[ `Red of int | `Blue ]", BLUE, None),
-    (b"string * string", TEXTS, Some(26)),
-];
-
-// FILE, TYPE, bytes, and the same. A record that is met at two types is shown where it is mutable
-// at neither.
-static LOOKS_OVER: [(&[u8], &[u8], &[u8], Option<usize>); 6] = [
+// FILE, TYPE, bytes, and how many of them are the value, where they are one of the type and one
+// look shows it. A record that is met at two types is shown where it is mutable at neither.
+static LOOKS: [(&[u8], &[u8], &[u8], Option<usize>); 27] = [
+    (b"", b"int list", LIST, Some(25)),
+    (b"", b"bool list", LIST, None),
+    (b"", b"string", TEXT, Some(23)),
+    (b"", b"int", TEXT, None),
+    (b"", b"int", LARGE, Some(25)),
+    (b"", b"int", NEGATIVE, Some(25)),
+    (b"", b"char", LARGE, None),
+    (b"", b"int array", NOTHING, Some(21)),
+    (b"", b"int list", NOTHING, None),
+    (b"", b"float", DOUBLE, Some(29)),
+    (b"", b"int32", DOUBLE, None),
+    (b"", b"float array", DOUBLES, Some(46)),
+    (b"", b"int array", DOUBLES, None),
+    (b"", b"int32", INT32, Some(28)),
+    (b"", b"int64", INT32, None),
+    (b"", b"int64", INT64, Some(32)),
+    (b"", b"nativeint", NATIVE, Some(29)),
+    (b"", b"int32", NATIVE, None),
+    (b"", b"[ `Red | `Blue of int ]", BLUE, Some(27)),
+    (b"", b"[ `Red of int | `Blue ]", BLUE, None),
+    (b"", b"string * string", TEXTS, Some(26)),
     (MAPS, b"int map", MAP, Some(56)),
     (MAPS, b"string map", MAP, None),
     (
@@ -119,37 +122,49 @@ static LOOKS_OVER: [(&[u8], &[u8], &[u8], Option<usize>); 6] = [
     ),
 ];
 
-#[test]
-fn one_look_types_a_value(rt: HostRuntime) -> Result<(), Fail> {
-    for (text, bytes, want) in &LOOKS {
-        assert!(rt; looked(rt.alloc(), b"", text, bytes)? == *want);
-    }
-    for (file, text, bytes, want) in &LOOKS_OVER {
-        assert!(rt; looked(rt.alloc(), file, text, bytes)? == *want);
-    }
-    Ok(())
-}
-
 // How many bytes are kept of the first of two pieces, how many of the second end the value, and
 // whether it has the type or one misfit, where neither piece has all of it.
+fn looked_on<'a>(
+    alloc: Global,
+    table: &'a TypeTable,
+    glance: &mut Glance<'a>,
+    first: &[u8],
+    second: &[u8],
+) -> Result<Option<(usize, usize, bool)>, Memory>
+    requires glance { IsGlance (table_of table.now) 1000 glance.old }
+{
+    let Answer::More = glance.feed(alloc, table, 1000, first)? else {
+        return Ok(None);
+    };
+    let kept = glance.kept().len();
+    match glance.feed(alloc, table, 1000, second)? {
+        Answer::Typed(n) => Ok(Some((kept, n, true))),
+        Answer::Missed(n) => Ok(Some((kept, n, false))),
+        Answer::More | Answer::Untold => Ok(None),
+    }
+}
+
+// The same of a look that begins with the first piece.
 fn looked_in_two(
+    alloc: Global,
+    table: &TypeTable,
+    first: &[u8],
+    second: &[u8],
+) -> Result<Option<(usize, usize, bool)>, Memory> {
+    let mut glance = Glance::new(alloc);
+    looked_on(alloc, table, &mut glance, first, second)
+}
+
+// The same at the type of a text.
+fn looked_in_two_at(
     alloc: Global,
     text: &[u8],
     first: &[u8],
     second: &[u8],
 ) -> Result<Option<(usize, usize, bool)>, Memory> {
-    let Some(table) = table_in(alloc, b"", text)? else {
-        return Ok(None);
-    };
-    let mut glance = Glance::new(alloc);
-    let Answer::More = glance.feed(alloc, &table, 1000, first)? else {
-        return Ok(None);
-    };
-    let kept = glance.kept().len();
-    match glance.feed(alloc, &table, 1000, second)? {
-        Answer::Typed(n) => Ok(Some((kept, n, true))),
-        Answer::Missed(n) => Ok(Some((kept, n, false))),
-        Answer::More | Answer::Untold => Ok(None),
+    match table_in(alloc, b"", text)? {
+        Some(table) => looked_in_two(alloc, &table, first, second),
+        None => Ok(None),
     }
 }
 
@@ -196,9 +211,12 @@ static LOOKS_IN_TWO: [(&[u8], &[u8], &[u8], Option<(usize, usize, bool)>); 6] = 
 ];
 
 #[test]
-fn a_look_goes_on_in_the_next_piece(rt: HostRuntime) -> Result<(), Fail> {
+fn values_are_typed_by_looks(rt: HostRuntime) -> Result<(), Fail> {
+    for (file, text, bytes, want) in &LOOKS {
+        assert!(rt; looked(rt.alloc(), file, text, bytes)? == *want);
+    }
     for (text, first, second, want) in &LOOKS_IN_TWO {
-        assert!(rt; looked_in_two(rt.alloc(), text, first, second)? == *want);
+        assert!(rt; looked_in_two_at(rt.alloc(), text, first, second)? == *want);
     }
     Ok(())
 }
