@@ -21,6 +21,8 @@ import sys
 RUNS = int(os.environ.get("RUNS", "7"))
 LIMIT = int(os.environ.get("LIMIT", "20"))
 PARTS = ("reading", "checking", "real", "showing", "editing", "types")
+if len(sys.argv) < 2:
+    sys.exit("usage: benchmark.py FOLDER [PART ..]; benchmark.sh calls it")
 folder = sys.argv[1]
 parts = sys.argv[2:] or PARTS
 if not set(parts) <= set(PARTS):

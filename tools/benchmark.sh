@@ -4,7 +4,7 @@
 #
 #     tools/benchmark.sh [PROGRAM [PART ..]]
 #
-# PROGRAM is by default the one that `./omarshal` or `rt run` built. PART is `reading`, `checking`, `real`, `showing`, `editing`
+# PROGRAM is by default the one that `./omarshal` built. PART is `reading`, `checking`, `real`, `showing`, `editing`
 # or `types`; by default it is each of them. RUNS=3 before the command makes three runs of each, not seven; LIMIT=60 lets one take 60 s, not 20.
 set -eu
 if ! command -v ocaml >/dev/null 2>&1; then
@@ -19,7 +19,7 @@ here=$(cd "$(dirname "$0")" && pwd)
 program=${1:-$here/../crates/omarshal/out/omarshal}
 [ $# -eq 0 ] || shift
 if [ ! -x "$program" ]; then
-    echo "there is no program $program: build it with rt run"
+    echo "there is no program $program: ./omarshal builds it"
     exit 2
 fi
 work=$(mktemp -d)

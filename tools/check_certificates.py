@@ -189,6 +189,9 @@ def main():
     if not folder and not shutil.which("ocamlc"):
         print("skipped: no ocamlc")
         return 0
+    if not os.access(program, os.X_OK):
+        print(f"there is no program {program}: ./omarshal builds it")
+        return 2
     work = tempfile.mkdtemp()
     try:
         os.chdir(work)

@@ -136,7 +136,7 @@ def verify(table, certificate, data, read=read_value):
 
 
 def main(words):
-    refuse_if(len(words) != 3, "FILE TYPE CERT")
+    refuse_if(len(words) != 3, "usage")
     with open(words[0], encoding="latin-1") as file, open(words[2], "rb") as certificate:
         table = Table(*read_type(Declarations(file.read()), words[1]))
         return verify(table, certificate.read(), sys.stdin.buffer.read())
