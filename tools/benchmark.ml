@@ -4,6 +4,7 @@
    writes each value that it reads. *)
 
 module Strings = Map.Make (String)
+module Ints = Set.Make (Int)
 
 type mixed = Leaf | Node of mixed * string * float * mixed
 
@@ -120,6 +121,26 @@ let syntax count =
   in
   List.init count tree
 
+(* Integers, each with a word. *)
+let hashtbl count =
+  let table = Hashtbl.create 16 in
+  List.iter (fun k -> Hashtbl.add table k (word ())) (list count);
+  table
+
+let set count = Ints.of_list (list count)
+
+(* Sets of five integers. *)
+let sets count =
+  List.init count (fun k -> Ints.of_list (List.init 5 (fun i -> (7 * k) + i)))
+
+(* One set, where two are asked for. *)
+let twice count =
+  let one = set count in
+  (one, one)
+
+(* Trees, and two integers where trees are asked for. *)
+let strays count = syntax count @ Obj.magic [ 1; 2 ]
+
 (* Blocks each of which has the next one twice. *)
 let rec doubling count =
   if count = 0 then End
@@ -144,10 +165,24 @@ let write file shape count =
   | "syntax" -> put (syntax count)
   | "doubling" -> put (doubling count)
   | "shared" -> put (shared count)
+  | "hashtbl" -> put (hashtbl count)
+  | "set" -> put (set count)
+  | "sets" -> put (sets count)
+  | "twice" -> put (twice count)
+  | "strays" -> put (strays count)
   | "references" -> put (Array.make count (ref 0))
   | "values" ->
       for k = 1 to count do
         put (k, string_of_int k)
+      done
+  | "cells" ->
+      for k = 1 to count do
+        put [ k ]
+      done
+  | "clashes" ->
+      for k = 1 to count do
+        let cell = ref k in
+        put (cell, cell)
       done
   | _ -> exit 2);
   close_out out
@@ -157,7 +192,7 @@ let read file =
   let rec next () =
     match (input_value input : Obj.t) with
     | value ->
-        print_endline (if Obj.is_int value then "an integer" else "a block");
+        print_string (if Obj.is_int value then "an integer\n" else "a block\n");
         next ()
     | exception End_of_file -> ()
   in

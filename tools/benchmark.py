@@ -1,15 +1,18 @@
-"""Runs omarshal and OCaml's reader in turn on the same files, and omarshal on declarations, and prints tables for Markdown.
+"""Runs omarshal on files that OCaml wrote, in turn with OCaml's reader where it does such work, and prints tables for Markdown.
 
     python3 benchmark.py FOLDER [PART ..]
 
-PART is `reading`, `checking`, `real`, `showing`, `editing` or `types`; with none it is each of them. Time is the median of the processor time (user and
-system) of some runs of the whole process; memory is the greatest resident set. The system counts to a process what this
-script held when it started it: smaller amounts than that are not told apart. Instructions are those of user code for each
-object of a value, by valgrind's callgrind: the difference of two sizes.
+PART is the name of a function of WORK, at the end; with none it is each of them. Time is the median of the processor time
+(user and system) of some runs of the whole process; memory is the greatest resident set. The system counts to a process what
+this script held when it started it: smaller amounts than that are not told apart. Instructions are those of user code for
+each object of a value, by valgrind's callgrind: the difference of two sizes.
 """
 
+import collections
 import filecmp
+import itertools
 import os
+import random
 import re
 import resource
 import shutil
@@ -20,13 +23,9 @@ import sys
 
 RUNS = int(os.environ.get("RUNS", "7"))
 LIMIT = int(os.environ.get("LIMIT", "20"))
-PARTS = ("reading", "checking", "real", "showing", "editing", "types")
 if len(sys.argv) < 2:
     sys.exit("usage: benchmark.py FOLDER [PART ..]; benchmark.sh calls it")
-folder = sys.argv[1]
-parts = sys.argv[2:] or PARTS
-if not set(parts) <= set(PARTS):
-    sys.exit(f"the parts are {', '.join(PARTS)}")
+folder, parts = sys.argv[1], sys.argv[2:]
 THEIRS = ["./reader", "read"]
 THEIR_COPY = ["./reader", "copy"]
 SMALL_STACK = ["sh", "-c", 'ulimit -s 128; exec "$@"', ""]
@@ -38,14 +37,15 @@ SHAPES = {
     "mixed": (1_000_000, "mixed"),
     "floats": (2_000_000, "float list"),
     "json": (300_000, "json"),
-    "values": (500_000, "int * string"),
+    "hashtbl": (500_000, "(int, string) hashtbl"),
     "graph": (1_000_000, "node array"),
     "nested": (1_000_000, "nested"),
     "syntax": (75_000, "expression list"),
+    "values": (500_000, "int * string"),
 }
 
 # Files of the installed compiler: the values with these numbers of each file with this ending, joined to one stream, and
-# their type over a type file of examples/, or `int`, where there is none.
+# their type over a type file of examples/.
 REAL = (
     (".cmi", 0, "cmi.types", "string * types_signature"),
     (".cmi", 1, "cmi.types", "misc_crcs"),
@@ -57,22 +57,32 @@ REAL = (
     (".cmti", -1, "cmt.types", "cmt_format_cmt_infos"),
 )
 
-# Values that are deep, for a small stack.
-DEEP = (("nested", 1_000_000), ("list", 1_000_000), ("mixed", 1_000_000))
+Ran = collections.namedtuple("Ran", "seconds peak status line put")
 
 
-def ours(ty, declarations="benchmark.types", command="check"):
-    """The words that check at a type, or show at it."""
+def ours(ty, command="check", declarations="benchmark.types"):
+    """The words of a command at a type."""
     return ["./omarshal", command, declarations, ty]
+
+
+def inside(name):
+    """The path of a file of the folder."""
+    return os.path.join(folder, name)
 
 
 def file_of(shape, count):
     """The path of the file of a shape, which is written where it is missing."""
-    path = os.path.join(folder, f"{shape}_{count}")
+    path = inside(f"{shape}_{count}")
     if not os.path.exists(path):
         written = ["sh", "-c", 'ulimit -s unlimited 2>/dev/null; exec "$@"', "", "./reader", "write", path, shape, str(count)]
         subprocess.run(written, cwd=folder, check=True)
     return path
+
+
+def large(shape):
+    """The name of the large file of a shape, its path and its type."""
+    count, ty = SHAPES[shape]
+    return f"{shape}_{count}", file_of(shape, count), ty
 
 
 def words_of(path):
@@ -86,36 +96,36 @@ def words_of(path):
     return words, objects
 
 
-def values_in(whole):
-    """The values of a compiler's file: those that stand one after another behind a magic of 12 bytes, of which a .cmt may
-    have two; or the one at the end, whose place four bytes tell."""
-    place, found = 0, []
-    while place < len(whole):
-        if whole[place : place + 4] == b"Caml":
-            kind, place = whole[place + 8 : place + 9], place + 12
-            if kind in (b"O", b"A"):
-                place = int.from_bytes(whole[place : place + 4], "big")
+def values_in(file):
+    """Where the values of a compiler's file begin and end: those that stand one after another behind a magic of 12 bytes, of
+    which a .cmt may have two; or the one at the end, whose place four bytes tell."""
+    found, place = [], 0
+    while len(header := os.pread(file.fileno(), 20, place)) >= 12:
+        if header[:4] == b"Caml":
+            place += 12
+            if header[8:9] in (b"O", b"A"):
+                place = int.from_bytes(header[12:16], "big")
             continue
-        if whole[place : place + 4] != b"\x84\x95\xa6\xbe":
+        if header[:4] != b"\x84\x95\xa6\xbe":
             break
-        end = place + 20 + int.from_bytes(whole[place + 4 : place + 8], "big")
-        found.append(whole[place:end])
+        end = place + 20 + int.from_bytes(header[4:8], "big")
+        found.append((place, end))
         place = end
     return found
 
 
 def joined(ending, number):
     """The path of a stream of one value of each file of the installed compiler with this ending, and how many there are."""
-    path, count = os.path.join(folder, f"{ending[1:]}_{number}"), 0
+    path, count = inside(f"{ending[1:]}_{number}"), 0
     library = subprocess.run(["ocamlc", "-where"], stdout=subprocess.PIPE, check=True).stdout.decode().strip()
     with open(path, "wb") as out:
-        for inside, _, names in sorted(os.walk(library)):
+        for below, _, names in sorted(os.walk(library)):
             for name in sorted(it for it in names if it.endswith(ending)):
-                with open(os.path.join(inside, name), "rb") as file:
-                    values = values_in(file.read())
-                if values:
-                    out.write(values[number])
-                    count += 1
+                with open(os.path.join(below, name), "rb") as file:
+                    if values := values_in(file):
+                        start, end = values[number]
+                        os.sendfile(out.fileno(), file.fileno(), start, end - start)
+                        count += 1
     return path, count
 
 
@@ -124,211 +134,353 @@ def limited():
     resource.setrlimit(resource.RLIMIT_CPU, (LIMIT, LIMIT))
 
 
-def run(words, name):
-    """The processor seconds of one run, its greatest memory in MB, its status and its first line."""
-    said = os.path.join(folder, "said")
-    with open(name, "rb") as given, open(said, "wb") as out:
+def run(words, name, said="said"):
+    """One run on an input: its processor seconds, its greatest memory in MB, its status, how its first line begins, and how many
+    bytes it put."""
+    with open(name, "rb") as given, open(inside(said), "wb") as out:
         started = subprocess.Popen(words, stdin=given, stdout=out, stderr=out, cwd=folder, preexec_fn=limited)
         _, status, used = os.wait4(started.pid, 0)
         started.returncode = os.waitstatus_to_exitcode(status)
-    with open(said, "rb") as it:
-        line = it.readline(60).decode("latin-1").strip()
-    return used.ru_utime + used.ru_stime, used.ru_maxrss / 1024, started.returncode, line
+    with open(inside(said), "rb") as it:
+        line = it.readline(32).decode("latin-1").strip().replace("|", "\\|")
+    line += ".." if len(line) > 30 else ""
+    return Ran(used.ru_utime + used.ru_stime, used.ru_maxrss / 1024, started.returncode, line, os.path.getsize(inside(said)))
+
+
+def in_turn(*runs):
+    """Several runs, one after another and so some times: of each the median seconds and the greatest memory."""
+    done = zip(*([run(*it) for it in runs] for _ in range(RUNS)))
+    return [
+        them[-1]._replace(seconds=statistics.median(it.seconds for it in them), peak=max(it.peak for it in them)) for them in done
+    ]
 
 
 def instructions(words, name):
     """The instructions of user code of one run, by callgrind."""
-    traced = ["valgrind", "--tool=callgrind", f"--callgrind-out-file={os.path.join(folder, 'traced')}", *words]
+    traced = ["valgrind", "--tool=callgrind", f"--callgrind-out-file={inside('traced')}", *words]
     with open(name, "rb") as given:
         told = subprocess.run(traced, stdin=given, stdout=subprocess.DEVNULL, stderr=subprocess.PIPE, cwd=folder, check=False)
     return int(re.search(r"Collected : (\d+)", told.stderr.decode()).group(1))
 
 
-def an_object(ty, shape):
-    """The instructions for each object, of omarshal and of OCaml, as a text."""
+def an_object(shape, *commands):
+    """The instructions for each object of a shape, of each command, which gives its words for a file."""
     if not shutil.which("valgrind"):
-        return "-", "-"
-    few, many = file_of(shape, 20_000), file_of(shape, 40_000)
+        return ["-"] * len(commands)
+    few, many = (file_of(shape, SHAPES[shape][0] // part) for part in (100, 50))
     objects = words_of(many)[1] - words_of(few)[1]
-    return tuple(
-        f"{(instructions([*words, *last(many)], many) - instructions([*words, *last(few)], few)) / objects:.0f}"
-        for words, last in ((ours(ty), lambda path: []), (THEIRS, lambda path: [path]))
-    )
+    return [f"{(instructions(words(many), many) - instructions(words(few), few)) / objects:.0f}" for words in commands]
 
 
-FLOOR = run(["true"], os.devnull)[1] + 0.5
+FLOOR = run(["true"], os.devnull).peak + 1.5
 
 
-def memory(amount):
-    """The text of an amount in MB."""
-    return f"{amount:.0f}" if amount > FLOOR else f"below {FLOOR:.0f}"
+def memory(ran):
+    """The text of the memory of a run in MB."""
+    return f"{ran.peak:.0f}" if ran.peak > FLOOR else f"below {FLOOR:.0f}"
 
 
-def row(shape, count, ty, traced):
-    """One row of a table: the two programs in turn on one file."""
-    path = file_of(shape, count)
-    pairs = [(run(ours(ty), path), run([*THEIRS, path], path)) for _ in range(RUNS)]
-    first = [pair[0] for pair in pairs]
-    second = [pair[1] for pair in pairs]
-    seconds = statistics.median(it[0] for it in first), statistics.median(it[0] for it in second)
-    peaks = max(it[1] for it in first), max(it[1] for it in second)
-    counted = an_object(ty, shape) if traced else ("", "")
-    words, _ = words_of(path)
-    print(
-        f"| {shape}_{count} | {os.path.getsize(path)} | {words} | {seconds[0]:.3f} | {seconds[1]:.3f} | {seconds[0] / seconds[1]:.2f} "
-        f"| {counted[0]} | {counted[1]} | {memory(peaks[0])} | {memory(peaks[1])} | {peaks[0] / peaks[1]:.2f} | {first[-1][2]}: {first[-1][3]} |",
-        flush=True,
-    )
+def seconds(ran):
+    """The text of the seconds of a run."""
+    return f"{ran.seconds:.3f}"
 
 
-def heading(text):
+def ratio(first, second):
+    """How many times as long the first of two runs took."""
+    return f"{first.seconds / second.seconds:.2f}"
+
+
+def beside(mine, theirs):
+    """The cells of two runs side by side."""
+    share = f"{mine.peak / theirs.peak:.2f}" if theirs.peak > FLOOR else ""
+    return seconds(mine), seconds(theirs), ratio(mine, theirs), memory(mine), memory(theirs), share
+
+
+BESIDE = "omarshal s", "OCaml s", "ratio", "omarshal MB", "OCaml MB", "ratio"
+
+
+def said(ran):
+    """The status of a run, and how its first line begins, where that is text."""
+    return f"{ran.status}: {ran.line if ran.line.isascii() and ran.line.isprintable() and ran.line else f'{ran.put} bytes'}"
+
+
+def line(*cells):
+    """A line of a table."""
+    print(f"| {' | '.join(str(it) for it in cells)} |", flush=True)
+
+
+def table(text, *columns):
     """The head of a table."""
-    print()
-    print(text)
-    print()
-    print("| file | bytes | words | omarshal s | OCaml s | ratio | instructions an object | OCaml's | omarshal MB | OCaml MB | ratio | status and line |")
-    print("|---|---|---|---|---|---|---|---|---|---|---|---|")
+    print(f"\n{text}\n")
+    line(*columns)
+    print("|---" * len(columns) + "|")
 
 
-def alone(text, words, path):
-    """A line on one run that is not compared."""
-    seconds, peak, status, line = run(words, path)
-    print(f"| {text} | {seconds:.3f} | {memory(peak)} | {status}: {line} |", flush=True)
+def alone(text, rows):
+    """A table of runs that are not compared."""
+    table(text, "what", "omarshal s", "omarshal MB", "status and line")
+    for what, words, path in rows:
+        (ran,) = in_turn((words, path))
+        line(what, seconds(ran), memory(ran), said(ran))
 
 
-def alone_heading(text):
-    """The head of a table of such lines."""
-    print()
-    print(text)
-    print()
-    print("| what | omarshal s | omarshal MB | status and line |")
-    print("|---|---|---|---|")
+def compared(text, command, types):
+    """A table of a command on the large files at types, beside OCaml's reader."""
+    table(text, "file", *BESIDE, "instructions an object", "OCaml's")
+    for shape, ty in types.items():
+        name, path, _ = large(shape)
+        words = ours(ty, command)
+        mine, theirs = in_turn((words, path), ([*THEIRS, path], path))
+        assert mine.status == (command == "show"), said(mine)
+        line(name, *beside(mine, theirs), *an_object(shape, lambda _: words, lambda it: [*THEIRS, it]))
+
+
+def inputs():
+    """The large files."""
+    table("The large files:", "file", "bytes", "words", "objects", "type")
+    for shape in SHAPES:
+        name, path, ty = large(shape)
+        line(name, os.path.getsize(path), *words_of(path), f"`{ty}`")
 
 
 def reading():
-    """At the type `int`, where the check of a block ends at its root."""
-    heading("At the type `int`, where the check of a block ends at its root:")
-    for shape, (count, _) in SHAPES.items():
-        row(shape, count, "int", True)
-    heading("Lists of growing length, at the type `int`:")
+    """`show` at the type `int`: it reads a value into a heap, and the check of a block ends at its root."""
+    compared("`show` at `int`, which reads and ends at the root:", "show", {it: "int" for it in SHAPES})
+
+
+def checking():
+    """At the types of the values, where each object is checked."""
+    compared("`check` at the types of the values:", "check", {it: ty for it, (_, ty) in SHAPES.items()})
+
+
+def real():
+    """Files that the benchmark's makers did not choose: all that the installed compiler brings."""
+    text = "One value of each file of the installed compiler, joined by kind, in turn with OCaml's reader:"
+    table(text, "values of", "type", "values", "bytes", *BESIDE, "yes")
+    for ending, number, declarations, ty in REAL:
+        path, count = joined(ending, number)
+        if not count:
+            continue
+        words = ours(ty, declarations=declarations)
+        theirs, mine = in_turn(([*THEIRS, path], path), (words, path))
+        with open(inside("said"), "rb") as it:
+            well = sum(text == b"yes\n" for text in it)
+        which = "the last" if number < 0 else f"number {number + 1}"
+        line(f"{ending}, {which}", f"`{ty}`", count, os.path.getsize(path), *beside(mine, theirs), well)
+
+
+def changed(shape):
+    """A copy of the large file of a shape whose last byte, a constant, is another constant."""
+    path = inside(f"{shape}_changed")
+    shutil.copy(large(shape)[1], path)
+    with open(path, "r+b") as it:
+        it.seek(-1, os.SEEK_END)
+        it.write(b"\x41")
+    return path
+
+
+def missing():
+    """What the pass over the bytes does not answer with yes, beside OCaml's reading of the same file."""
+    name, syntax, ty = large("syntax")
+    rows = [
+        (f"`trees` of {name}", ours(ty, "trees"), syntax),
+        ("`get` of its part `.0`", [*ours(ty, "get"), ".0"], syntax),
+    ]
+    for shape in ("syntax", "mixed", "json", "list"):
+        rows.append((f"`check` of {large(shape)[0]}, its last byte changed", ours(SHAPES[shape][1]), changed(shape)))
+    rows += [
+        ("`check` of list_5000000 at `bool list`", ours("bool list"), large("list")[1]),
+        ("`check` of values_500000 at `int * int`", ours("int * int"), large("values")[1]),
+        ("`check` of strays_75000, trees and two integers", ours(ty), file_of("strays", 75_000)),
+        ("`check` of clashes_200000 at `int ref * char ref`", ours("int ref * char ref"), file_of("clashes", 200_000)),
+        ("`check` of twice_1000000, one set at two types", ours("int set * other"), file_of("twice", 1_000_000)),
+    ]
+    table("Where the pass does not answer:", "what", *BESIDE, "status and line")
+    for what, words, path in rows:
+        mine, theirs = in_turn((words, path), ([*THEIRS, path], path))
+        line(what, *beside(mine, theirs), said(mine))
+
+
+def growing():
+    """Lists of growing length, to 10^8 words."""
+    columns = "OCaml s", "read s", "ratio", "check s", "ratio", "OCaml MB", "read MB", "check MB"
+    table("Reading (`show` at `int`) and `check` at `int list`:", "file", "words", *columns)
     for count in (33_000, 330_000, 3_300_000, 33_000_000):
-        row("list", count, "int", False)
-    alone_heading("With a stack of 128 kB:")
-    alone("nested_1000000 at `int`", [*SMALL_STACK, *ours("int")], file_of("nested", 1_000_000))
+        path = file_of("list", count)
+        commands = [*THEIRS, path], ours("int", "show"), ours("int list")
+        done = theirs, read, checked = in_turn(*((words, path) for words in commands))
+        times = seconds(theirs), seconds(read), ratio(read, theirs), seconds(checked), ratio(checked, theirs)
+        line(f"list_{count}", words_of(path)[0], *times, *map(memory, done))
 
 
 def at_many_types(types):
     """Declarations of so many types of one representation, and of a record with a list of each."""
     names = range(types)
-    path = os.path.join(folder, f"many_{types}.types")
+    path = inside(f"many_{types}.types")
     with open(path, "w", encoding="ascii") as out:
         out.write("".join(f"type t{k} = A{k} of int\n" for k in names))
         out.write("type record = {" + "; ".join(f"f{k} : t{k} list" for k in names) + "}\n")
     return path
 
 
-def checking():
-    """At the types of the values, where each object is checked."""
-    heading("At the types of the values:")
-    for shape, (count, ty) in SHAPES.items():
-        row(shape, count, ty, True)
-    heading("Lists of growing length, at the type `int list`:")
-    for count in (33_000, 330_000, 3_300_000, 33_000_000):
-        row("list", count, "int list", False)
-    alone_heading("Sharing, and objects at many types:")
-    alone("60 blocks, each twice in the one before, at `doubling`", ours("doubling"), file_of("doubling", 60))
-    for elements in (1, 10, 100, 1_000):
-        words = ours("record", at_many_types(1_000))
-        alone(f"one list of {elements} blocks, at 1,000 types each", words, file_of("shared", elements))
-    alone_heading("With a stack of 128 kB:")
-    for shape, count in DEEP:
-        words = [*SMALL_STACK, *ours(SHAPES[shape][1])]
-        alone(f"{shape}_{count} at `{SHAPES[shape][1]}`", words, file_of(shape, count))
-
-
-def real():
-    """Files that the benchmark's makers did not choose: all that the installed compiler brings."""
-    print()
-    print("One value of each file of the installed compiler, joined by kind, in turn with OCaml's reader:")
-    print()
-    print("| values of | type | values | bytes | omarshal s | OCaml s | ratio | omarshal MB | OCaml MB | ratio | yes |")
-    print("|---|---|---|---|---|---|---|---|---|---|---|")
-    for ending, number, declarations, ty in REAL:
-        path, count = joined(ending, number)
-        if not count:
-            continue
-        pairs = [(run(ours(ty, declarations), path), run([*THEIRS, path], path)) for _ in range(RUNS)]
-        seconds = [statistics.median(pair[who][0] for pair in pairs) for who in (0, 1)]
-        peaks = [max(pair[who][1] for pair in pairs) for who in (0, 1)]
-        run(ours(ty, declarations), path)
-        with open(os.path.join(folder, "said"), "rb") as said:
-            well = sum(line == b"yes\n" for line in said)
-        print(
-            f"| {ending}, {'the last' if number < 0 else f'number {number + 1}'} | `{ty}` | {count} | {os.path.getsize(path)} "
-            f"| {seconds[0]:.3f} | {seconds[1]:.3f} | {seconds[0] / seconds[1]:.2f} "
-            f"| {memory(peaks[0])} | {memory(peaks[1])} | {peaks[0] / peaks[1]:.2f} | {well} |",
-            flush=True,
-        )
-
-
-def timed(words, path):
-    """The median seconds of some runs, the greatest memory, and the bytes that are put."""
-    done = [run(words, path) for _ in range(RUNS)]
-    put = os.path.getsize(os.path.join(folder, "said"))
-    return statistics.median(it[0] for it in done), max(it[1] for it in done), put
+def hostile():
+    """Sharing, objects at many types, and depth."""
+    many, array = ours("record", declarations=at_many_types(1_000)), "int ref array"
+    rows = [("`check` of 60 blocks, each twice in the one before", ours("doubling"), file_of("doubling", 60))]
+    for count in (10, 100, 1_000):
+        rows.append((f"`check` of one list of {count} blocks, at 1,000 types each", many, file_of("shared", count)))
+    rows.append(("`show` of an array that names one reference 10^6 times", ours(array, "show"), file_of("references", 1_000_000)))
+    for command, *last in (["check"], ["show"], ["edit", "/dev/null"]):
+        for shape in ("nested", "mixed"):
+            name, path, ty = large(shape)
+            rows.append((f"`{command}` of {name}, with a stack of 128 kB", [*SMALL_STACK, *ours(ty, command), *last], path))
+    alone("Sharing, objects at many types, and depth:", rows)
 
 
 def showing():
-    """As text, beside reading and checking, and as objects."""
-    print()
-    print("As text, in turn with reading (`check` at `int`), `check`, and `dump`:")
-    print()
-    print("| file | read s | check s | show s | of reading | of checking | text bytes | show MB | dump s | dump bytes | dump MB |")
-    print("|---|---|---|---|---|---|---|---|---|---|---|")
-    for shape, (count, ty) in SHAPES.items():
-        path = file_of(shape, count)
-        read, checked = timed(ours("int"), path)[0], timed(ours(ty), path)[0]
-        shown, peak, put = timed(ours(ty, command="show"), path)
-        dumped, dump_peak, dump_put = timed(["./omarshal", "dump"], path)
-        print(
-            f"| {shape}_{count} | {read:.3f} | {checked:.3f} | {shown:.3f} | {shown / read:.2f} | {shown / checked:.2f} | {put} | {memory(peak)} "
-            f"| {dumped:.3f} | {dump_put} | {memory(dump_peak)} |",
-            flush=True,
-        )
-    alone_heading("With a stack of 128 kB, and an array that names one reference 10^6 times:")
-    for shape, count in DEEP:
-        words = [*SMALL_STACK, *ours(SHAPES[shape][1], command="show")]
-        alone(f"show {shape}_{count} at `{SHAPES[shape][1]}`", words, file_of(shape, count))
-    alone("show references_1000000 at `int ref array`", ours("int ref array", command="show"), file_of("references", 1_000_000))
+    """As text and as objects, beside reading."""
+    columns = "read s", "show s", "ratio", "its bytes", "its MB", "dump s", "ratio", "its bytes", "its MB"
+    table("`show` and `dump`, in turn with reading (`show` at `int`):", "file", *columns)
+    for shape in SHAPES:
+        name, path, ty = large(shape)
+        commands = ours("int", "show"), ours(ty, "show"), ["./omarshal", "dump"]
+        read, *texts = in_turn(*((words, path) for words in commands))
+        line(name, seconds(read), *(it for ran in texts for it in (seconds(ran), ratio(ran, read), ran.put, memory(ran))))
+
+
+def puts(words, given, path):
+    """Whether a run puts the bytes of a file."""
+    run(words, given)
+    return "the same" if filecmp.cmp(path, inside("said"), shallow=False) else "DIFFER"
+
+
+# What a script does, the type, shape and count of its input, and its pieces.
+SCRIPTS = (
+    ("100,000 values, the last one set", "int list", "cells", 100_000, ["99999 set .0 = 7"]),
+    ("40,000 values, each set", "int list", "cells", 40_000, (f"{k} set .0 = 7\n" for k in range(40_000))),
+    ("one value, set by 100,000 lines", "int list", "cells", 1, (f"0 set .0 = {k}\n" for k in range(100_000))),
+    ("100,000 values, the last a copy of the first", "int list", "cells", 100_000, ["99999 graft . = 0 ."]),
+    ("40,000 values, the last a copy of each in turn", "int list", "cells", 40_000,
+     (f"39999 graft . = {k} .\n" for k in range(39_999))),
+    ("20,000 values, in each a part of the one before", "int list", "cells", 20_000,
+     (f"{k} graft .0 = {k - 1} .0\n" for k in range(1, 20_000))),
+    ("`Again(Again(..))`, 1,000,000 deep", "nested", "nested", 1,
+     itertools.chain(["0 set . = "], ("Again(" for _ in range(1_000_000)), ["Nothing"], (")" for _ in range(1_000_000)))),
+    ("a list of 1,000,000 integers", "int list", "cells", 1,
+     itertools.chain(["0 set . = "], (f"::({k}, " for k in range(1_000_000)), ["[]"], (")" for _ in range(1_000_000)))),
+)
+
+
+def scripts():
+    """What each script does, the words that take it, and its input."""
+    for what, ty, shape, count, pieces in SCRIPTS:
+        path = inside("script")
+        with open(path, "w", encoding="ascii") as out:
+            out.writelines(pieces)
+        yield what, [*SMALL_STACK, *ours(ty, "edit"), path], file_of(shape, count)
 
 
 def editing():
     """`edit` with an empty script, beside OCaml's reading and writing; what is put is the input, byte for byte."""
-    print()
-    print("With an empty script, in turn with OCaml's reading and writing:")
-    print()
-    print("| file | bytes | omarshal s | OCaml s | ratio | omarshal MB | OCaml MB | ratio | the bytes |")
-    print("|---|---|---|---|---|---|---|---|---|")
-    for shape, (count, ty) in SHAPES.items():
-        path = file_of(shape, count)
-        pairs = []
-        same = True
-        for _ in range(RUNS):
-            mine = run([*ours(ty, command="edit"), "/dev/null"], path)
-            same = same and filecmp.cmp(path, os.path.join(folder, "said"), shallow=False)
-            pairs.append((mine, run([*THEIR_COPY, path], path)))
-        seconds = [statistics.median(pair[who][0] for pair in pairs) for who in (0, 1)]
-        peaks = [max(pair[who][1] for pair in pairs) for who in (0, 1)]
-        print(
-            f"| {shape}_{count} | {os.path.getsize(path)} | {seconds[0]:.3f} | {seconds[1]:.3f} | {seconds[0] / seconds[1]:.2f} "
-            f"| {memory(peaks[0])} | {memory(peaks[1])} | {peaks[0] / peaks[1]:.2f} | {'the same' if same else 'DIFFER'} |",
-            flush=True,
+    table("With an empty script, in turn with OCaml's reading and writing:", "file", *BESIDE, "the bytes")
+    for shape in SHAPES:
+        name, path, ty = large(shape)
+        words = [*ours(ty, "edit"), "/dev/null"]
+        mine, theirs = in_turn((words, path), ([*THEIR_COPY, path], path))
+        line(name, *beside(mine, theirs), puts(words, path, path))
+    alone("Scripts and literals, with a stack of 128 kB:", scripts())
+
+
+def building():
+    """`build` of what `show` put, and of the same text with a blank more at its end, which `show` would not put."""
+    columns = "text bytes", "show s", "build s", "of showing", "show MB", "build MB", "of the text", "the bytes"
+    table("`build` of what `show` put, in turn with `show`:", "file", *columns, "with a blank s", "MB")
+    text, other = inside("text"), inside("other")
+    for shape, count in (("list", 1_000_000), ("string_map", 1_000_000), ("mixed", 1_000_000), ("list", 10_000_000)):
+        path, ty = file_of(shape, count), SHAPES[shape][1]
+        show, build = ours(ty, "show"), ours(ty, "build")
+        run(show, path, "text")
+        shutil.copy(text, other)
+        with open(other, "r+b") as it:
+            it.seek(-1, os.SEEK_END)
+            it.write(b" \n")
+        shown, built, read = in_turn((show, path), (build, text), (build, other))
+        size = os.path.getsize(text)
+        line(
+            f"{shape}_{count}", size, seconds(shown), seconds(built), ratio(built, shown), memory(shown), memory(built),
+            f"{built.peak * 2**20 / size:.1f}", puts(build, text, path), seconds(read), memory(read),
         )
-    alone_heading("With a stack of 128 kB:")
-    for shape, count in DEEP:
-        words = [*SMALL_STACK, *ours(SHAPES[shape][1], command="edit"), "/dev/null"]
-        seconds, peak, status, _ = run(words, file_of(shape, count))
-        print(f"| edit {shape}_{count} at `{SHAPES[shape][1]}` | {seconds:.3f} | {memory(peak)} | {status} |", flush=True)
+
+
+def certified(path, ty):
+    """The words that verify a file by its certificate, which is written."""
+    run([*ours(ty), "--cert"], path, "cert")
+    return [*ours(ty, "verify"), "cert"]
+
+
+def certificates():
+    """Certificates that are written and verified, beside `check`."""
+    columns = "bytes of CERT", "check s", "--cert s", "of check", "verify s", "of check", "check MB", "--cert MB", "verify MB"
+    table("Certificates, in turn with `check`:", "file", *columns, "instructions an object", "of --cert", "of verify")
+    for shape, count in (("list", 1_000_000), ("string_map", 1_000_000), ("mixed", 1_000_000), ("values", 200_000)):
+        path, ty = file_of(shape, count), SHAPES[shape][1]
+        commands = lambda _: ours(ty), lambda _: [*ours(ty), "--cert"], lambda it: certified(it, ty)
+        per_object = an_object(shape, *commands)
+        done = checked, put, verified = in_turn(*((words(path), path) for words in commands))
+        assert verified.status == 0, said(verified)
+        line(
+            f"{shape}_{count}", put.put, seconds(checked), seconds(put), ratio(put, checked), seconds(verified),
+            ratio(verified, checked), *map(memory, done), *per_object,
+        )
+    with open(inside("no_cert"), "wb") as it:
+        it.truncate(10**8)
+    words = [*ours("int list", "verify"), "no_cert"]
+    alone("A certificate that is none:", [("`verify`, by one line of 10^8 bytes", words, file_of("list", 20_000))])
+
+
+def trees():
+    """Sets and maps as search trees, beside `check` and OCaml's reading."""
+    columns = "check s", "trees s", "of check", "of OCaml", "trees MB", "OCaml MB"
+    table("`trees`, in turn with `check` and OCaml's reading:", "file", "type", *columns, "status and line")
+    for shape, count, ty in (
+        ("set", 1_000_000, "int set"),
+        ("string_map", 1_000_000, "int string_map"),
+        ("sets", 200_000, "int set list"),
+        ("twice", 1_000_000, "int set * other"),
+    ):
+        path = file_of(shape, count)
+        checked, judged, theirs = in_turn((ours(ty), path), (ours(ty, "trees"), path), ([*THEIRS, path], path))
+        times = seconds(checked), seconds(judged), ratio(judged, checked), ratio(judged, theirs)
+        line(f"{shape}_{count}", f"`{ty}`", *times, memory(judged), memory(theirs), said(judged))
+
+
+def headers(count, words, fields):
+    """The path of a file of so many headers, each of a value of so many words that begins with a block of so many fields, which
+    are the headers that follow: its other numbers are integers when they are read as fields."""
+    path, integers = inside(f"headers_{count}_{words}"), 0x40404040
+    with open(path, "wb") as out:
+        out.write(struct.pack(">5IBI", 0x8495A6BE, integers, integers, integers, words, 8, fields << 10) * count)
+    return path
+
+
+def places():
+    """`scan` of bytes that are hard on it, and bytes that are passed over."""
+    drawn, behind = random.Random(1), inside("behind")
+    with open(inside("random"), "wb") as out:
+        for _ in range(160):
+            out.write(drawn.randbytes(65_536))
+    with open(behind, "wb") as out, open(file_of("list", 1_000_000), "rb") as it:
+        out.seek(16_000_000)
+        shutil.copyfileobj(it, out)
+    scan, skip = ["./omarshal", "scan"], ["--skip", "16000000"]
+    alone("Where values stand:", (
+        ("`scan` of 10 MB of random bytes", scan, inside("random")),
+        ("of 5,000 headers, each read for 16,448 words", scan, headers(5_000, 0x4040, 400)),
+        ("of 10,000 such headers", scan, headers(10_000, 0x4040, 400)),
+        ("of 50 headers, each read for 4,210,752 words", scan, headers(50, 0x404040, 4_000_000)),
+        ("`check` of list_1000000 behind 16,000,000 bytes", [*ours("int list"), *skip], behind),
+        ("`edit` of the same", [*ours("int list", "edit"), "/dev/null", *skip], behind),
+    ))
 
 
 # Declarations of each size, and a type over them.
@@ -402,6 +554,23 @@ def differing(size):
     return ["type 'a t0 = [ `A ]", *(f"type 'a t{k} = {two.format(k - 1)}" for k in range(1, size + 1))], f"int t{size}"
 
 
+def extended(size):
+    """Polymorphic variants that have the tags of the one before and one more."""
+    return ["type t0 = [ `T0 ]", *(f"type t{k} = [ t{k - 1} | `T{k} ]" for k in range(1, size))], f"t{size - 1}"
+
+
+def all_extended(size):
+    """The same, and a record that reaches each."""
+    declared, _ = extended(size)
+    return [*declared, "type all = { " + "; ".join(f"f{k} : t{k}" for k in range(size)) + " }"], "all"
+
+
+def extended_with(size):
+    """The same, where the first one has a tag with a variable."""
+    included = (f"type 'a t{k} = [ 'a t{k - 1} | `T{k} ]" for k in range(1, size))
+    return ["type 'a t0 = [ `T0 of 'a ]", *included], f"int t{size - 1}"
+
+
 def kilobytes(size):
     """So many kilobytes of records of some thirty fields."""
     fields = "; ".join(f"field_number_{k} : {'(int * string) list' if k % 2 else 'float option'}" for k in range(27))
@@ -414,50 +583,44 @@ def declarations(size):
 
 
 TYPES = [
-    ("a chain of N records", chain, (7_500, 15_000, 30_000, 60_000)),
-    ("N constructors of 250 variants", constructors, (7_500, 15_000, 30_000, 60_000)),
-    ("one polymorphic variant of N tags", bracket, (1_250, 2_500, 5_000, 10_000)),
-    ("two groups of N variants", variants, (125, 250, 500, 1_000)),
-    ("two groups of N polymorphic variants, each with one tag of its own", brackets, (125, 250, 500, 1_000)),
-    ("two groups of N polymorphic variants, all equal", families, (125, 250, 500, 1_000)),
-    ("N pairs of the one before", pairs, (10, 20, 30, 40)),
-    ("N abbreviations of the one before, applied twice", applied, (10, 20, 30, 40)),
-    ("N polymorphic variants that include the one before twice", included, (10, 20, 30, 40)),
-    ("N polymorphic variants that include the one before at two arguments", differing, (10, 20, 30, 40)),
-    ("N kilobytes of records", kilobytes, (125, 250, 500, 1_000)),
-    ("N declarations", declarations, (1_250, 2_500, 5_000, 10_000)),
+    ("a chain of N records", chain, 30_000),
+    ("N constructors of 250 variants", constructors, 30_000),
+    ("one polymorphic variant of N tags", bracket, 5_000),
+    ("two groups of N variants", variants, 500),
+    ("two groups of N polymorphic variants, each with one tag of its own", brackets, 500),
+    ("two groups of N polymorphic variants, all equal", families, 500),
+    ("N pairs of the one before", pairs, 20),
+    ("N abbreviations of the one before, applied twice", applied, 20),
+    ("N polymorphic variants that include the one before twice", included, 20),
+    ("N that include the one before at two arguments", differing, 20),
+    ("N that include the one before and have one tag more", extended, 1_000),
+    ("the same, where TYPE reaches each", all_extended, 1_000),
+    ("the same, where the first tag has a variable", extended_with, 1_000),
+    ("N kilobytes of records", kilobytes, 500),
+    ("N declarations", declarations, 5_000),
 ]
 
 
 def types():
     """Declarations and types alone: no value is read."""
-    print()
-    print(f"Declarations and types without a value; a run ends after {LIMIT} s. Each cell is N: seconds, MB:")
-    print()
-    print("| declarations | | | | | growth of the last | status and line |")
-    print("|---|---|---|---|---|---|---|")
-    for name, make, sizes in TYPES:
-        cells, before, growth = [], None, ""
-        for size in sizes:
-            declared, ty = make(size)
-            path = os.path.join(folder, "declared.types")
+    table("Declarations and types without a value:", "declarations", "N", "s", "s at 2 N", "growth", "MB at 2 N", "status")
+    path = inside("declared.types")
+    for name, make, size in TYPES:
+        done = []
+        for count in (size, 2 * size):
+            declared, ty = make(count)
             with open(path, "w", encoding="ascii") as out:
-                out.write("\n".join(declared) + "\n")
-            done = [run(ours(ty, path), os.devnull)]
-            while len(done) < min(RUNS, 5) and done[0][0] < 2:
-                done.append(run(ours(ty, path), os.devnull))
-            _, peak, status, line = done[-1]
-            if status < 0:
-                cells.append(f"{size}: over {LIMIT} s, {memory(peak)}")
-                growth = ""
-                break
-            seconds = statistics.median(it[0] for it in done)
-            cells.append(f"{size}: {seconds:.3f}, {memory(peak)}")
-            growth = f"{seconds / before:.1f}" if before else ""
-            before = seconds
-        cells += [""] * (len(sizes) - len(cells))
-        print(f"| {name} | {' | '.join(cells)} | {growth} | {status}: {line} |", flush=True)
+                out.writelines(f"{it}\n" for it in declared)
+            done += in_turn((ours(ty, declarations=path), os.devnull))
+        once, twice = done
+        line(name, size, seconds(once), seconds(twice), ratio(twice, once), memory(twice), twice.status)
 
 
-for part in parts:
-    {"reading": reading, "checking": checking, "real": real, "showing": showing, "editing": editing, "types": types}[part]()
+WORK = (
+    inputs, reading, checking, real, missing, growing, hostile, showing, editing, building, certificates, trees, places, types,
+)
+PARTS = {it.__name__: it for it in WORK}
+if not set(parts) <= set(PARTS):
+    sys.exit(f"the parts are {', '.join(PARTS)}")
+for part in parts or PARTS:
+    PARTS[part]()

@@ -1,11 +1,13 @@
 #!/bin/sh
-# Measures how long omarshal takes to read, check, show and write again values that OCaml wrote, and how much memory, beside
-# OCaml's `input_value` and `output_value` on the same files; and how long it takes for declarations and types alone.
+# Measures how long omarshal takes, and how much memory, on files that OCaml wrote: beside OCaml's `input_value` and
+# `output_value` on the same files where these do such work, else beside another command; and on declarations alone.
+# It prints the tables of docs/BENCHMARKS.md.
 #
 #     tools/benchmark.sh [PROGRAM [PART ..]]
 #
-# PROGRAM is by default the one that `./omarshal` built. PART is `reading`, `checking`, `real`, `showing`, `editing`
-# or `types`; by default it is each of them. RUNS=3 before the command makes three runs of each, not seven; LIMIT=60 lets one take 60 s, not 20.
+# PROGRAM is by default the one that `./omarshal` built. PART is `inputs`, `reading`, `checking`, `real`, `missing`,
+# `growing`, `hostile`, `showing`, `editing`, `building`, `certificates`, `trees`, `places` or `types`; by default it is each
+# of them. RUNS=3 before the command makes three runs of each, not seven; LIMIT=60 lets one take 60 s, not 20.
 set -eu
 if ! command -v ocaml >/dev/null 2>&1; then
     echo "skipped: no ocaml"
