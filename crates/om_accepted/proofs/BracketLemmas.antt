@@ -6,7 +6,7 @@ use Rattle.std.proofs.lemmas.Option.{same_Some, none-some}
 use Rattle.std.proofs.lemmas.List.Elements.{Contains-append_left, Contains-append_right, Contains-append_cases}
 use Rattle.std.proofs.lemmas.Slice.Eq.{bytes_eq-Decides}
 use Rattle.om_model.proofs.Options.{true_or_not, Contains-first, Contains-none, slice_get-Contains}
-use Rattle.om_model.proofs.Lists.{slice_get-append_left, slice_get-last}
+use Rattle.om_model.proofs.Lists.{slice_get-append_left, slice_get-last, Contains-filter}
 use Rattle.om_types.specs.declared.decl.Decl.{Decl}
 use Rattle.om_types.specs.declared.head.HeadOf.{HeadOf}
 use Rattle.om_types.specs.declared.head.HeadOf.TheVariants as heads
@@ -18,7 +18,7 @@ use Rattle.om_types.specs.Occurrence.{Occurrence, PlacedItem, use_of, variable_a
 use Rattle.om_types.specs.Scope.{not_variant, hash_clash, decls_of, tags_of_item, BreaksIn}
 use Rattle.om_types.specs.Ty.{Ty, variable, named, tuple, bracket, part, tag, tag_of, including}
 use Rattle.om_types.specs.Ty.{parts}
-use Rattle.om_types.proofs.ListLemmas.{Contains-filtered, filtered-Contains}
+use Rattle.om_types.proofs.ListLemmas.{filtered-Contains}
 use Rattle.om_accepted.specs.Ranked.{Keeps}
 use Rattle.om_accepted.specs.Told.{Thing, bracket_thing, HasParts, HasItems, IsProper, items_of, own_thing, begins_as, things_inside, thing_of, IsTold, AllIsTold, TellsAll}
 use Rattle.om_accepted.specs.Brackets.{HeadsArePlain, BracketsAreSound}
@@ -28,7 +28,7 @@ use Rattle.om_accepted.specs.Brackets.{HeadsArePlain, BracketsAreSound}
 -- ---- the tags that items bring
 
 kept-all : {X : Type 0} (p : X → Bool) (xs : List X) (x : X) → ((y : X) → p y ≡ true) → Contains xs x → Contains (filter p xs) x
-kept-all p xs x all among = Contains-filtered p xs x among (all x)
+kept-all p xs x all among = Contains-filter p xs x among (all x)
 
 filtered-of : {X : Type 0} (p : X → Bool) (xs : List X) (x : X) → Contains (filter p xs) x → Contains xs x
 filtered-of p xs x among = (filtered-Contains p xs x among).0

@@ -67,7 +67,7 @@ some_below : (v : Literal) (n : ℕ) → FirstsBelow n (literal_nodes 0 v) → 0
 some_below (labelled l p) n h = plain_some p l n h
 some_below (again k) n h = h.0
 
-lexemes_some : (v : Literal) (lexemes : List Lexeme)
+pub lexemes_some : (v : Literal) (lexemes : List Lexeme)
     → literal_kinds v ≡ map (λ (l : Lexeme). l.kind) lexemes → lexemes ≢ []
 lexemes_some v lexemes spelled none =
     let some : 0 < length (literal_kinds v) =

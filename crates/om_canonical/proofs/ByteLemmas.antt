@@ -12,7 +12,7 @@ use Rattle.om_format.specs.Canonical.{signed_bytes, double_bytes}
 
 -- ---- the most significant first
 
-byte_at-is : (i n : ℕ) → byte_at i n ≡ n / 256 ^ i % 256
+pub byte_at-is : (i n : ℕ) → byte_at i n ≡ n / 256 ^ i % 256
 byte_at-is zero n = let e : n / 1 ≡ n = omega arith in sym (ap (λ m. m % 256) e)
 byte_at-is (suc i) n = refl
 

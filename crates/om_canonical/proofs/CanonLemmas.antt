@@ -14,7 +14,7 @@ use Rattle.om_format.specs.Token.{Token, integer, atom, shared, block, leaf, IsT
 use Rattle.om_format.specs.Tree.{Tree, Forest, node, none, more, trees_in, IsTree, AreTrees, tokens, forest_tokens, made, made_by, all_made, RefersBack, ReferBack, AllReferBack}
 use Rattle.om_format.specs.Spelled.{StatesWords32, SpelledUnder}
 use Rattle.om_format.specs.Canonical.{is_signed, signed_bytes, double_bytes, wide_integer, integer_spelling, block_word, block_spelling, string_front, shared_spelling, doubles_front, custom_spelling, leaf_spelling, spelling, header_spelling, data_spelling, is_big, canon}
-use Rattle.om_format.proofs.Counts.{length-object_of, objects-tokens}
+use Rattle.om_format.proofs.Counts.{length-object_of, objects-tokens, trees_in-le}
 use Rattle.om_canonical.specs.Laws.{LeafHasSpelling, HasSpelling}
 use Rattle.om_canonical.proofs.ListLemmas.{AllZip-append}
 use Rattle.om_canonical.proofs.SpellingLemmas.{spelling_spells_lem}
@@ -115,13 +115,6 @@ mutual
   all_made-le none h = omega arith
   all_made-le (more tree f) h = omega (arith, made-le tree h.0, all_made-le f h.1, length-append (tokens tree) (forest_tokens f))
 
-some_tokens : (tree : Tree) → 1 ≤ length (tokens tree)
-some_tokens (node t f) = omega arith
-
-trees_in-le : (f : Forest) → trees_in f ≤ length (forest_tokens f)
-trees_in-le none = omega arith
-trees_in-le (more tree f) = omega (arith, some_tokens tree, trees_in-le f, length-append (tokens tree) (forest_tokens f))
-
 -- ---- each token has a spelling
 
 pub length-doubles : (all : List ℕ) → length (flat_map double_bytes all) ≡ 8 * length all
@@ -167,7 +160,7 @@ mutual
 
 -- ---- the header and the data
 
-concat-spellings : (all : List Token) → concat (map spelling all) ≡ data_spelling all
+pub concat-spellings : (all : List Token) → concat (map spelling all) ≡ data_spelling all
 concat-spellings [] = refl
 concat-spellings (t ∷ all) = ap (λ rest. spelling t ++ rest) (concat-spellings all)
 

@@ -3,6 +3,7 @@ use Rattle.std.proofs.Common.{ℕ, zero, suc, ◌≡◌, ◌+◌, ◌<◌, ◌�
 use Rattle.std.proofs.lemmas.Option.{same_Some, none-some}
 use Rattle.std.specs.Prelude.{slice_get, Contains, IsSomeAnd}
 use Rattle.std.specs.List.{AllZip}
+pub use Rattle.om_model.proofs.Lists.{slice_get-append_right as slice_get_right}
 use Rattle.om_model.proofs.Options.{Contains-first, Contains-later, Contains-none, Contains-cases, same_or_not}
 
 -- ---- options
@@ -12,12 +13,6 @@ IsSomeAnd-weaker None P Q weaker holds = holds
 IsSomeAnd-weaker (Some x) P Q weaker holds = weaker x holds
 
 -- ---- what a list has
-
-pub slice_get_right : {X : Type 0} (xs ys : List X) (i : ℕ) → slice_get (xs ++ ys) (length xs + i) ≡ slice_get ys i
-slice_get_right [] ys i = ap (slice_get ys) (omega arith)
-slice_get_right (z ∷ xs) ys i =
-    let e : suc (length xs) + i ≡ suc (length xs + i) = omega arith in
-    rw e (slice_get_right xs ys i)
 
 -- one more at the end
 pub slice_get_push : (ks : List ℕ) (k : ℕ) → slice_get (ks ++ k ∷ []) (length ks) ≡ Some k

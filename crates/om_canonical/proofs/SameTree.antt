@@ -1,5 +1,5 @@
 -- Two trees whose values are the same are one tree.
-use Rattle.std.proofs.Common.{ℕ, ◌≡◌, ◌+◌, ◌-◌, ◌<◌, ◌≤◌, ◌∙◌, List, [], ◌∷◌, ◌++◌, length, Some, refl, sym, ap, ap₂, subst, inl, inr, arith, add-zero}
+use Rattle.std.proofs.Common.{ℕ, ◌≡◌, ◌+◌, ◌-◌, ◌<◌, ◌≤◌, ◌∙◌, List, ◌∷◌, ◌++◌, length, Some, refl, sym, ap, ap₂, subst, inl, inr, arith, add-zero}
 use Rattle.std.specs.Prelude.{slice_get, Contains}
 use Rattle.std.specs.List.{AllZip}
 use Rattle.std.proofs.lemmas.Option.{same_Some}
@@ -12,6 +12,7 @@ use Rattle.om_format.specs.Token.{Token, integer, atom, shared, block, leaf, IsL
 use Rattle.om_format.specs.Tree.{Tree, Forest, node, none, more, trees_in, IsTree, AreTrees, root, roots, made, made_by, all_made, object_of, objects_of, all_objects, ReferBack, AllReferBack}
 use Rattle.om_format.specs.Iso.{AreAlike, AreAlikeObjects, IsPairing, IsTreeOf}
 use Rattle.om_format.proofs.Counts.{leaf_fields, length-object_of, length-objects_of}
+pub use Rattle.om_format.proofs.Counts.{made_by_leaf}
 use Rattle.om_canonical.proofs.ListLemmas.{slice_get_right}
 use Rattle.om_canonical.proofs.IsoLemmas.{objects_of_pair, same_symmetric, same_transitive}
 
@@ -57,15 +58,12 @@ alike_leaf pairs (objects.Native z) b h alike = alike
 no_leaf_is_block : (a : Obj) (tag : ℕ) (values : List Val) → IsLeaf a → a ≡ objects.Block tag values → ⊥
 no_leaf_is_block a tag values h e = subst IsLeaf e h
 
-no_block_is_alike_leaf : (pairs : List (ℕ × ℕ)) (tag : ℕ) (values : List Val) (b : Obj) → IsLeaf b → AreAlikeObjects pairs (objects.Block tag values) b → ⊥
+pub no_block_is_alike_leaf : (pairs : List (ℕ × ℕ)) (tag : ℕ) (values : List Val) (b : Obj) → IsLeaf b → AreAlikeObjects pairs (objects.Block tag values) b → ⊥
 no_block_is_alike_leaf pairs tag values (objects.Block tag' values') h alike = h
 no_block_is_alike_leaf pairs tag values b h alike = alike
 
-pub made_by_leaf : (o : Obj) → IsLeaf o → made_by (leaf o) ≡ 1
-made_by_leaf o h = sym (length-object_of (leaf o) [] h)
-
 -- no trees
-none_from_count : (f : Forest) → trees_in f ≡ 0 → f ≡ none
+pub none_from_count : (f : Forest) → trees_in f ≡ 0 → f ≡ none
 none_from_count none e = refl
 none_from_count (more t f) e = absurd (omega arith)
 

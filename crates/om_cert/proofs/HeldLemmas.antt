@@ -1,15 +1,12 @@
 -- What the pairs of one object tell, where there are many of them too.
-use Rattle.std.proofs.Common.{ℕ, zero, suc, ◌<◌, ◌≤◌, ◌+◌, ◌-◌, ◌%◌, ◌≡◌, ◌∙◌, ◌⊎◌, ⊎_elim, inl, inr, Bool, true, false, cond, List, length, Some, refl, sym, ap, subst, arith}
+use Rattle.std.proofs.Common.{ℕ, ◌<◌, ◌≤◌, ◌+◌, ◌-◌, ◌%◌, ◌≡◌, ◌∙◌, ◌⊎◌, ⊎_elim, inl, inr, Bool, true, false, cond, List, length, Some, refl, sym, ap, subst, arith}
 use Rattle.std.specs.Prelude.{Contains, slice_get, IsTrue, ◌↔◌, ◌==◌, not}
 use Rattle.std.proofs.lemmas.Bool.Decides.{Decides-eqb}
 use Rattle.std.specs.BTreeMap.{is_at}
 use Rattle.std.specs.BTreeSet.{BTreeSet, contains, Updates}
-use Rattle.std.specs.Ordering.{is_eq, nat_cmp}
-use Rattle.std.specs.declared.cmp.Ordering.{Ordering}
-use Rattle.std.specs.declared.cmp.Ordering.TheVariants.{Less, Equal, Greater}
-use Rattle.std.proofs.lemmas.Bool.{false≢true}
+use Rattle.std.specs.Ordering.{is_eq}
+use Rattle.std.proofs.lemmas.Bool.{false≢true, cases_lt}
 use Rattle.std.proofs.lemmas.Cmp.{tied_itself, nat_cmp_total, on_total, then_total}
-use Rattle.std.proofs.lemmas.Map.Lookups.{exact_pairs, exact_unsigned}
 use Rattle.std.proofs.lemmas.Option.{same_Some, slice_get_within}
 use Rattle.om_model.proofs.Options.{slice_get-Contains, slice_get_there, same_or_not}
 use Rattle.om_model.specs.Graph.{IsValue, IsGraph}
@@ -22,7 +19,7 @@ use Rattle.om_model.proofs.Lists.{Contains-place as place_in}
 use Rattle.om_types.specs.Table.{Table, table_shapes}
 use Rattle.om_types.specs.Typing.{IsHeld, IsListed}
 use Rattle.om_section.specs.Increasing.{AreIncreasing}
-use Rattle.om_scan.proofs.SetLemmas.{cond_true, cond_kept}
+use Rattle.om_scan.proofs.SetLemmas.{same_pair, cond_true, cond_kept}
 use Rattle.om_cert.specs.Testing.{IsStart, IsPassing, IsSame, pair_cmp, AreCrowded, is_in, IsCrowd, IsAmongAt, IsElsewhere, IsSettled, StandsAt}
 
 -- two numbers differ by their test
@@ -33,14 +30,6 @@ differ a b = by_test (a == b) refl where
   by_test false is = (λ yes' same. false≢true (sym is ∙ (Decides-eqb a b).1 same), λ differs. ap not is)
 
 -- ---- the set
-
-equal_from : (o : Ordering) → is_eq o ≡ true → o ≡ Equal
-equal_from Less is = absurd (false≢true is)
-equal_from Equal is = refl
-equal_from Greater is = absurd (false≢true is)
-
-same_key : (k q : ℕ × ℕ) → is_at (pair_cmp k) q ≡ true → k ≡ q
-same_key k q is = exact_pairs nat_cmp nat_cmp exact_unsigned exact_unsigned k q (equal_from (pair_cmp k q) is)
 
 at_itself : (k : ℕ × ℕ) → is_at (pair_cmp k) k ≡ true
 at_itself k =
@@ -76,7 +65,7 @@ module _ (table : Table) (pairs : List (ℕ × ℕ)) where
   crowd_more i o t c old new crowd at_i class updates = record {
     some = λ p d is. ⊎_elim
         (λ same.
-        let key : ◌≡◌ {A = ℕ × ℕ} (o, c) (p, d) = same_key (o, c) (p, d) same in
+        let key : ◌≡◌ {A = ℕ × ℕ} (o, c) (p, d) = same_pair (o, c) (p, d) same in
         subst (λ (q : ℕ × ℕ). (u : ℕ) × Contains pairs (q.0, u) × (slice_get table.classes u ≡ Some q.1)) key
         (t, slice_get-Contains pairs i (o, t) at_i, class))
         (λ before. crowd.some p d before)
@@ -137,12 +126,7 @@ module _ (table : Table) (pairs : List (ℕ × ℕ)) where
           known : IsAmongAt table pairs object ty → is_in crowd object class
           known (u, there, equal) =
               let k = place_in pairs (object, u) there in
-              by_order k.0 k.1 (less_or k.0 at) where
-                less_or : (k n : ℕ) → (k < n) ⊎ (n ≤ k)
-                less_or k zero = inr (omega arith)
-                less_or zero (suc n) = inl (omega arith)
-                less_or (suc k) (suc n) = ⊎_elim (λ less. inl (omega (arith, less))) (λ more. inr (omega (arith, more))) (less_or k n)
-
+              by_order k.0 k.1 (cases_lt k.0 at) where
                 by_order : (k : ℕ) → slice_get pairs k ≡ Some (object, u) → (k < at) ⊎ (at ≤ k) → is_in crowd object class
                 by_order k at_k (inl before) = absurd (passing.none k u before at_k equal)
                 by_order k at_k (inr later) = behind u k at_k equal later

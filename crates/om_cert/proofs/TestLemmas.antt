@@ -1,7 +1,7 @@
 -- What is first wrong with a pair.
-use Rattle.std.proofs.Common.{ℕ, zero, suc, ◌≡◌, ◌<◌, ◌≤◌, ◌+◌, ◌∙◌, ◌⊎◌, ⊎_elim, inl, inr, Bool, List, [], ◌∷◌, length, Option, Some, None, refl, sym, ap, subst, arith}
+use Rattle.std.proofs.Common.{ℕ, zero, suc, ◌≡◌, ◌<◌, ◌≤◌, ◌+◌, ◌∙◌, ◌⊎◌, ⊎_elim, inl, inr, Bool, List, [], ◌∷◌, length, Option, Some, refl, sym, ap, subst, arith}
 use Rattle.std.specs.Prelude.{Contains, slice_get, option_map, IsSome, IsSomeAnd, IsTrue}
-use Rattle.std.proofs.lemmas.Option.{same_Some, none-some, slice_get_within}
+use Rattle.std.proofs.lemmas.Option.{same_Some, slice_get_within}
 use Rattle.om_model.proofs.Options.{slice_get-Contains, IsSomeAnd-at, same_or_not}
 use Rattle.om_model.specs.declared.value.Val.TheVariants as vals
 use Rattle.om_model.specs.declared.value.Obj.{Obj}
@@ -12,6 +12,7 @@ use Rattle.om_types.specs.Fault.{IsLexicallyBefore}
 use Rattle.om_types.specs.Table.{Table, table_shapes, node_or_none, is_asked_in}
 use Rattle.om_types.proofs.AskedLemmas.{need_typed, typed_needed}
 use Rattle.om_types.specs.Typing.{IsHeld}
+use Rattle.om_table.proofs.DecideLemmas.{numbers_same_or_not}
 use Rattle.om_heap.specs.Heap.{field_at}
 use Rattle.om_fits.specs.declared.needs.Needs.{Needs}
 use Rattle.om_fits.specs.Needs.{needs_in}
@@ -101,20 +102,11 @@ module _ (table : Table) (graph : List Obj) (pairs : List (ℕ × ℕ)) where
   does_fit o t shape answer needs at_type is some =
       subst IsSome (sym (ap (λ n. fields_of graph (vals.Ref o) (node_or_none n)) at_type ∙ (sym is ∙ ap (option_map needs_in) some))) refl
 
-  classes_same_or_not : (a b : Option ℕ) → (a ≡ b) ⊎ (a ≡ b → ⊥)
-  classes_same_or_not None None = inl refl
-  classes_same_or_not None (Some n) = inr (λ same. none-some n same)
-  classes_same_or_not (Some m) None = inr (λ same. none-some m (sym same))
-  classes_same_or_not (Some m) (Some n) = ⊎_elim
-      (λ same. inl (ap Some same))
-      (λ different. inr (λ same. different (same_Some m n same)))
-      (same_or_not m n)
-
   pub not_elsewhere : (o t : ℕ) → ¬ IsElsewhere table pairs o t → (u : ℕ) → Contains pairs (o, u) → (table_shapes table).equal t u
   not_elsewhere o t none u among = ⊎_elim
       (λ same. same)
       (λ different. absurd (none (u, among, different)))
-      (classes_same_or_not (slice_get table.classes t) (slice_get table.classes u))
+      (numbers_same_or_not (slice_get table.classes t) (slice_get table.classes u))
 
   pub mutable_is :
       (o t : ℕ) (shape : ShapeOf ℕ) (test : Bool) → slice_get table.nodes t ≡ Some shape → test ≡ is_mutable shape (slice_get graph o)

@@ -4,13 +4,15 @@ use Rattle.std.specs.Prelude.{slice_get, Contains}
 use Rattle.std.specs.List.{flat_map}
 use Rattle.std.proofs.lemmas.List.{take-append-le, take-append-drop}
 use Rattle.std.proofs.lemmas.List.Concat.{flat_map-append}
-use Rattle.std.proofs.lemmas.List.Elements.{Contains-append_left, Contains-append_right, Contains-append_cases}
+use Rattle.std.proofs.lemmas.List.Elements.{Contains-append_left, Contains-append_right}
 use Rattle.std.proofs.lemmas.Option.{same_Some, slice_get_within}
+use Rattle.std.proofs.lemmas.Bool.{cases_lt}
 use Rattle.om_model.proofs.Options.{Contains-first, Contains-later, Contains-none, Contains-cases, Contains-flat_map, slice_get-Contains, slice_get_there}
 use Rattle.om_model.proofs.Lists.{slice_get-append_left, Contains-place}
 use Rattle.om_types.specs.declared.decl.Decl.{Decl}
 use Rattle.om_types.specs.Ty.{Ty}
 use Rattle.om_types.specs.Reached.{reached_from, IsWithoutRepeats, IsReached}
+use Rattle.om_equal.proofs.ReachedLemmas.{without_repeats_has}
 
 -- ---- places
 
@@ -85,51 +87,7 @@ left_apart (x ∷ xs) seen left (inr (new, rest, is, h)) i j u at_i at_j =
       by (suc i) zero one two later = absurd (never i two one)
       by (suc i) (suc j) one two later = ap (λ n. suc n) (later i j one two)
 
--- nothing is lost but what was seen
-left_has :
-    (xs seen left : List Ty) (u : Ty) → IsWithoutRepeats seen xs left → Contains xs u
-    → Contains seen u ⊎ Contains left u
-left_has [] seen left u h among = absurd (Contains-none u among)
-left_has (x ∷ xs) seen left u (inl (again, h)) among =
-    by (Contains-cases x xs u among) (left_has xs seen left u h) where
-      by : (x ≡ u) ⊎ Contains xs u → (Contains xs u → Contains seen u ⊎ Contains left u)
-          → Contains seen u ⊎ Contains left u
-      by (inl here) more = inl (subst (Contains seen) here again)
-      by (inr later) more = more later
-left_has (x ∷ xs) seen left u (inr (new, rest, is, h)) among =
-    subst (λ l. Contains seen u ⊎ Contains l u) (sym is)
-    (by (Contains-cases x xs u among) (left_has xs (seen ++ x ∷ []) rest u h)) where
-      own : Contains (x ∷ []) u → Contains seen u ⊎ Contains (x ∷ rest) u
-      own one = at (Contains-cases x [] u one) where
-        at : (x ≡ u) ⊎ Contains [] u → Contains seen u ⊎ Contains (x ∷ rest) u
-        at (inl here) = inr (subst (λ y. Contains (x ∷ rest) y) here (Contains-first x rest))
-        at (inr never) = absurd (Contains-none u never)
-
-      old : Contains seen u ⊎ Contains (x ∷ []) u → Contains seen u ⊎ Contains (x ∷ rest) u
-      old (inl seen') = inl seen'
-      old (inr one) = own one
-
-      later_has : Contains (seen ++ x ∷ []) u ⊎ Contains rest u
-          → Contains seen u ⊎ Contains (x ∷ rest) u
-      later_has (inl before) = old (Contains-append_cases seen (x ∷ []) u before)
-      later_has (inr among) = inr (Contains-later x rest u among)
-
-      by : (x ≡ u) ⊎ Contains xs u
-          → (Contains xs u → Contains (seen ++ x ∷ []) u ⊎ Contains rest u)
-          → Contains seen u ⊎ Contains (x ∷ rest) u
-      by (inl here) more = inr (subst (λ y. Contains (x ∷ rest) y) here (Contains-first x rest))
-      by (inr later) more = later_has (more later)
-
 -- ---- the types that a type reaches
-
-less_or_not : (m n : ℕ) → (m < n) ⊎ (n ≤ m)
-less_or_not zero zero = inr (omega arith)
-less_or_not zero (suc n) = inl (omega arith)
-less_or_not (suc m) zero = inr (omega arith)
-less_or_not (suc m) (suc n) = by (less_or_not m n) where
-  by : (m < n) ⊎ (n ≤ m) → (suc m < suc n) ⊎ (suc n ≤ suc m)
-  by (inl less) = inl (omega (arith, less))
-  by (inr most) = inr (omega (arith, most))
 
 module _ (decls : List Decl) (t : Ty) where
   -- what the first n of them reach
@@ -160,9 +118,9 @@ module _ (decls : List Decl) (t : Ty) where
 
     -- where the first n reach no more, there are no more
     no_more : (n : ℕ) (f : Front n) → length f.0 ≤ n → length types ≤ n
-    no_more n f few = by (less_or_not n (length types)) where
+    no_more n f few = by (cases_lt n (length types)) where
       has : (u : Ty) → Contains (reach n types) u → Contains f.0 u
-      has u among = unseen (left_has (reach n types) [] f.0 u f.3 among) where
+      has u among = unseen (without_repeats_has (reach n types) [] f.0 u f.3 among) where
         unseen : Contains [] u ⊎ Contains f.0 u → Contains f.0 u
         unseen (inl never) = absurd (Contains-none u never)
         unseen (inr there) = there
@@ -194,7 +152,7 @@ module _ (decls : List Decl) (t : Ty) where
       (again : IsReached decls t others) where
     first_same : (n : ℕ) → take n types ≡ take n others
     first_same zero = refl
-    first_same (suc n) = by (first_same n) (less_or_not n (length (front types reached n).0)) where
+    first_same (suc n) = by (first_same n) (cases_lt n (length (front types reached n).0)) where
       f : Front types reached n
       f = front types reached n
 

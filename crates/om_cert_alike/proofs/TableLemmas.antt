@@ -1,10 +1,10 @@
 -- Tables of one list of types say the same of a section.
-use Rattle.std.proofs.Common.{ℕ, ◌≡◌, ◌∙◌, ◌<◌, ◌≤◌, ◌⊎◌, inl, inr, List, [], ◌∷◌, length, Option, Some, None, sym, ap, subst, arith}
+use Rattle.std.proofs.Common.{ℕ, ◌≡◌, ◌∙◌, ◌<◌, ◌≤◌, ◌⊎◌, inl, inr, List, [], ◌∷◌, length, Some, None, sym, ap, subst, arith}
 use Rattle.std.specs.Prelude.{slice_get, Contains, IsSomeAnd}
 use Rattle.std.specs.List.{flat_map}
 use Rattle.std.proofs.lemmas.List.{length-map}
 use Rattle.std.proofs.lemmas.Option.{none-some, slice_get_within, slice_get_past}
-use Rattle.om_model.proofs.Options.{none_or_some, IsSomeAnd-some, IsSomeAnd-at, Contains-none, slice_get_there}
+use Rattle.om_model.proofs.Options.{none_or_some, IsSomeAnd-weaker, Contains-none, slice_get_there}
 use Rattle.om_model.specs.declared.value.Val.{Val}
 use Rattle.om_model.specs.declared.value.Val.TheVariants as vals
 use Rattle.om_model.specs.declared.value.Obj.{Obj}
@@ -28,12 +28,6 @@ use Rattle.om_cert.specs.Verified.{IsThere, LacksNeed, IsAtTwoTypes, IsWrong, Is
 use Rattle.om_cert.proofs.VerifiedLemmas.{one_answer}
 use Rattle.om_cert_alike.specs.Alike.{IsAnswerAt}
 use Rattle.om_cert_alike.proofs.OneListLemmas.{one_place, one_list}
-
-some_weaker :
-    {X : Type 0} (o : Option X) (P Q : X → Type 0) → ((x : X) → P x → Q x) → IsSomeAnd o P
-    → IsSomeAnd o Q
-some_weaker o P Q more holds =
-    let s = IsSomeAnd-some o P holds in IsSomeAnd-at o s.0 Q s.1 (more s.0 s.2)
 
 -- the type itself comes first
 pub first_is :
@@ -158,9 +152,8 @@ module _ (decls : List Decl) (types : List Ty)
       fits = λ o t among.
           fits_too decls types table other made again apart graph (vals.Ref o) t (h.fits o t among);
       held = λ o t i u among need.
-          some_weaker (field_at graph o i)
-          (λ v. IsHeld (table_shapes table) graph pairs v u)
-          (λ v. IsHeld (table_shapes other) graph pairs v u)
+          IsSomeAnd-weaker (λ v. IsHeld (table_shapes table) graph pairs v u)
+          (λ v. IsHeld (table_shapes other) graph pairs v u) (field_at graph o i)
           (λ v held. held_too decls types table other made again apart graph pairs v u held)
           (h.held o t i u among
           (needs_too decls types other table again made apart graph (vals.Ref o) t (i, u) need));
@@ -196,9 +189,9 @@ module _ (decls : List Decl) (types : List Ty)
       type = h.type;
       needed = needs_too decls types table other made again apart graph (vals.Ref pair.0) pair.1
           (field, h.type) h.needed;
-      lacks = λ held. h.lacks (some_weaker (field_at graph pair.0 field)
+      lacks = λ held. h.lacks (IsSomeAnd-weaker
           (λ v. IsHeld (table_shapes other) graph pairs v h.type)
-          (λ v. IsHeld (table_shapes table) graph pairs v h.type)
+          (λ v. IsHeld (table_shapes table) graph pairs v h.type) (field_at graph pair.0 field)
           (λ v held. held_too decls types other table again made apart graph pairs v h.type held)
           held);
     }
@@ -218,21 +211,23 @@ module _ (decls : List Decl) (types : List Ty)
         (pairs : List (ℕ × ℕ)) (why : Why) → IsWrong table graph root pairs why
         → IsWrong other graph root pairs why
     wrong_too pairs (Range i) h =
-        some_weaker (slice_get pairs i) (λ pair. ¬ IsThere table graph pair)
-        (λ pair. ¬ IsThere other graph pair) (λ pair not there. not (there_back pair there)) h
+        IsSomeAnd-weaker (λ pair. ¬ IsThere table graph pair)
+        (λ pair. ¬ IsThere other graph pair) (slice_get pairs i)
+        (λ pair not there. not (there_back pair there)) h
     wrong_too pairs (Unfit i) h =
-        some_weaker (slice_get pairs i)
+        IsSomeAnd-weaker
         (λ (pair : ℕ × ℕ). ¬ (table_shapes table).fits graph (vals.Ref pair.0) pair.1)
         (λ (pair : ℕ × ℕ). ¬ (table_shapes other).fits graph (vals.Ref pair.0) pair.1)
-        (λ pair not fits. not
+        (slice_get pairs i) (λ pair not fits. not
         (fits_too decls types other table again made apart graph (vals.Ref pair.0) pair.1 fits)) h
     wrong_too pairs (Need i field) h =
-        some_weaker (slice_get pairs i) (λ pair. LacksNeed table graph pairs pair field)
-        (λ pair. LacksNeed other graph pairs pair field)
+        IsSomeAnd-weaker (λ pair. LacksNeed table graph pairs pair field)
+        (λ pair. LacksNeed other graph pairs pair field) (slice_get pairs i)
         (λ pair. lacks_too pairs pair field) h
     wrong_too pairs (TwoTypes i) h =
-        some_weaker (slice_get pairs i) (λ pair. IsAtTwoTypes table graph pairs pair)
-        (λ pair. IsAtTwoTypes other graph pairs pair) (λ pair. two_types_too pairs pair) h
+        IsSomeAnd-weaker (λ pair. IsAtTwoTypes table graph pairs pair)
+        (λ pair. IsAtTwoTypes other graph pairs pair) (slice_get pairs i)
+        (λ pair. two_types_too pairs pair) h
     wrong_too pairs Root h = λ held.
         h (held_too decls types other table again made apart graph pairs root 0 held)
     wrong_too pairs NotFault h = absurd h

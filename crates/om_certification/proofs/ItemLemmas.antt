@@ -1,5 +1,5 @@
 -- What is said of a value, where the run stops and how the input ends are one, and stay.
-use Rattle.std.proofs.Common.{◌≡◌, ℕ, List, ◌++◌, length, sym, ◌∙◌, subst}
+use Rattle.std.proofs.Common.{◌≡◌, ℕ, List, length, sym, ◌∙◌, subst}
 use Rattle.om_model.specs.Bytes.{AreBytes}
 use Rattle.om_model.specs.declared.refusal.ReadRefusal.{ReadRefusal}
 use Rattle.om_format.specs.Stream.{End, refused, IsTail}
@@ -8,7 +8,6 @@ use Rattle.om_outcome.specs.Outcome.{stops, Language}
 use Rattle.om_outcome.specs.declared.stop.Stop.{Stop}
 use Rattle.om_promises.specs.Commands.{Item, GoesOn}
 use Rattle.om_promises.specs.Lawful.{IsOnce, IsInner, AreLawfulAt}
-use Rattle.om_commands.specs.Tasks.{IsFirstValue}
 use Rattle.om_commands.proofs.ItemLemmas.{tree_once, end_once, no_tail, first_once, first_front, first_stays}
 use Rattle.om_certification.specs.Certification.{Certification, SaysSections, SaysOf, StopsHere, EndsClean, EndsHere, certifying}
 use Rattle.om_certification.proofs.EndLemmas.{refused_stays, refused_once, end_reply_once, end_inner}
@@ -27,12 +26,6 @@ module _ {T : Type 0} (SectionOf : SaysSections T) (a : Certification T) where
       ends
 
   module _ {D E : Type 0} (language : Language D T E) where
-    pub item_stays :
-        (bytes : List ℕ) (item : Item) (more later : List ℕ)
-        → IsFirstValue language a.limit bytes item more
-        → IsFirstValue language a.limit (bytes ++ later) item (more ++ later)
-    item_stays bytes item more later h = first_stays language a.limit bytes item more later h
-
     module _ (items : List Item) (rest : List ℕ) (are_bytes : AreBytes rest) (end : End)
         (tail : IsTail a.limit rest end)
         (fine : (refusal : ReadRefusal) → end ≡ refused refusal → ⊥) where

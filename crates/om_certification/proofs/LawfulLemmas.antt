@@ -1,5 +1,5 @@
 -- The command is lawful, where the language is, and one section is said of a value.
-use Rattle.std.proofs.Common.{◌≡◌, ◌⊎◌, ◌<◌, ℕ, List, Some, Result, Ok, Err, inl, inr, refl, sym, ap, ◌∙◌, subst, arith}
+use Rattle.std.proofs.Common.{◌≡◌, ◌⊎◌, ℕ, List, Some, Result, Ok, Err, inl, inr, refl, sym, ap, ◌∙◌, subst}
 use Rattle.std.specs.Prelude.{Option}
 use Rattle.om_outcome.specs.Outcome.{Request, Language, ReadsTypeOf}
 use Rattle.om_outcome.specs.declared.stop.Stop.{Stop}
@@ -7,14 +7,12 @@ use Rattle.om_promises.specs.Commands.{Fetches}
 use Rattle.om_promises.specs.Lawful.{IsOnce, IsInner, FailsAtFile, AreLawful, AreInTurns}
 use Rattle.om_promises.specs.LawfulLanguage.{IsGiven, IsLawful}
 use Rattle.om_promises.proofs.OnceLemmas.{Then_once}
+use Rattle.om_promises.proofs.ExampleLemmas.{none_later}
 use Rattle.om_commands.specs.Tasks.{by_turns}
 use Rattle.om_commands.proofs.FindLemmas.{whole_or, IsRead, then_read, type_once, type_by, type_read, ComesOf, type_inside}
 use Rattle.om_commands.proofs.GivenLemmas.{type_given}
 use Rattle.om_certification.specs.Certification.{Certification, SaysSections, Asked, certified_by, typed_of, CertifiesBy, Wants, Finds, certifying, AreCertifiedOnce}
 use Rattle.om_certification.proofs.ItemLemmas.{lawful_at}
-
-none_later : (turn later : ℕ) → turn < later → later ≡ 0 → ⊥
-none_later turn later less e = omega arith
 
 -- the words ask for one certificate
 asked_same : (one other : Option Asked) (x y : Asked) → one ≡ Some x → one ≡ Some y → x ≡ y

@@ -11,7 +11,7 @@ use Rattle.om_model.proofs.Lists.{AllByRecursion-append}
 use Rattle.om_format.specs.Spelled.{SpelledUnder}
 use Rattle.om_format.specs.Token.{Token, integer, atom, shared, block, leaf}
 use Rattle.om_format.specs.Tree.{Tree, Forest, node, none, more, IsTree, AreTrees, trees_in, tokens, forest_tokens, root, roots, made, made_by, all_made, object_of, objects_of, all_objects}
-use Rattle.om_format.proofs.Counts.{length-roots}
+use Rattle.om_format.proofs.Counts.{length-roots, trees_in-le}
 use Rattle.om_format.proofs.SpellValues.{bytes_of_tokens}
 use Rattle.om_types.specs.Typing.{values_of, field_at}
 
@@ -50,14 +50,6 @@ mutual
   all_few_made (more tree f) =
       omega (arith, few_made tree, all_few_made f, length-append (tokens tree) (forest_tokens f))
 
-some_tokens : (tree : Tree) → 1 ≤ length (tokens tree)
-some_tokens (node t f) = omega arith
-
-few_trees : (f : Forest) → trees_in f ≤ length (forest_tokens f)
-few_trees none = omega arith
-few_trees (more tree f) =
-    omega (arith, some_tokens tree, few_trees f, length-append (tokens tree) (forest_tokens f))
-
 -- ---- values
 
 root_up_to : (tree : Tree) (c n : ℕ) → c ≤ n → IsUpTo n (root tree c)
@@ -84,7 +76,7 @@ object_few (atom tag) f c n h fits many = tt
 object_few (shared offset) f c n h fits many = tt
 object_few (block tag size) f c n h fits many = (
   record {
-    many = omega (arith, length-roots f (c + 1), few_trees f, many);
+    many = omega (arith, length-roots f (c + 1), trees_in-le f, many);
     up_to = roots_up_to f (c + 1) n (omega (arith, fits));
   },
   tt,

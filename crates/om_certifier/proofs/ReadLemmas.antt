@@ -21,7 +21,8 @@ use Rattle.om_declared.specs.declared.requested.Prepared.{Prepared}
 use Rattle.om_declared.specs.Language.{TypeOver, declared_types}
 use Rattle.om_declared.specs.Types.{type_over}
 use Rattle.om_certification.specs.Certification.{SaysOf}
-use Rattle.om_certification.proofs.ItemLemmas.{item_stays, goes_on}
+use Rattle.om_commands.proofs.ItemLemmas.{first_stays}
+use Rattle.om_certification.proofs.ItemLemmas.{goes_on}
 use Rattle.om_certifier.specs.Certified.{SaysSection, declared_certificates, on_certified}
 use Rattle.om_certifier.specs.Reading.{certified, PutsSection, HasRead, IsValueRead, PutsNext}
 
@@ -32,7 +33,7 @@ abbrev pub has_values :
 has_values r limit = record {
   value_first = λ items bytes item more h. h;
   first_value = λ items bytes item more h. h;
-  stay = λ items. item_stays declared_certificates (certified r limit) declared_types;
+  stay = λ items. first_stays declared_types limit;
   goes_on = goes_on declared_certificates (certified r limit) declared_types;
   refuses = λ items bytes stop h. h;
   cuts = λ items bytes n tail. (cut n, tail, refl);

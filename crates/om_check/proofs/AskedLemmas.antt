@@ -6,13 +6,13 @@ use Rattle.std.proofs.lemmas.List.Elements.{filter_more, filter-append}
 use Rattle.om_model.specs.declared.value.Val.{Val}
 use Rattle.om_model.specs.declared.value.Val.TheVariants as vals
 use Rattle.om_model.specs.declared.value.Obj.{Obj}
-use Rattle.om_model.proofs.Lists.{Contains-place}
+use Rattle.om_model.proofs.Lists.{Contains-place, Contains-filter}
 use Rattle.om_model.proofs.Options.{slice_get-Contains}
 use Rattle.om_types.specs.Lawful.{Everything}
 use Rattle.om_types.specs.Table.{Table, table_shapes, node_or_none, is_asked_in}
 use Rattle.om_types.specs.Typing.{IsListed, IsHeld, IsTyping, field_at}
 use Rattle.om_types.proofs.AskedLemmas.{equal_asked, need_typed}
-use Rattle.om_types.proofs.ListLemmas.{Contains-filtered, filtered-Contains}
+use Rattle.om_types.proofs.ListLemmas.{filtered-Contains}
 use Rattle.om_typing.specs.StepLaws.{AreApart, key_of}
 use Rattle.om_type_table.specs.Made.{IsLawful}
 use Rattle.om_scan.specs.Paths.{HasPath, IsLed}
@@ -58,7 +58,7 @@ module _ (table : Table) (graph : List Obj) (lawful : IsLawful table) (all : Lis
       Everything lawful.lawful u t (inl tt) (sym same) asked
 
   kept : (o t : ℕ) → Contains all (o, t) → IsTrue (is_asked_in table t) → Contains (asked_pairs table all) (o, t)
-  kept o t among asked = Contains-filtered (λ (pair : ℕ × ℕ). is_asked_in table pair.1) all (o, t) among asked
+  kept o t among asked = Contains-filter (λ (pair : ℕ × ℕ). is_asked_in table pair.1) all (o, t) among asked
 
   pub there : (o t : ℕ) → Contains (asked_pairs table all) (o, t) → Contains all (o, t) × IsTrue (is_asked_in table t)
   there o t among = filtered-Contains (λ (pair : ℕ × ℕ). is_asked_in table pair.1) all (o, t) among

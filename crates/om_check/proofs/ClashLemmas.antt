@@ -1,10 +1,10 @@
 -- The first visit that clashes with one before it, found by the first visit of each object.
-use Rattle.std.proofs.Common.{ℕ, zero, suc, ◌+◌, ◌-◌, ◌<◌, ◌≤◌, ◌≡◌, ◌∙◌, ◌⊎◌, inl, inr, ⊎_elim, List, [], ◌∷◌, length, Some, refl, sym, ap, subst, arith}
+use Rattle.std.proofs.Common.{ℕ, zero, suc, ◌+◌, ◌-◌, ◌<◌, ◌≤◌, ◌≡◌, ◌∙◌, ◌⊎◌, inl, inr, ⊎_elim, List, length, Some, refl, sym, ap, subst, arith}
 use Rattle.std.specs.Prelude.{slice_get, slice_index, All, IsTrue}
 use Rattle.std.specs.List.{list_any}
 use Rattle.std.specs.BTreeMap.{is_at}
 use Rattle.std.specs.BTreeSet.{contains}
-use Rattle.std.proofs.lemmas.Bool.{false≢true}
+use Rattle.std.proofs.lemmas.Bool.{false≢true, cases_lt}
 use Rattle.std.proofs.lemmas.List.Elements.{All-contains}
 use Rattle.std.proofs.lemmas.Option.{same_Some}
 use Rattle.om_model.proofs.Options.{slice_get_there, slice_get-Contains}
@@ -15,12 +15,8 @@ use Rattle.om_check.specs.declared.visits.Visits.{Visits}
 use Rattle.om_check.specs.Visits.{listed, AreLinked, IsFirstAt}
 use Rattle.om_scan.specs.Seconds.{pair_cmp}
 use Rattle.om_scan.proofs.PlaceLemmas.{read_at}
+use Rattle.om_scan.proofs.SecondLemmas.{nothing_in}
 use Rattle.om_check.specs.Clash.{IsWithin, mutable_at, AreApart, ClashAt, NoneClash, ClashesBack, IsFirstOf, IsFirstClash}
-
-pub less_or : (m n : ℕ) → (m < n) ⊎ (n ≤ m)
-less_or m zero = inr (omega arith)
-less_or zero (suc n) = inl (omega arith)
-less_or (suc m) (suc n) = ⊎_elim (λ less. inl (omega arith)) (λ more. inr (omega arith)) (less_or m n)
 
 -- the type of an object's first visit
 abbrev pub AllHaveFirst : List Visit → Type 0
@@ -65,10 +61,6 @@ first_read table graph visits k n v linked within at_k is =
     let back : cell.0 ≡ n - 1 = omega (arith, same) in
     (omega (arith, same), subst (IsFirstAt (listed visits) v.object) back (linked.noted.met v.object cell.0 cell.1))
 
-nothing : (xs : List (ℕ × ℕ)) → length xs ≡ 0 → xs ≡ []
-nothing [] none = refl
-nothing (x ∷ xs) none = absurd (omega arith)
-
 -- where nothing was met at a second class, all visits of an object are one
 pub none_later :
     (table : Table) (graph : List Obj) (visits : Visits) → AreLinked table (length graph) visits → All (IsWithin table graph) (listed visits)
@@ -82,7 +74,7 @@ none_later table graph visits linked within classed apart none i k less c =
     let place = apart i k c.one c.other c.at_first c.at_second c.same (one ∙ sym other) in
     let before = c.before in omega (arith, before, place) where
       unknown : (d : ℕ) → ¬ IsTrue (contains pair_cmp visits.later (c.other.object, d))
-      unknown d is = false≢true (sym (ap (λ keys. list_any (is_at (pair_cmp (c.other.object, d))) keys) (nothing visits.later.keys none)) ∙ is)
+      unknown d is = false≢true (sym (ap (λ keys. list_any (is_at (pair_cmp (c.other.object, d))) keys) (nothing_in visits.later.keys none)) ∙ is)
 
       class_of :
           (j : ℕ) (v : Visit) → slice_get (listed visits) j ≡ Some v → v.object ≡ c.other.object → (t : ℕ)
@@ -100,7 +92,7 @@ module _ (table : Table) (graph : List Obj) (all : List Visit) where
     place_within = ⊎_elim
         (λ less. absurd (first.none k v less at_k (ap (λ (u : Visit). u.object) (same_Some v v at_k'))))
         (λ more. more)
-        (less_or k first.place) where
+        (cases_lt k first.place) where
           at_k' : Some v ≡ Some v
           at_k' = sym at_k ∙ at_k
 
@@ -119,8 +111,8 @@ module _ (table : Table) (graph : List Obj) (all : List Visit) where
         (λ more. ⊎_elim
         (λ less'. absurd (first.none f is.first less' is.at_first (is.same v at_k)))
         (λ more'. omega (arith, more, more'))
-        (less_or f first.place))
-        (less_or first.place f)
+        (cases_lt f first.place))
+        (cases_lt first.place f)
 
     first_mutable : (w : Visit) → w.object ≡ v.object → w.ty ≡ t → mutable_at table graph first.visit ≡ mutable_at table graph w
     first_mutable w object type =
@@ -139,7 +131,7 @@ module _ (table : Table) (graph : List Obj) (all : List Visit) where
         other = v;
         at_first = first.at;
         at_second = at_k;
-        before = ⊎_elim (λ less. less) (λ more. absurd (other (same_class (omega (arith, more, place_within))))) (less_or first.place k);
+        before = ⊎_elim (λ less. less) (λ more. absurd (other (same_class (omega (arith, more, place_within))))) (cases_lt first.place k);
         same = first.object;
         mutable = ⊎_elim (λ one. inl (first_mutable w object type ∙ one)) (λ own. inr own) mutable;
       },
@@ -177,7 +169,7 @@ module _ (table : Table) (graph : List Obj) (all : List Visit) where
       let f = firsts k c.other c.at_second in
       let first = f.1 in
       let before = c.before in
-      let within : first.place ≤ i = ⊎_elim (λ less. absurd (first.none i c.one less c.at_first c.same)) (λ more. more) (less_or i first.place) in (
+      let within : first.place ≤ i = ⊎_elim (λ less. absurd (first.none i c.one less c.at_first c.same)) (λ more. more) (cases_lt i first.place) in (
         first.place,
         first_of_own k f.0 c.other c.at_second first,
         record {
@@ -202,7 +194,7 @@ module _ (table : Table) (graph : List Obj) (all : List Visit) where
               let place : i ≡ first.place = omega (arith, more, within) in
               let is : c.one ≡ first.visit = same_Some c.one first.visit (sym c.at_first ∙ ap (slice_get all) place ∙ first.at) in
               inl (ap (mutable_at table graph) (sym is) ∙ one))
-              (less_or first.place i))
+              (cases_lt first.place i))
               (λ other. inr other)
               c.mutable;
         },
@@ -212,7 +204,7 @@ module _ (table : Table) (graph : List Obj) (all : List Visit) where
   none_more firsts k none back i m less c = ⊎_elim
       (λ earlier. none i m earlier c)
       (λ late. let here : m ≡ k = omega (arith, less, late) in back (found_back firsts k i none (subst (ClashAt table graph all i) here c)))
-      (less_or m k)
+      (cases_lt m k)
 
   pub first_clash_is :
       (k f : ℕ) → NoneClash table graph all k → ClashesBack table graph all k → IsFirstOf all k f → IsFirstClash table graph all f k
@@ -235,5 +227,5 @@ module _ (table : Table) (graph : List Obj) (all : List Visit) where
             (λ more. ⊎_elim
             (λ less'. absurd (one.none f first.first less' first.at_first (first.same c.other c.at_second ∙ sym (one.same c.other c.at_second))))
             (λ more'. omega (arith, more, more'))
-            (less_or f back.0))
-            (less_or back.0 f)
+            (cases_lt f back.0))
+            (cases_lt back.0 f)

@@ -2,13 +2,12 @@
 use Rattle.std.proofs.Common.{ℕ, zero, suc, ◌<◌, ◌≡◌, ◌∙◌, inl, inr, List, [], ◌∷◌, ◌++◌, length, Some, None, refl, sym, ap, subst, arith}
 use Rattle.std.specs.Prelude.{slice_get, Contains}
 use Rattle.std.proofs.lemmas.Option.{same_Some, none-some}
-use Rattle.om_model.specs.declared.value.Val.{Val}
 use Rattle.om_model.specs.declared.value.Val.TheVariants as vals
 use Rattle.om_model.specs.declared.value.Obj.{Obj}
 use Rattle.om_types.specs.declared.fault.Fault.{Fault}
-use Rattle.om_types.specs.declared.fault.Fault.TheVariants.{Misfit, Clash}
-use Rattle.om_types.specs.Fault.{IsLexicallyBefore, IsBefore, IsFault, value_at}
-use Rattle.om_types.specs.LeastFault.{IsToldBefore, IsLeastFault}
+use Rattle.om_types.specs.declared.fault.Fault.TheVariants.{Misfit}
+use Rattle.om_types.specs.Fault.{value_at}
+use Rattle.om_types.specs.LeastFault.{IsLeastFault}
 use Rattle.om_types.specs.Searched.{Entry}
 use Rattle.om_types.specs.Table.{Table, table_shapes}
 use Rattle.om_types.specs.Typing.{HasType}
@@ -73,22 +72,6 @@ module _ (table : Table) (graph : List Obj) where
         ordered = λ k v later at_v. let one = (only_first (start o) v k at_v).0 in absurd (omega (arith, later, one));
         explored = start_explored o lawful object fit;
       })
-
-  -- ---- the root
-
-  before_root : (path : List ℕ) → IsBefore path [] → ⊥
-  before_root path (inl shorter) = omega arith
-  before_root path (inr same) = never path same.1 where
-    never : (p : List ℕ) → IsLexicallyBefore p [] → ⊥
-    never [] before = before
-    never (i ∷ p) before = before
-
-  -- the root does not fit
-  pub root_misfit : (v : Val) → ¬ (table_shapes table).fits graph v 0 → IsLeastFault (table_shapes table) graph v 0 (Misfit [])
-  root_misfit v unfit = record { is_fault = unfit; least = none } where
-    none : (other : Fault) → IsFault (table_shapes table) graph v 0 other → IsToldBefore other (Misfit []) → ⊥
-    none (Misfit path) is before = before_root path before
-    none (Clash first second) is before = before
 
   -- ---- an object
 

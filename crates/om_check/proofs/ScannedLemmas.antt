@@ -1,5 +1,5 @@
 -- What the types that a scan tells say of the value.
-use Rattle.std.proofs.Common.{ℕ, zero, suc, ◌+◌, ◌<◌, ◌≡◌, ◌∙◌, List, [], ◌∷◌, ◌++◌, length, Option, Some, refl, sym, ap, arith}
+use Rattle.std.proofs.Common.{ℕ, zero, suc, ◌+◌, ◌<◌, ◌≡◌, ◌∙◌, List, [], ◌∷◌, length, Option, Some, refl, sym, ap, arith}
 use Rattle.std.specs.Prelude.{slice_get, slice_index, map, Contains}
 use Rattle.std.proofs.lemmas.Option.{same_Some, none-some}
 use Rattle.om_model.proofs.Options.{slice_get-Contains}
@@ -15,7 +15,7 @@ use Rattle.om_scan.specs.Scanned.{IsScanned, pairs_with}
 use Rattle.om_check.specs.Verdict.{IsYes}
 use Rattle.om_scan.proofs.IncreaseLemmas.{numbered}
 use Rattle.std.proofs.lemmas.List.{length-append}
-use Rattle.om_model.proofs.Lists.{slice_get-append_left}
+use Rattle.om_model.proofs.Lists.{slice_get-append_left, slice_get-append_right}
 use Rattle.om_scan.proofs.PlaceLemmas.{mapped_at}
 
 -- number k stands at place k
@@ -29,12 +29,6 @@ length_numbered s [] = refl
 length_numbered s (t ∷ ts) = ap suc (length_numbered (suc s) ts)
 
 -- ---- types, and objects at further types
-
-slice_get-append_right : {X : Type 0} (xs ys : List X) (m : ℕ) → slice_get (xs ++ ys) (length xs + m) ≡ slice_get ys m
-slice_get-append_right [] ys m = let same : 0 + m ≡ m = omega arith in ap (slice_get ys) same
-slice_get-append_right (x ∷ xs) ys m =
-    let same : suc (length xs) + m ≡ suc (length xs + m) = omega arith in
-    ap (slice_get (x ∷ xs ++ ys)) same ∙ slice_get-append_right xs ys m
 
 pub length_pairs : (types : List ℕ) (seconds : Seconds) → length (pairs_with types seconds) ≡ length types + length (noted_in seconds)
 length_pairs types seconds = length-append (numbered_from 0 types) (noted_in seconds) ∙ ap (λ n. n + length (noted_in seconds)) (length_numbered 0 types)

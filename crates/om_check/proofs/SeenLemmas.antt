@@ -1,7 +1,7 @@
 -- What a scan saw of the needs of a visit.
 use Rattle.std.proofs.Common.{ℕ, ◌+◌, ◌-◌, ◌%◌, ◌^◌, ◌<◌, ◌≤◌, ◌≡◌, ◌≢◌, ◌∙◌, inl, ⊎_elim, Bool, true, false, List, [], length, Some, refl, sym, ap, subst, arith, eqb-true}
 use Rattle.std.specs.Prelude.{slice_get, slice_index, IsTrue, not, ◌==◌, ◌↔◌, if◌then◌else◌, MatchBool}
-use Rattle.std.proofs.lemmas.Bool.{false≢true}
+use Rattle.std.proofs.lemmas.Bool.{false≢true, cases_lt}
 use Rattle.std.proofs.lemmas.Option.{none-some}
 use Rattle.om_model.specs.declared.value.Val.{Val}
 use Rattle.om_model.specs.declared.value.Val.TheVariants as vals
@@ -15,7 +15,6 @@ use Rattle.om_scan.specs.Scanned.{IsSeen, IsSeenObject, AreTaken}
 use Rattle.om_scan.proofs.PlaceLemmas.{read_at}
 use Rattle.om_check.specs.declared.visits.Visit.{Visit}
 use Rattle.om_check.specs.Search.{AreSeen, is_taken}
-use Rattle.om_check.proofs.ClashLemmas.{less_or}
 use Rattle.om_check.proofs.SpentLemmas.{taken_at}
 
 -- ---- steps
@@ -27,7 +26,7 @@ pub reach_more :
 reach_more reached i seen start steps more before few one known = ⊎_elim
     (λ less. let same = known less in omega (arith, before, few, less, same))
     (λ late. omega (arith, before, few, one, late))
-    (less_or i seen)
+    (cases_lt i seen)
 
 -- the fields that were reached are among those of the object
 pub few_rest :

@@ -1,6 +1,5 @@
 -- Objects at second classes, settled one after another.
-use Rattle.std.proofs.Common.{ℕ, ◌+◌, ◌%◌, ◌<◌, ◌≤◌, ◌≡◌, ◌≢◌, ◌∙◌, ⊎_elim, ◌++◌, Bool, true, false, List, [], ◌∷◌, length, take, Some, refl, sym, ap, subst, arith}
-use Rattle.std.specs.Bool.{OnTrue}
+use Rattle.std.proofs.Common.{ℕ, ◌+◌, ◌%◌, ◌<◌, ◌≤◌, ◌≡◌, ◌≢◌, ◌∙◌, ⊎_elim, ◌++◌, true, false, List, [], ◌∷◌, length, take, Some, refl, sym, ap, subst, arith}
 use Rattle.std.specs.Prelude.{slice_get, sum_by, Contains, IsTrue}
 use Rattle.std.proofs.lemmas.Bool.{false≢true}
 use Rattle.std.proofs.lemmas.List.{length-append, append_assoc, append-nil, take-append-le, take_more}
@@ -26,10 +25,6 @@ use Rattle.om_scan.proofs.MarkLemmas.{noting_listed}
 use Rattle.om_check.specs.Settled.{AreOver, IsSettledAt, IsSettling, Extends, Finds, FindsNeeds, Settles, IsCounting}
 
 -- ---- tests
-
-pub when_true : (test : Bool) (X : Type 0) → (test ≡ true → X) → OnTrue test X
-when_true true X given = given refl
-when_true false X given = tt
 
 pub even_word : (graph : List Obj) (word o : ℕ) → word % 8 ≢ 0 → word ≡ word_of graph (vals.Ref o) → ⊥
 even_word graph word o odd is = odd (omega (arith, is))
@@ -140,11 +135,9 @@ module _ (table : Table) (graph : List Obj) (types : List ℕ) where
         (λ same.
         let pair = same_Some (i, a) (x, b) (sym at_r ∙ ap (slice_get (object_typed table graph o t)) (sym same) ∙ at_j) in
         subst (λ (need : ℕ × ℕ). IsTrue (is_asked_in table need.1) → IsFoundIn table graph (pairs_with types new) (field_at graph o need.0) need.1) pair own asked)
-        (λ apart. found_extended now new (field_at graph o x) b extends (before.found j x b (below apart less) at_j asked))
+        (λ apart. found_extended now new (field_at graph o x) b extends (before.found j x b (omega (arith, apart, less)) at_j asked))
         (same_or_not j r);
-  } where
-    below : {j : ℕ} → j ≢ r → j < r + 1 → j < r
-    below {j} apart less = omega (arith, apart, less)
+  }
 
   -- nothing is asked of it
   pub finds_hidden :
@@ -180,14 +173,11 @@ module _ (table : Table) (graph : List Obj) (types : List ℕ) where
           (λ same.
           let pair = same_Some (o, t) (p, u) (sym at_n ∙ ap (slice_get (noted_in old)) (sym same) ∙ back k (p, u) less at_k) in
           subst (λ (q : ℕ × ℕ). IsSettledAt table graph types new q.0 q.1) pair own)
-          (λ apart. settled_extended old new p u finds.extends (settling.settled k p u (below k apart less) (back k (p, u) less at_k)))
+          (λ apart. settled_extended old new p u finds.extends (settling.settled k p u (omega (arith, apart, less)) (back k (p, u) less at_k)))
           (same_or_not k n);
     };
     extends = finds.extends;
   } where
-    below : (k : ℕ) → k ≢ n → k < n + 1 → k < n
-    below k apart less = omega (arith, apart, less)
-
     back : (k : ℕ) (p : ℕ × ℕ) → k < n + 1 → slice_get (noted_in new) k ≡ Some p → slice_get (noted_in old) k ≡ Some p
     back k p less at_k =
         let inside = slice_get_within (noted_in old) n (o, t) at_n in

@@ -5,6 +5,7 @@ use Rattle.std.specs.Global.{Vec}
 use Rattle.std.proofs.lemmas.List.Elements.{Contains-get_or, Contains-push, Contains-push_cases, Contains-append_left}
 use Rattle.std.proofs.lemmas.Option.{same_Some, slice_get-get_or, slice_get_within}
 use Rattle.om_model.proofs.Options.{Contains-first, Contains-none, Contains-cases, same_or_not}
+use Rattle.om_model.proofs.Lists.{AllZip-length}
 use Rattle.om_types.specs.declared.head.HeadOf.{HeadOf}
 use Rattle.om_types.specs.Table.{head_at}
 use Rattle.om_types.specs.Classes.{AreTogether, PartsBelow, IsStable}
@@ -18,14 +19,14 @@ use Rattle.om_classes.specs.Lists.{Has, Keeps, IsTaken, HasRooms, KeepsMembers}
 use Rattle.om_classes.specs.Parting.{IsReady, MarksUsers, IsSignOf, SignAt, SignedAt, AreNamed, AreMoved, HasMembers, IsLook, IsUnderWay, IsOpen, PartsNoEqual}
 use Rattle.om_classes.specs.Start.{KeepsEqual, IsParted}
 use Rattle.om_classes.specs.Found.{AreClasses}
-use Rattle.om_classes.proofs.TurnLemmas.{AllZip-at, AllZip-long, agree_at, keeps_new, settled_new, has_new, within_new}
+use Rattle.om_classes.proofs.TurnLemmas.{AllZip-at, agree_at, keeps_new, settled_new, has_new, within_new}
 
 -- ---- the end
 
 ended_same : (all : List (HeadOf ℕ)) (forms : List Form) (class : List ℕ) → AreForms all forms
     → PartsBelow (length all) (head_at all) → IsParted forms class → IsStable (length all) (head_at all) (slice_index class)
 ended_same all forms class are parts parted i j together =
-    let many : length all ≡ length class = AllZip-long _ all forms are.are ∙ sym parted.many in
+    let many : length all ≡ length class = AllZip-length _ all forms are.are ∙ sym parted.many in
     let one = parted.settled i (subst (λ n. i < n) many together.first) in
     let two = parted.settled j (subst (λ n. j < n) many together.second) in
     let list = same_Some one.1.0 two.1.0 (sym one.1.1 ∙ ap (slice_get parted.signs) together.same ∙ two.1.1) in
@@ -55,7 +56,7 @@ ended all forms class are parts parted = record {
   );
 } where
   many : length all ≡ length class
-  many = AllZip-long _ all forms are.are ∙ sym parted.many
+  many = AllZip-length _ all forms are.are ∙ sym parted.many
 
   at : (i : ℕ) → i < length all → slice_get class i ≡ Some (slice_index class i)
   at i below = slice_get-get_or class i 0 (subst (λ n. i < n) many below)
@@ -189,7 +190,7 @@ module _ (forms : List Form) (class : List ℕ) (parted : ℕ) (look : Look) (is
   looked_in k d below = (is_look.is (get_or look.looked.items k d) (Contains-get_or look.looked.items k d below)).0
 
   pub places_long : length look.places.items ≡ length look.looked.items
-  places_long = sym (AllZip-long (SignedAt forms (slice_index class) look.found) look.looked.items look.places.items is_look.signed)
+  places_long = sym (AllZip-length (SignedAt forms (slice_index class) look.found) look.looked.items look.places.items is_look.signed)
 
   pub places_in : All (λ p. p < length look.found) look.places.items
   places_in k d below =
@@ -206,7 +207,7 @@ module _ (forms : List Form) (users : List (Vec ℕ)) (o w : List ℕ) (signs si
     (moved : AreMoved look.looked.items look.places.items numbers (length look.looked.items) o w) where
   pub part_keeps : PartsNoEqual forms o w
   part_keeps all are parts keeps = keeps_new forms o w c look numbers signs signs' is_look named moved all are
-      (AllZip-long _ all forms are.are ∙ sym open'.many) parts keeps
+      (AllZip-length _ all forms are.are ∙ sym open'.many) parts keeps
 
   pub part_within : (i : ℕ) → slice_index w i < length signs'
   part_within = within_new forms o w c look numbers signs signs' is_look named moved open'.within

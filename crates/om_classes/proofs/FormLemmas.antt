@@ -10,6 +10,7 @@ use Rattle.om_store.proofs.HeldLemmas.{there_kept}
 use Rattle.om_classes.specs.declared.form.TagForm.{TagForm}
 use Rattle.om_classes.specs.declared.form.Form.{Form}
 use Rattle.om_classes.specs.Form.{IsTagForm, AreTagForms, IsNamed, IsForm}
+use Rattle.om_model.proofs.Lists.{AllZip-push}
 
 pub AllZip-more : {A B : Type 0} (P Q : A → B → Type 0) → ((a : A) (b : B) → P a b → Q a b)
     → (as' : List A) (bs : List B) → AllZip P as' bs → AllZip Q as' bs
@@ -19,19 +20,12 @@ AllZip-more P Q more (a ∷ as') [] all = absurd all
 AllZip-more P Q more (a ∷ as') (b ∷ bs) all =
     (more a b all.0, AllZip-more P Q more as' bs all.1)
 
-pub AllZip-add : {A B : Type 0} (R : A → B → Type 0) (xs : List A) (ys : List B) (x : A) (y : B)
-    → AllZip R xs ys → R x y → AllZip R (xs ++ x ∷ []) (ys ++ y ∷ [])
-AllZip-add R [] [] x y all more = (more, tt)
-AllZip-add R [] (b ∷ bs) x y all more = absurd all
-AllZip-add R (a ∷ xs) [] x y all more = absurd all
-AllZip-add R (a ∷ xs) (b ∷ bs) x y all more = (all.0, AllZip-add R xs bs x y all.1 more)
-
 -- one more element of the first list, with what stands for it
 pub AllZip-next : {A B : Type 0} (R : A → B → Type 0) (xs : List A) (i : ℕ) (ys new : List B) (x : A) (y : B)
     → i < length xs → AllZip R (take i xs) ys → x ≡ get_or xs i x → R x y → new ≡ ys ++ y ∷ []
     → AllZip R (take (i + 1) xs) new
 AllZip-next R xs i ys new x y below all read more is =
-    rw (is, take_more xs i x below, ← read) (AllZip-add R (take i xs) ys x y all more)
+    rw (is, take_more xs i x below, ← read) (AllZip-push R (take i xs) ys x y all more)
 
 module _ {old new : List (List ℕ)} (grown : Grows old new) where
   pub tag_form_grown : (tag : TagOf ℕ) (form : TagForm) → IsTagForm old tag form → IsTagForm new tag form

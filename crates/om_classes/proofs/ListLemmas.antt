@@ -1,5 +1,5 @@
 -- Lists of numbers, one for each class or for each number.
-use Rattle.std.proofs.Common.{ℕ, zero, suc, ◌<◌, ◌+◌, ◌≡◌, ◌≢◌, ◌∙◌, ⊎_elim, ◌⊎◌, inl, inr, List, [], ◌∷◌, ◌++◌, Some, refl, sym, ap, subst, length, length-append, get_or, take, set}
+use Rattle.std.proofs.Common.{ℕ, ◌<◌, ◌+◌, ◌≡◌, ◌≢◌, ◌∙◌, ⊎_elim, ◌⊎◌, inl, inr, List, [], ◌∷◌, ◌++◌, Some, refl, sym, ap, subst, length, length-append, get_or, take, set}
 use Rattle.std.specs.Prelude.{Contains, slice_get, slice_index}
 use Rattle.std.specs.Global.{Vec}
 use Rattle.std.proofs.Math.ListN.{length-set}
@@ -7,7 +7,7 @@ use Rattle.std.proofs.lemmas.List.{take_more}
 use Rattle.std.proofs.lemmas.List.Elements.{Contains-append_left, Contains-push, Contains-push_cases}
 use Rattle.std.proofs.lemmas.Option.{same_Some}
 use Rattle.om_model.proofs.Options.{Contains-none, same_or_not}
-use Rattle.om_model.proofs.Lists.{slice_get-append_left, slice_get-set_other, slice_get-set_here, slice_get-read}
+use Rattle.om_model.proofs.Lists.{slice_get-append_left, slice_get-set_other, slice_get-set_here, slice_get-read, slice_get-push_cases}
 use Rattle.om_classes.specs.Lists.{Has, Keeps, IsPut, IsTaken, HasRooms, IsOfClass, IsShorter, KeepsMembers}
 use Rattle.om_classes.specs.Sign.{IsSetOf}
 
@@ -79,15 +79,6 @@ members_shorter class wanted old new is = record { many = is.many; kept = is.kep
 
 -- ---- lists with nothing
 
--- an element of a list with one more at its end
-pub pushed_cases : {X : Type 0} (xs : List X) (y : X) (i : ℕ) (x : X) → slice_get (xs ++ y ∷ []) i ≡ Some x
-    → (slice_get xs i ≡ Some x) ⊎ ((i ≡ length xs) × (y ≡ x))
-pushed_cases [] y zero x is = inr (refl, same_Some y x is)
-pushed_cases [] y (suc i) x is = cc
-pushed_cases (z ∷ xs) y zero x is = inl is
-pushed_cases (z ∷ xs) y (suc i) x is = ⊎_elim (λ before. inl before) (λ last. inr (ap suc last.0, last.1))
-    (pushed_cases xs y i x is)
-
 pub room_more : (old now new : List (Vec ℕ)) (w : Vec ℕ) (count : ℕ) → HasRooms old count now → w.items ≡ []
     → new ≡ now ++ w ∷ [] → HasRooms old (count + 1) new
 room_more old now new w count held none is = record {
@@ -97,7 +88,7 @@ room_more old now new w count held none is = record {
   back = λ d y has. ⊎_elim (λ before. held.back d y (has.0, before, has.2))
       (λ last. absurd (Contains-none y (subst (λ l. Contains l y) none
       (subst (λ (u : Vec ℕ). Contains u.items y) (sym last.1) has.2))))
-      (pushed_cases now w d has.0 (sym (ap (λ l. slice_get l d) is) ∙ has.1));
+      (slice_get-push_cases now w d has.0 (sym (ap (λ l. slice_get l d) is) ∙ has.1));
 }
 
 pub rooms_now : (old : List (Vec ℕ)) → HasRooms old (length old) old

@@ -9,7 +9,7 @@ use Rattle.std.proofs.lemmas.List.{take_more, append-nil, append_assoc, get_or-s
 use Rattle.std.proofs.lemmas.List.Elements.{Contains-append_left, Contains-append_cases, Contains-push_cases}
 use Rattle.std.proofs.lemmas.Option.{same_Some, slice_get-get_or, slice_get_within, get_or_from_slice_get}
 use Rattle.om_model.proofs.Options.{Contains-none, Contains-cases, same_or_not, slice_get_there}
-use Rattle.om_model.proofs.Lists.{slice_get-append_left, slice_get-set_other, slice_get-set_here, slice_get-last}
+use Rattle.om_model.proofs.Lists.{slice_get-append_left, slice_get-set_other, slice_get-set_here, slice_get-last, AllZip-push, slice_get-push_cases}
 use Rattle.om_types.specs.Reached.{listed_if}
 use Rattle.om_store.specs.Held.{AreDistinct, Adds, Grows}
 use Rattle.om_store.proofs.HeldLemmas.{there_kept, Grows-then}
@@ -20,8 +20,8 @@ use Rattle.om_classes.specs.Users.{parts_in}
 use Rattle.om_classes.specs.Sign.{IsSign}
 use Rattle.om_classes.specs.Parting.{IsReady, SignAt, SignedAt, AreNamed, NamedSoFar, AreMoved}
 use Rattle.om_classes.proofs.Loops.{UsesSoFar, UsersSoFar, MarksSoFar, UserMarksSoFar, SignedSoFar, MembersSoFar}
-use Rattle.om_classes.proofs.ListLemmas.{next_cases, pushed_cases, Keeps-then}
-use Rattle.om_classes.proofs.FormLemmas.{AllZip-more, AllZip-add, adds_grows}
+use Rattle.om_classes.proofs.ListLemmas.{next_cases, Keeps-then}
+use Rattle.om_classes.proofs.FormLemmas.{AllZip-more, adds_grows}
 
 -- ---- users
 
@@ -133,7 +133,7 @@ signed_more forms class old now new looked places places' i place form sign with
     record {
       grown = Grows-then old now new held.grown grown;
       distinct = distinct;
-      are = rw (is, take_more looked i 0 within) (AllZip-add (SignedAt forms (slice_index class) new) (take i looked) places
+      are = rw (is, take_more looked i 0 within) (AllZip-push (SignedAt forms (slice_index class) new) (take i looked) places
           (get_or looked i 0) place
           (AllZip-more (SignedAt forms (slice_index class) now) (SignedAt forms (slice_index class) new)
           (λ j p at_p. (at_p.0, there_kept now new p at_p.0 grown at_p.1, at_p.2)) (take i looked) places held.are)
@@ -173,9 +173,9 @@ module _ (found : List (List ℕ)) (parted kept place : ℕ) (numbers numbers' :
     grown = held.grown;
     signs = λ p d s other at_p named. ⊎_elim (λ before. held.signs p d s other at_p before)
         (λ last. absurd (other (last.0 ∙ held.many ∙ here)))
-        (pushed_cases numbers parted p d (sym (ap (λ l. slice_get l p) is) ∙ named));
+        (slice_get-push_cases numbers parted p d (sym (ap (λ l. slice_get l p) is) ∙ named));
     kept_is = λ d named. ⊎_elim (λ before. held.kept_is d before) (λ last. sym last.1)
-        (pushed_cases numbers parted kept d (sym (ap (λ l. slice_get l kept) is) ∙ named));
+        (slice_get-push_cases numbers parted kept d (sym (ap (λ l. slice_get l kept) is) ∙ named));
   }
 
   pub named_new : (w : Vec ℕ) (sign : List ℕ) (new : List (Vec ℕ)) → (place ≡ kept → ⊥)
@@ -195,10 +195,10 @@ module _ (found : List (List ℕ)) (parted kept place : ℕ) (numbers numbers' :
             reads ∙ same_Some sign s (sym at_place ∙ ap (slice_get found) (sym (last.0 ∙ held.many)) ∙ at_p),
           ),
         ))
-        (pushed_cases numbers (length now) p d (sym (ap (λ l. slice_get l p) is) ∙ named));
+        (slice_get-push_cases numbers (length now) p d (sym (ap (λ l. slice_get l p) is) ∙ named));
     kept_is = λ d named. ⊎_elim (λ before. held.kept_is d before)
         (λ last. absurd (other (sym held.many ∙ sym last.0)))
-        (pushed_cases numbers (length now) kept d (sym (ap (λ l. slice_get l kept) is) ∙ named));
+        (slice_get-push_cases numbers (length now) kept d (sym (ap (λ l. slice_get l kept) is) ∙ named));
   } where
     longer : length old ≤ length now
     longer = omega (arith, ap length held.grown.kept, length-append old held.grown.added)

@@ -35,12 +35,6 @@ AllZip-at R (a ∷ xs) (b ∷ ys) zero x y all at_k at_k' =
     subst (λ z. R z y) (same_Some a x at_k) (subst (λ z. R a z) (same_Some b y at_k') all.0)
 AllZip-at R (a ∷ xs) (b ∷ ys) (suc k) x y all at_k at_k' = AllZip-at R xs ys k x y all.1 at_k at_k'
 
-pub AllZip-long : {A B : Type 0} (R : A → B → Type 0) (xs : List A) (ys : List B) → AllZip R xs ys → length xs ≡ length ys
-AllZip-long R [] [] all = refl
-AllZip-long R [] (b ∷ ys) all = absurd all
-AllZip-long R (a ∷ xs) [] all = absurd all
-AllZip-long R (a ∷ xs) (b ∷ ys) all = ap suc (AllZip-long R xs ys all.1)
-
 AllZip-among : {A B : Type 0} (P Q : A → B → Type 0) (xs : List A) (ys : List B)
     → ((x : A) (y : B) → Contains xs x → P x y → Q x y) → AllZip P xs ys → AllZip Q xs ys
 AllZip-among P Q [] [] more all = all

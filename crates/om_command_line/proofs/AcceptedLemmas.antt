@@ -5,6 +5,7 @@ use Rattle.std.specs.List.{list_any}
 use Rattle.std.specs.Str.{bytes_eq}
 use Rattle.std.specs.Str.Parse.{digits_value, without_leading_plus}
 use Rattle.std.proofs.lemmas.Slice.Eq.{bytes_eq-Decides}
+use Rattle.std.proofs.lemmas.Bool.{or_parts, not-false}
 use Rattle.clap.specs.Walk.{Row, Rule, Text, arg_by_id, has_row, nothing_held, one_of, row_text, rows_after, settled, walk}
 use Rattle.clap.specs.Takes.{is_given}
 use Rattle.clap.specs.Faults.{level_fault}
@@ -17,7 +18,7 @@ use Rattle.om_command_line.proofs.LevelLemmas.{AreRead, given_has, none_of, row_
 use Rattle.om_command_line.proofs.LevelWalkLemmas.{HaveRows, all_defaults, rows_hold}
 use Rattle.om_command_line.proofs.RequestLemmas.{reads_by}
 use Rattle.om_command_line.proofs.SetLemmas.{form_fits, leaf_of, named_fault, named_met, rules_of}
-use Rattle.om_command_line.proofs.TableLemmas.{AreFound, all_found, each_own, neither, next_place, no_short, ruled, rules_from}
+use Rattle.om_command_line.proofs.TableLemmas.{AreFound, all_found, each_own, next_place, no_short, ruled, rules_from}
 use Rattle.om_command_line.proofs.TopLemmas.{both_none, words_begin}
 
 -- a number that clap accepts
@@ -33,10 +34,6 @@ either_word text accepted = go (bytes_eq text (codes "true")) (bytes_eq text (co
     go true b is other e = (true, (bytes_eq-Decides text (codes "true")).0 is)
     go false true other is e = (false, (bytes_eq-Decides text (codes "false")).0 is)
     go false false other last e = cc e
-
-given_true : (b : Bool) → not b ≡ false → b ≡ true
-given_true true e = refl
-given_true false e = cc e
 
 -- clap's rows have each argument
 module _ (c : List Rule) (rows : List Row) (are : AreRead c rows) where
@@ -73,13 +70,13 @@ module _ (c : List Rule) (rows : List Row) (are : AreRead c rows) where
       let later = arguments_there (next_place i (optional name greatest)) rest (asks told.0) more have given in
       (later.0, (told.0, told.1, later.1))
   arguments_there i (wanted name ∷ rest) asks (here, more) have given =
-      let all = neither (not (is_given name rows)) (list_any (λ a. a.required && not (is_given a.id rows)) (rules_from (next_place i (wanted name)) rest)) given in
-      let read = row_read c name rows are (given_has name rows (given_true (is_given name rows) all.0)) (ruled i (wanted name)) here.0 in
+      let all = or_parts (not (is_given name rows)) (list_any (λ a. a.required && not (is_given a.id rows)) (rules_from (next_place i (wanted name)) rest)) given in
+      let read = row_read c name rows are (given_has name rows (not-false (is_given name rows) all.0)) (ruled i (wanted name)) here.0 in
       let later = arguments_there (next_place i (wanted name)) rest (asks read.0) more have all.1 in
       (later.0, (read.0, read.1, later.1))
   arguments_there i (number name greatest ∷ rest) asks (here, more) have given =
-      let all = neither (not (is_given name rows)) (list_any (λ a. a.required && not (is_given a.id rows)) (rules_from (next_place i (number name greatest)) rest)) given in
-      let read = row_read c name rows are (given_has name rows (given_true (is_given name rows) all.0)) (ruled i (number name greatest)) here.0 in
+      let all = or_parts (not (is_given name rows)) (list_any (λ a. a.required && not (is_given a.id rows)) (rules_from (next_place i (number name greatest)) rest)) given in
+      let read = row_read c name rows are (given_has name rows (not-false (is_given name rows) all.0)) (ruled i (number name greatest)) here.0 in
       let told = number_there rows name greatest read.0 read.2 read.3 in
       let later = arguments_there (next_place i (number name greatest)) rest (asks told.0) more have all.1 in
       (later.0, (told.0, told.1, later.1))

@@ -3,7 +3,7 @@ use Rattle.std.proofs.Common.{◌≡◌, ◌∙◌, inl, inr, ◌==◌, ◌||◌
 use Rattle.std.specs.Prelude.{if◌then◌else◌, option_map, slice_get}
 use Rattle.std.specs.List.{find}
 use Rattle.std.specs.Str.{bytes_eq}
-use Rattle.std.proofs.lemmas.Bool.{ne_eqb}
+use Rattle.std.proofs.lemmas.Bool.{ne_eqb, or_parts}
 use Rattle.std.proofs.lemmas.Slice.Eq.{bytes_eq-Decides}
 use Rattle.clap.specs.Facts.{parser_of_value, unwrap_or_range}
 use Rattle.clap.specs.Values.{read_as}
@@ -20,7 +20,7 @@ use Rattle.clap.specs.declared.error.kind.ErrorKind.{ErrorKind}
 use Rattle.clap.specs.declared.error.kind.ErrorKind.TheVariants as kind
 use Rattle.clap.specs.declared.parser.matches.ValueSource.TheVariants.{CommandLine, DefaultValue}
 use Rattle.om_outcome.specs.CommandLine.{flag, rule_for}
-use Rattle.om_command_line.proofs.TableLemmas.{IsOwn, TakesOne, neither}
+use Rattle.om_command_line.proofs.TableLemmas.{IsOwn, TakesOne}
 use Rattle.om_command_line.proofs.TopLemmas.{both_none}
 
 pub no_kinds : (b : Bool) (k : ErrorKind) → (if b then k ∷ [] else []) ≡ [] → b ≡ false
@@ -39,19 +39,19 @@ at_row_past id change missing r rs other = ap (λ b. if b then change r ++ rs el
 -- a name that no row has
 pub none_of : (name : Text) (rows : List Row) → has_row name rows ≡ false → find (λ r. bytes_eq r.id name) rows ≡ None
 none_of name [] absent = refl
-none_of name (r ∷ rs) absent = let apart = neither (bytes_eq r.id name) (has_row name rs) absent in rw apart.0 (none_of name rs apart.1)
+none_of name (r ∷ rs) absent = let apart = or_parts (bytes_eq r.id name) (has_row name rs) absent in rw apart.0 (none_of name rs apart.1)
 
 -- a row of a new name comes last
 pub added_last : (id : Text) (change : Row → List Row) (new : Row) (rs : List Row) → has_row id rs ≡ false → at_row id change (new ∷ []) rs ≡ rs ++ new ∷ []
 added_last id change new [] absent = refl
 added_last id change new (r ∷ rs) absent =
-    let apart = neither (bytes_eq r.id id) (has_row id rs) absent in
+    let apart = or_parts (bytes_eq r.id id) (has_row id rs) absent in
     at_row_past id change (new ∷ []) r rs apart.0 ∙ ap (λ l. r ∷ l) (added_last id change new rs apart.1)
 
 pub none_left_out : (id : Text) (rs : List Row) → has_row id rs ≡ false → at_row id (λ _. []) [] rs ≡ rs
 none_left_out id [] absent = refl
 none_left_out id (r ∷ rs) absent =
-    let apart = neither (bytes_eq r.id id) (has_row id rs) absent in
+    let apart = or_parts (bytes_eq r.id id) (has_row id rs) absent in
     at_row_past id (λ _. []) [] r rs apart.0 ∙ ap (λ l. r ∷ l) (none_left_out id rs apart.1)
 
 pub has_last : (new : Row) (rs : List Row) → has_row new.id (rs ++ new ∷ []) ≡ true

@@ -6,6 +6,7 @@ use Rattle.std.specs.Option.{option_map_or}
 use Rattle.std.specs.Str.{bytes_eq}
 use Rattle.std.specs.Str.Parse.{IsNumeral, digits_value, without_leading_plus}
 use Rattle.std.proofs.lemmas.Slice.Eq.{bytes_eq-Decides}
+use Rattle.std.proofs.lemmas.Bool.{or_parts}
 use Rattle.clap.specs.Walk.{Held, Row, Rule, Text, Walk, arg_by_id, arg_by_long, finished, has_row, more_values, nothing_held, row_text, rows_after, settled, walk, walk_from, walked, with_default, with_values}
 use Rattle.clap.specs.Facts.{explicit_source}
 use Rattle.clap.specs.Simple.{Shape}
@@ -24,7 +25,7 @@ use Rattle.om_command_line.proofs.LevelWalkLemmas.{no_default}
 use Rattle.om_command_line.proofs.PlainWalkLemmas.{Comes, Holds, digits_accepted, digits_are_argument, flag_comes, no_plus, none_comes, number_comes, option_comes, row_at, standing, then_comes, use_row, walk_no_words, wanted_comes}
 use Rattle.om_command_line.proofs.RequestLemmas.{asks_whole, reads_by}
 use Rattle.om_command_line.proofs.SetLemmas.{form_fits, leaf_of, named_fault, named_met, rules_of}
-use Rattle.om_command_line.proofs.TableLemmas.{AreFound, IsFound, all_found, are_lawful, both, is_lawful, is_named, fresh_name, lawful_rest, name_of, neither, next_place, ruled, rules_from, same_text, small_number, small_option, small_optional, spells, taking, usual_accepted, usual_as_is}
+use Rattle.om_command_line.proofs.TableLemmas.{AreFound, IsFound, all_found, are_lawful, both, is_lawful, is_named, fresh_name, lawful_rest, name_of, next_place, ruled, rules_from, same_text, small_number, small_option, small_optional, spells, taking, usual_accepted, usual_as_is}
 
 -- ---- rows by their names
 
@@ -50,7 +51,7 @@ row_kept name r (x ∷ xs) more found = go (bytes_eq x.id name) refl (row_kept n
 -- a row of a new name
 row_last : (name : Text) (r : Row) (rows : List Row) → has_row name rows ≡ false → bytes_eq r.id name ≡ true → row_of name (rows ++ r ∷ []) ≡ Some r
 row_last name r [] absent is = rw is refl
-row_last name r (x ∷ xs) absent is = let apart = neither (bytes_eq x.id name) (has_row name xs) absent in rw apart.0 (row_last name r xs apart.1 is)
+row_last name r (x ∷ xs) absent is = let apart = or_parts (bytes_eq x.id name) (has_row name xs) absent in rw apart.0 (row_last name r xs apart.1 is)
 
 -- a row of another name
 row_other : (name : Text) (r : Row) (rows : List Row) → bytes_eq r.id name ≡ false → row_of name (rows ++ r ∷ []) ≡ row_of name rows
@@ -59,11 +60,11 @@ row_other name r (x ∷ xs) other = ap (λ o. cond (bytes_eq x.id name) (Some x)
 
 has_other : (name : Text) (r : Row) (rows : List Row) → bytes_eq r.id name ≡ false → has_row name rows ≡ false → has_row name (rows ++ r ∷ []) ≡ false
 has_other name r [] other absent = rw other refl
-has_other name r (x ∷ xs) other absent = let apart = neither (bytes_eq x.id name) (has_row name xs) absent in rw apart.0 (has_other name r xs other apart.1)
+has_other name r (x ∷ xs) other absent = let apart = or_parts (bytes_eq x.id name) (has_row name xs) absent in rw apart.0 (has_other name r xs other apart.1)
 
 none_before : (name : Text) (rows more : List Row) → has_row name rows ≡ false → row_of name (rows ++ more) ≡ row_of name more
 none_before name [] more absent = refl
-none_before name (x ∷ xs) more absent = let apart = neither (bytes_eq x.id name) (has_row name xs) absent in rw apart.0 (none_before name xs more apart.1)
+none_before name (x ∷ xs) more absent = let apart = or_parts (bytes_eq x.id name) (has_row name xs) absent in rw apart.0 (none_before name xs more apart.1)
 
 none_after : (name : Text) (rows more : List Row) → has_row name more ≡ false → row_of name (rows ++ more) ≡ row_of name rows
 none_after name [] more absent = none_of name more absent
@@ -133,7 +134,7 @@ module _ (level : Text) (c : List Rule) where
   still_fresh : (r : Row) (rows : List Row) (uses : List Use) → is_used r.id uses ≡ false → AreFresh rows uses → AreFresh (rows ++ r ∷ []) uses
   still_fresh r rows [] once fresh = tt
   still_fresh r rows (one ∷ uses) once (first, more) =
-      let apart = neither (bytes_eq (used_in one) r.id) (is_used r.id uses) once in
+      let apart = or_parts (bytes_eq (used_in one) r.id) (is_used r.id uses) once in
       (has_other (used_in one) r rows (apart_too (used_in one) r.id apart.0) first, still_fresh r rows uses apart.1 more)
 
   use_comes : (one : Use) → IsWritten one → (h : Held) (n : ℕ) (rows : List Row) → Holds level c h rows → has_row (used_in one) rows ≡ false
@@ -177,14 +178,14 @@ module _ (level : Text) (c : List Rule) where
 
   still_free : (r : Row) (rows : List Row) (arguments : List Argument) → is_named r.id arguments ≡ false → AreFree rows arguments → AreFree (rows ++ r ∷ []) arguments
   still_free r rows [] other free = tt
-  still_free r rows (flag name ∷ rest) other free = still_free r rows rest (neither (bytes_eq r.id name) (is_named r.id rest) other).1 free
-  still_free r rows (option name greatest usual ∷ rest) other free = still_free r rows rest (neither (bytes_eq r.id name) (is_named r.id rest) other).1 free
-  still_free r rows (optional name greatest ∷ rest) other free = still_free r rows rest (neither (bytes_eq r.id name) (is_named r.id rest) other).1 free
+  still_free r rows (flag name ∷ rest) other free = still_free r rows rest (or_parts (bytes_eq r.id name) (is_named r.id rest) other).1 free
+  still_free r rows (option name greatest usual ∷ rest) other free = still_free r rows rest (or_parts (bytes_eq r.id name) (is_named r.id rest) other).1 free
+  still_free r rows (optional name greatest ∷ rest) other free = still_free r rows rest (or_parts (bytes_eq r.id name) (is_named r.id rest) other).1 free
   still_free r rows (wanted name ∷ rest) other (first, free) =
-      let apart = neither (bytes_eq r.id name) (is_named r.id rest) other in
+      let apart = or_parts (bytes_eq r.id name) (is_named r.id rest) other in
       (has_other name r rows apart.0 first, still_free r rows rest apart.1 free)
   still_free r rows (number name greatest ∷ rest) other (first, free) =
-      let apart = neither (bytes_eq r.id name) (is_named r.id rest) other in
+      let apart = or_parts (bytes_eq r.id name) (is_named r.id rest) other in
       (has_other name r rows apart.0 first, still_free r rows rest apart.1 free)
 
   -- the place after the last
@@ -353,7 +354,7 @@ module _ (level : Text) (c : List Rule) where
   all_others : (i : ℕ) (arguments : List Argument) (name : Text) (rows : List Row) → is_named name arguments ≡ false → row_of name (fold with_default rows (rules_from i arguments)) ≡ row_of name rows
   all_others i [] name rows other = refl
   all_others i (a ∷ rest) name rows other =
-      let differ = neither (bytes_eq name (name_of a)) (is_named name rest) other in
+      let differ = or_parts (bytes_eq name (name_of a)) (is_named name rest) other in
       all_others (next_place i a) rest name (with_default rows (ruled i a)) differ.1 ∙ one_other i a name rows (apart_too name (name_of a) differ.0)
 
   places_kept : (rows rows' : List Row) → ((name : Text) (r : Row) → row_of name rows ≡ Some r → row_of name rows' ≡ Some r) → (arguments : List Argument) (texts : List Text)
@@ -483,16 +484,16 @@ module _ (level : Text) (c : List Rule) where
     still_after : (i : ℕ) (a : Argument) (rows : List Row) (rest : List Argument) → is_named (name_of a) rest ≡ false → AreStill rows rest → AreStill (with_default rows (ruled i a)) rest
     still_after i a rows [] other still = tt
     still_after i a rows (flag name ∷ rest) other (first, still) =
-        let differ = neither (bytes_eq (name_of a) name) (is_named (name_of a) rest) other in
+        let differ = or_parts (bytes_eq (name_of a) name) (is_named (name_of a) rest) other in
         (one_other i a name rows differ.0 ∙ first, still_after i a rows rest differ.1 still)
     still_after i a rows (option name greatest usual ∷ rest) other (first, still) =
-        let differ = neither (bytes_eq (name_of a) name) (is_named (name_of a) rest) other in
+        let differ = or_parts (bytes_eq (name_of a) name) (is_named (name_of a) rest) other in
         (one_other i a name rows differ.0 ∙ first, still_after i a rows rest differ.1 still)
     still_after i a rows (optional name greatest ∷ rest) other (first, still) =
-        let differ = neither (bytes_eq (name_of a) name) (is_named (name_of a) rest) other in
+        let differ = or_parts (bytes_eq (name_of a) name) (is_named (name_of a) rest) other in
         (one_other i a name rows differ.0 ∙ first, still_after i a rows rest differ.1 still)
-    still_after i a rows (wanted name ∷ rest) other still = still_after i a rows rest (neither (bytes_eq (name_of a) name) (is_named (name_of a) rest) other).1 still
-    still_after i a rows (number name greatest ∷ rest) other still = still_after i a rows rest (neither (bytes_eq (name_of a) name) (is_named (name_of a) rest) other).1 still
+    still_after i a rows (wanted name ∷ rest) other still = still_after i a rows rest (or_parts (bytes_eq (name_of a) name) (is_named (name_of a) rest) other).1 still
+    still_after i a rows (number name greatest ∷ rest) other still = still_after i a rows rest (or_parts (bytes_eq (name_of a) name) (is_named (name_of a) rest) other).1 still
 
     still_first : (all : List Argument) → AreFound c 1 all → (texts : List Text) → (i : ℕ) (arguments : List Argument) → AreFound c i arguments → AreStill (map use_row uses ++ place_rows all texts) arguments
     still_first all found texts i [] here = tt

@@ -14,6 +14,7 @@ use Rattle.clap.specs.Words.{fault_of, subcommand_of}
 use Rattle.clap.proofs.FaultLemmas.{stopped_fault}
 use Rattle.om_outcome.specs.CommandLine.{Form, command_set, form_of, forms}
 use Rattle.om_command_line.proofs.TableLemmas.{are_lawful, both, rules_from}
+use Rattle.om_model.proofs.Lists.{found_passes}
 
 -- ---- what clap builds
 
@@ -59,14 +60,6 @@ pub met_is : (words : List Text) → subcommand_of command_set words ≡ entered
 met_is words = ap (λ (a : App). entered a (stop_after a.top.rules (names_of a) words)) commands_are_built
 
 -- ---- the command of a name
-
-found_passes : {X : Type 0} (test : X → Bool) (xs : List X) (x : X) → find test xs ≡ Some x → test x ≡ true
-found_passes test [] x found = cc found
-found_passes test (y ∷ ys) x found = go (test y) refl (found_passes test ys x)
-  where
-    go : (b : Bool) → test y ≡ b → (find test ys ≡ Some x → test x ≡ true) → test x ≡ true
-    go true e later = let is : Some y ≡ Some x = (rw e at found) in let same : y ≡ x = cc is in subst (λ z. test z ≡ true) same e
-    go false e later = later (rw e at found)
 
 found_all : {X : Type 0} (test all : X → Bool) (xs : List X) (x : X) → list_all all xs ≡ true → find test xs ≡ Some x → all x ≡ true
 found_all test all [] x each found = cc found

@@ -1,11 +1,11 @@
 -- What clap builds of the arguments of a command, and how it finds them again.
-use Rattle.std.proofs.Common.{◌≡◌, ◌∙◌, ◌⊎◌, inl, inr, ◌==◌, ◌<◌, ◌≤◌, ◌+◌, ◌||◌, ◌&&◌, ℕ, Bool, true, false, not, List, [], ◌∷◌, ◌++◌, map, length, min, Option, Some, None, is_some, codes, refl, sym, ap, subst, arith}
+use Rattle.std.proofs.Common.{◌≡◌, ◌∙◌, ◌⊎◌, inl, inr, ◌==◌, ◌<◌, ◌≤◌, ◌+◌, ◌&&◌, ℕ, Bool, true, false, not, List, [], ◌∷◌, ◌++◌, map, length, min, Option, Some, None, is_some, codes, refl, sym, ap, subst, arith}
 use Rattle.std.specs.Prelude.{◌^◌, nat_lt}
 use Rattle.std.specs.List.{find, list_any}
 use Rattle.std.specs.Option.{option_map_or}
 use Rattle.std.specs.Str.{bytes_eq}
 use Rattle.std.specs.Str.Parse.{without_leading_plus}
-use Rattle.std.proofs.lemmas.Bool.{eq-eqb, ltb-true, ne_eqb}
+use Rattle.std.proofs.lemmas.Bool.{eq-eqb, ltb-true, ne_eqb, or_parts, not-true}
 use Rattle.std.proofs.lemmas.Slice.Eq.{bytes_eq-Decides}
 use Rattle.clap.specs.Lexer.{long_of, usize_max}
 use Rattle.clap.specs.Facts.{unwrap_or_range}
@@ -32,14 +32,6 @@ is_text name word = go (bytes_eq name word) refl
 pub both : (a b : Bool) → (a && b) ≡ true → (a ≡ true) × (b ≡ true)
 both true b e = (refl, e)
 both false b e = cc e
-
-pub neither : (a b : Bool) → (a || b) ≡ false → (a ≡ false) × (b ≡ false)
-neither true b none = cc none
-neither false b none = (refl, none)
-
-pub denied : (b : Bool) → not b ≡ true → b ≡ false
-denied true e = cc e
-denied false e = refl
 
 -- ---- what clap builds of an argument
 
@@ -105,7 +97,7 @@ lawful_rest a rest lawful = (both (not (is_named (name_of a) rest)) (are_lawful 
 
 pub fresh_name : (a : Argument) (rest : List Argument) → are_lawful (a ∷ rest) ≡ true → is_named (name_of a) rest ≡ false
 fresh_name a rest lawful =
-    denied (is_named (name_of a) rest) (both (not (is_named (name_of a) rest)) (are_lawful rest) (both (is_lawful a) (not (is_named (name_of a) rest) && are_lawful rest) lawful).1).0
+    not-true (is_named (name_of a) rest) (both (not (is_named (name_of a) rest)) (are_lawful rest) (both (is_lawful a) (not (is_named (name_of a) rest) && are_lawful rest) lawful).1).0
 
 module _ (name : Text) (greatest : ℕ) (usual : Text) (lawful : is_lawful (option name greatest usual) ≡ true) where
   rest_lawful : ((accepts false (Unsigned 0 greatest) usual && (nat_lt greatest (2 ^ 64) && bytes_eq (without_leading_plus usual) usual))) ≡ true
@@ -201,7 +193,7 @@ are_past : (b : Argument) (j : ℕ) (c : List Rule) (i : ℕ) (arguments : List 
     → i + length arguments < 1000 → AreFound c i arguments → AreFound (ruled j b ∷ c) i arguments
 are_past b j c i [] fresh few least short found = tt
 are_past b j c i (a ∷ rest) fresh few least short (found, more) =
-    let apart = neither (bytes_eq (name_of b) (name_of a)) (is_named (name_of b) rest) fresh in
+    let apart = or_parts (bytes_eq (name_of b) (name_of a)) (is_named (name_of b) rest) fresh in
     let within = next_within i a (omega (arith, short)) in
     (found_past b j c i a apart.0 few least found, are_past b j c (next_place i a) rest apart.1 few (omega (arith, within.0, least)) (omega (arith, within.1, short)) more)
 
@@ -214,7 +206,7 @@ all_found i (a ∷ rest) lawful short =
     let within = next_within i a (omega (arith, short)) in
     let short' : next_place i a + length rest < 1000 = omega (arith, within.1, short) in (
       found_here i a (rules_from (next_place i a) rest),
-      are_past a i (rules_from (next_place i a) rest) (next_place i a) rest (denied (is_named (name_of a) rest) apart.0) (omega (arith, short)) (omega arith) short'
+      are_past a i (rules_from (next_place i a) rest) (next_place i a) rest (not-true (is_named (name_of a) rest) apart.0) (omega (arith, short)) (omega arith) short'
           (all_found (next_place i a) rest apart.1 short'),
     )
 

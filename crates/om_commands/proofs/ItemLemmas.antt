@@ -102,13 +102,6 @@ module _ {D T E : Type 0} (language : Language D T E) (limit : ℕ) where
     spelled = spell_after limit bytes more later (h.tree ∷ []) h.spelled;
   }
 
-pub item_stays :
-    {D T E : Type 0} (language : Language D T E) (a : Task T E)
-    (bytes : List ℕ) (item : Item) (more later : List ℕ)
-    → IsFirstValue language a.limit bytes item more
-    → IsFirstValue language a.limit (bytes ++ later) item (more ++ later)
-item_stays language a = first_stays language a.limit
-
 -- ---- what is said
 
 pub both_same : (said other : Said) → said.text ≡ other.text → said.well ≡ other.well → said ≡ other

@@ -4,11 +4,9 @@ use Rattle.om_outcome.specs.Outcome.{Found, opened, whole, Request, AskedType, t
 use Rattle.om_promises.specs.Commands.{Fetches}
 use Rattle.om_promises.specs.Lawful.{AreInTurns}
 use Rattle.om_promises.specs.LawfulLanguage.{IsLawful}
+use Rattle.om_promises.proofs.ExampleLemmas.{none_later}
 use Rattle.om_commands.specs.Tasks.{HasPath, WantsFile, WantsScript, Wants, commands}
 use Rattle.om_commands.proofs.FindLemmas.{type_by, wanted_read}
-
-pub not_after : (turn later : ℕ) → turn < later → later ≡ 0 → ⊥
-not_after turn later less e = omega arith
 
 pub not_between : (turn later : ℕ) → turn < later → turn ≡ 1 → later ≡ 1 → ⊥
 not_between turn later less e f = omega arith
@@ -71,7 +69,7 @@ module _ {D T E : Type 0} (language : Language D T E) (lawful : IsLawful languag
       → Wants language request files later other
       → (bytes : List ℕ) × (files turn name ≡ opened (whole bytes))
   after_read request files turn later name other less wants (inl (now, w)) =
-      absurd (not_after turn later less now)
+      absurd (none_later turn later less now)
   after_read request files turn later name other less (inr (then, v)) (inr (now, w)) =
       absurd (not_between turn later less then now)
   after_read request files turn later name other less (inl (then, v)) (inr (now, w)) =

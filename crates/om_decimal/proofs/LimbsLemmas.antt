@@ -1,6 +1,5 @@
 -- The number that limbs hold, limb by limb.
-use Rattle.std.proofs.Common.{◌≡◌, ℕ, zero, suc, ◌+◌, ◌-◌, ◌*◌, ◌/◌, ◌%◌, ◌^◌, ◌<◌, ◌≤◌, List, replicate, length, get_or, set, refl, ap, ◌∙◌, inl, inr, arith, add-one, eq-zero-or-pos, pow-add}
-use Rattle.std.specs.Prelude.{slice_index}
+use Rattle.std.proofs.Common.{◌≡◌, ℕ, zero, suc, ◌+◌, ◌-◌, ◌*◌, ◌/◌, ◌%◌, ◌^◌, ◌<◌, ◌≤◌, List, length, get_or, set, refl, ap, ◌∙◌, inl, inr, arith, add-one, eq-zero-or-pos, pow-add}
 use native.Mathlib.Nat.{mul-le-mul_right, mul-le-mul_left, mul-pos, lt_of_lt_of_le, pow-suc, pow-zero}
 use lib.Dec.{lit≤}
 use lib.Seq.{get_or-set_same, get_or-set_other}
@@ -62,11 +61,6 @@ number_below_less xs ys i fit h = omega (arith, number_below-suc xs i, number_be
 pub word_fits : (n : ℕ) → n < 2 ^ 64 → n < limb_weight 74
 unfolding limb_weight
 word_fits n h = lt_of_lt_of_le h (lit≤ tt)
-
-pub zero_limbs : (n i : ℕ) → slice_index (replicate n 0) i ≡ 0
-zero_limbs zero i = refl
-zero_limbs (suc n) zero = refl
-zero_limbs (suc n) (suc i) = zero_limbs n i
 
 power_pos : (b k : ℕ) → 0 < b → 0 < b ^ k
 power_pos b zero p = rw pow-zero (omega arith)

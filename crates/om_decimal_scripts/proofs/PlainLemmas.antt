@@ -1,13 +1,14 @@
 -- The plain text of a script, line by line.
-use Rattle.std.proofs.Common.{ℕ, ◌+◌, ◌≡◌, ◌<◌, ◌≤◌, ◌∙◌, Bool, false, eqb, List, [], ◌∷◌, ◌++◌, length, map, take, drop, refl, sym, ap, subst, arith, append_assoc, drop-drop, length-drop}
+use Rattle.std.proofs.Common.{ℕ, ◌+◌, ◌≡◌, ◌<◌, ◌≤◌, ◌∙◌, Bool, eqb, List, [], ◌∷◌, ◌++◌, length, map, take, drop, refl, sym, ap, subst, arith, append_assoc, drop-drop, length-drop}
 use Rattle.std.specs.Prelude.{◌≢◌, not}
 use Rattle.std.specs.List.{All, join_with_byte, position_or_len}
 use Rattle.std.proofs.lemmas.List.{length-map}
-use Rattle.std.proofs.lemmas.List.Elements.{All-append, All-from_get_or, All-from_recursion}
-use Rattle.std.proofs.lemmas.List.Splits.{slice_split_none, slice_split_first, length-slice_split}
-use Rattle.std.proofs.lemmas.List.Sums.{fails_before_first, prefix_len-le-length}
+use Rattle.std.proofs.lemmas.List.Elements.{All-append, All-from_recursion}
+use Rattle.std.proofs.lemmas.List.Splits.{slice_split_first, length-slice_split}
+use Rattle.std.proofs.lemmas.List.Sums.{prefix_len-le-length}
 use Rattle.std.proofs.Math.Seq.{take-length}
 use Rattle.om_path.specs.ScriptAnswer.{lines_of}
+use Rattle.om_path.proofs.ScriptLemmas.{last_line}
 use Rattle.om_decimal_texts.specs.Plain.{decimals_in, plain_text}
 use Rattle.om_decimal_scripts.specs.declared.plain.PlainScript.{PlainScript}
 use Rattle.om_decimal_scripts.specs.Scripts.{plain_script, decimals_of}
@@ -20,11 +21,6 @@ abbrev pub first_len : List ℕ → ℕ
 first_len text = position_or_len is_feed text
 
 -- ---- the first line
-
-last_line : (text : List ℕ) → first_len text ≡ length text → lines_of text ≡ text ∷ []
-last_line text e =
-    slice_split_none is_feed text
-    (All-from_get_or (λ b. is_feed b ≡ false) text 0 (λ k h. fails_before_first is_feed text k 0 (subst (λ n. k < n) (sym e) h)))
 
 join_more : (line : List ℕ) (others : List (List ℕ)) → 0 < length others → join_with_byte 10 (line ∷ others) ≡ line ++ 10 ∷ join_with_byte 10 others
 join_more line [] some = absurd (omega arith)

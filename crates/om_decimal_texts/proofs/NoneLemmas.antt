@@ -12,6 +12,7 @@ use Rattle.om_lex.specs.declared.lexeme.Symbol.TheVariants as symbols
 use Rattle.om_lex.specs.Lexeme.{is_separator, starts_name, is_name_byte, minus_text, suffix_text, symbol_text, Form, Reserved, Lower, Upper, Tag, Variable, Character, Number, Quoted, Double, Mark, form_bytes, form_kind}
 use Rattle.om_lex.specs.LexText.{Part, Separator, Comment, Word, part_bytes, IsPart}
 use Rattle.om_lex.proofs.StepLaws.{part_step, step-part}
+use Rattle.om_lexed.proofs.TakenLemmas.{no_digit}
 use Rattle.om_decimal.specs.Reading.{Stops, decimal_at}
 use Rattle.om_decimal.proofs.ScanLemmas.{integer_no_decimal, other_no_decimal}
 use Rattle.om_decimal_texts.specs.declared.front.Front.TheVariants as fronts
@@ -21,8 +22,8 @@ use Rattle.om_decimal_texts.proofs.SpelledLemmas.{first_of, ends_open, IsKept}
 -- ---- first bytes
 
 -- a byte that passes a test is no digit, where no digit passes it
-no_digit : (p : ℕ → Bool) (b : ℕ) → ((c : ℕ) → c < 58 → (is_ascii_digit c && p c) ≡ false) → p b ≡ true → is_ascii_digit b ≡ false
-no_digit p b none passes = elim (cases_Bool (is_ascii_digit b)) [
+not_digit : (p : ℕ → Bool) (b : ℕ) → ((c : ℕ) → c < 58 → (is_ascii_digit c && p c) ≡ false) → p b ≡ true → is_ascii_digit b ≡ false
+not_digit p b none passes = elim (cases_Bool (is_ascii_digit b)) [
   | inr fails ↦ fails
   | inl digit ↦ absurd (
       let below = leb-true b 57 (and_parts (leb 48 b) (leb b 57) digit).1 in
@@ -37,11 +38,11 @@ other_byte p n b fails passes e = false≢true (sym fails ∙ ap p (sym e) ∙ p
 
 name_none : (b : ℕ) (bs : List ℕ) → starts_name b ≡ true → decimal_at (b ∷ bs) ≡ None
 name_none b bs first =
-    other_no_decimal b bs (no_digit starts_name b (λ c h. agree_below_at (λ c. is_ascii_digit c && starts_name c) (λ c. false) 58 c refl h) first) (other_byte starts_name 45 b refl first)
+    other_no_decimal b bs (not_digit starts_name b (λ c h. agree_below_at (λ c. is_ascii_digit c && starts_name c) (λ c. false) 58 c refl h) first) (other_byte starts_name 45 b refl first)
 
 separator_none : (b : ℕ) (bs : List ℕ) → is_separator b ≡ true → decimal_at (b ∷ bs) ≡ None
 separator_none b bs is =
-    other_no_decimal b bs (no_digit is_separator b (λ c h. agree_below_at (λ c. is_ascii_digit c && is_separator c) (λ c. false) 58 c refl h) is) (other_byte is_separator 45 b refl is)
+    other_no_decimal b bs (not_digit is_separator b (λ c h. agree_below_at (λ c. is_ascii_digit c && is_separator c) (λ c. false) 58 c refl h) is) (other_byte is_separator 45 b refl is)
 
 byte_none : (b : ℕ) (bs : List ℕ) → is_ascii_digit b ≡ false → 45 ≢ b → decimal_at (b ∷ bs) ≡ None
 byte_none b bs digit minus = other_no_decimal b bs digit (λ e. minus (sym e))
@@ -68,17 +69,11 @@ mark_none symbols.Hash s = byte_none 35 _ refl (λ e. omega arith)
 
 -- ---- integers
 
-name_byte_digit : (b : ℕ) → is_name_byte b ≡ false → is_ascii_digit b ≡ false
-name_byte_digit b e = elim (cases_Bool (is_ascii_digit b)) [
-  | inr none ↦ none
-  | inl digit ↦ absurd (false≢true (sym e ∙ or_left _ _ (or_left _ _ (or_left _ _ (or_left _ _ digit)))))
-]
-
 -- what is neither a point nor a byte of a name stops a number
 pub stops_apart : (s : List ℕ) → first_of s ≢ 46 → is_name_byte (first_of s) ≡ false → Stops s
 stops_apart [] point name = tt
 stops_apart (b ∷ bs) point name = (
-  name_byte_digit b name,
+  no_digit b name,
   point,
   λ e. true≢false (sym (ap is_name_byte e) ∙ name),
   λ e. true≢false (sym (ap is_name_byte e) ∙ name),

@@ -18,7 +18,8 @@ use Rattle.om_lex.proofs.NameLaws.{apart, take_while-more, form_bytes-word}
 use Rattle.om_lex.proofs.FrontLaws.{form_at-word}
 use Rattle.om_lex.proofs.TakenLaws.{found-taken}
 use Rattle.om_lexed.specs.Lexed.{Ends, NoStar}
-use Rattle.om_lexed.proofs.TakenLemmas.{found_part, paren_part, tag_found, number_found, double_found, quoted_found, character_found}
+use Rattle.om_lexed.proofs.LexedLemmas.{by_next}
+use Rattle.om_lexed.proofs.TakenLemmas.{ends_run, found_part, paren_part, tag_found, number_found, double_found, quoted_found, character_found}
 use Rattle.om_decimal_texts.specs.Laws.{IsApart}
 
 -- ---- first and last bytes
@@ -104,10 +105,6 @@ name_ends b bs r name whole =
 
 run_is : (b : ℕ) (bs r : List ℕ) → list_all is_name_byte (b ∷ bs) ≡ true → Ends r → take_while is_name_byte (b ∷ bs ++ r) ≡ b ∷ bs
 run_is b bs r name ends = take_while-more is_name_byte (b ∷ bs) r name ∙ ap (λ t. b ∷ bs ++ t) (ends_run r ends) ∙ append-nil (b ∷ bs)
-  where
-    ends_run : (after : List ℕ) → Ends after → take_while is_name_byte after ≡ []
-    ends_run [] e = refl
-    ends_run (b ∷ bs) e = rw e refl
 
 closed_name : (b : ℕ) (bs : List ℕ) → list_all is_name_byte (b ∷ bs) ≡ true → ends_open (b ∷ bs) ≡ false
 closed_name b bs name = closed is_name_byte (refl, refl, refl, refl) b bs name
@@ -147,10 +144,6 @@ closed_number minus d ds suffixes.Int64 digits = ends_append (minus_text minus) 
 closed_number minus d ds suffixes.Native digits = ends_append (minus_text minus) d (ds ++ 110 ∷ []) ∙ ends_append (d ∷ ds) 110 []
 
 -- ---- symbols
-
-by_next : (P : List ℕ → Type 0) → P [] → ((b : ℕ) (bs : List ℕ) → P (b ∷ bs)) → (after : List ℕ) → P after
-by_next P none some [] = none
-by_next P none some (b ∷ bs) = some b bs
 
 -- a symbol by its byte and the next one
 next_91 : (s : List ℕ) → form_at (91 ∷ s) ≡ or_symbol (pair_symbol 91 (first_of s)) (Some symbols.OpenBracket)

@@ -1,2 +1,3 @@
 mod Put
 mod Lookup
+pub mod PutsLemmas

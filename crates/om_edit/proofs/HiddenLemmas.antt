@@ -2,10 +2,10 @@
 -- was there.
 use Rattle.std.proofs.Common.{ℕ, zero, suc, ◌≡◌, ◌≢◌, ◌∙◌, List, [], ◌∷◌, ◌++◌, length, set, Option, Some, None, Result, Ok, Err, refl, ap, sym, subst}
 use Rattle.std.specs.Prelude.{slice_get, option_map, option_and_then, ⊤}
-use Rattle.std.proofs.lemmas.Option.{none-some}
 use Rattle.om_model.specs.declared.value.Val.{Val}
 use Rattle.om_model.specs.declared.value.Val.TheVariants as vals
 use Rattle.om_model.specs.declared.value.Obj.{Obj}
+use Rattle.om_model.proofs.Lists.{slice_get-append_left}
 use Rattle.om_lex.specs.declared.lexeme.Lexeme.{Lexeme}
 use Rattle.om_types.specs.declared.decl.Decl.{Decl}
 use Rattle.om_types.specs.declared.names.Names.{Names}
@@ -36,11 +36,6 @@ use Rattle.om_edit.specs.Laws.{AreDeclaredEdits}
 use Rattle.om_edit.specs.HiddenLaws.{IsUnreached, IsNeverReached}
 
 -- ---- lists
-
-kept_before : {X : Type 0} (xs ys : List X) (k : ℕ) (x : X) → slice_get xs k ≡ Some x → slice_get (xs ++ ys) k ≡ Some x
-kept_before [] ys k x is = absurd (none-some x is)
-kept_before (y ∷ xs) ys zero x is = is
-kept_before (y ∷ xs) ys (suc k) x is = kept_before xs ys k x is
 
 set_elsewhere : {X : Type 0} (xs : List X) (p k : ℕ) (new : X) → p ≢ k → slice_get (set xs p new) k ≡ slice_get xs k
 set_elsewhere [] p k new other = refl
@@ -123,7 +118,7 @@ module _ {T : Type 0} (shape : T → ShapeOf T) (names : T → Names) (Equal : T
     never : (step : ℕ) (edited : List Obj × Val) → ◌≡◌ {A = Answer T} (Ok edited) (Err (no_field Left step)) → ⊥
     never step edited is = cc
   set_keeps (Ok q) there lexemes end (objects, value, literal, is) =
-      kept_by q.spot value (graph ++ objects) (there q refl) (kept_before graph objects o object at) is
+      kept_by q.spot value (graph ++ objects) (there q refl) (slice_get-append_left graph objects o object at) is
 
   link_keeps : (p source : Result (Place T) ℕ) → ((q : Place T) → p ≡ Ok q → IsElsewhere (shaped shape Equal) graph o q.spot)
       → Ok edited ≡ linked graph root p source → Kept edited
@@ -136,7 +131,7 @@ module _ {T : Type 0} (shape : T → ShapeOf T) (names : T → Names) (Equal : T
       → Ok edited ≡ copied {T = T} graph root spot found → Kept edited
   copy_keeps spot None there is = absurd cc
   copy_keeps spot (Some copy) there is =
-      kept_by spot (vals.Ref (length graph)) (graph ++ copy ∷ []) there (kept_before graph (copy ∷ []) o object at)
+      kept_by spot (vals.Ref (length graph)) (graph ++ copy ∷ []) there (slice_get-append_left graph (copy ∷ []) o object at)
       (made_inside {T = T} edited (put_at spot (vals.Ref (length graph)) (graph ++ copy ∷ []) root) is)
 
   unshare_keeps : (p : Result (Place T) ℕ) → ((q : Place T) → p ≡ Ok q → IsElsewhere (shaped shape Equal) graph o q.spot)
@@ -155,7 +150,7 @@ module _ {T : Type 0} (shape : T → ShapeOf T) (names : T → Names) (Equal : T
   graft_keeps (Err step) there from part is = absurd cc
   graft_keeps (Ok q) there from (Err step) is = absurd cc
   graft_keeps (Ok q) there from (Ok part) (objects, value, copy, is) =
-      kept_by q.spot value (graph ++ objects) (there q refl) (kept_before graph objects o object at) is
+      kept_by q.spot value (graph ++ objects) (there q refl) (slice_get-append_left graph objects o object at) is
 
   pub line_keeps : (others : List Other) (action : Action) → IsLineAnswer shape names Equal t others action graph root (Ok edited) → Kept edited
   line_keeps others (actions.Edit edit) is = edit_keeps edit is.made

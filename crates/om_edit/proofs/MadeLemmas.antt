@@ -12,12 +12,13 @@ use Rattle.om_types.specs.LeastFault.{IsLeastFault}
 use Rattle.om_types.specs.Typing.{HasType}
 use Rattle.om_typing.proofs.OnceLemmas.{least_once}
 use Rattle.om_grammar.specs.Refusals.{IsSyntax}
-use Rattle.om_grammar.proofs.LawLemmas.{one_tree, text_or_syntax, no_syntax}
+use Rattle.om_grammar.proofs.LawLemmas.{one_tree, text_or_syntax}
 use Rattle.om_literal_grammar.specs.Literal.{Literal, literal_kinds}
 use Rattle.om_grammar.specs.Lexemes.{kinds_of}
 use Rattle.om_literal_grammar.proofs.LiteralTable.{literal_table}
 use Rattle.om_literal.specs.LiteralAnswers.{byte_of, in_bytes}
 use Rattle.om_literal.specs.Reading.{Reading, Refusal, reading, literal_read}
+use Rattle.om_literal.proofs.AnswerLemmas.{literal_excludes}
 use Rattle.om_path.specs.declared.edits.Edit.{Edit}
 use Rattle.om_path.specs.declared.edits.Edit.TheVariants as edits
 use Rattle.om_edit.specs.declared.spots.Place.{Place}
@@ -41,23 +42,20 @@ module _ {T : Type 0} (shape : T → ShapeOf T) (names : T → Names) (graph : L
   abbrev IsSetHere : Answer T → Type 0
   IsSetHere made = IsSetAt shape names graph root p lexemes end made
 
-  not_both : (v : Literal) (k : ℕ) → literal_kinds v ≡ kinds_of lexemes → IsSyntax literal_kinds (kinds_of lexemes) k → ⊥
-  not_both v k spelled s = no_syntax literal_table v k (subst (λ all. IsSyntax literal_kinds all k) (sym spelled) s)
-
   at_literal : (v : Literal) → literal_kinds v ≡ kinds_of lexemes → (made : Answer T) → IsSetHere made → made ≡ set_said (reading_of v)
   at_literal v spelled (Ok made) (objects, value, (u, spells, read), is) =
       ap Ok is ∙ ap set_said (sym (subst (λ u. reading_of u ≡ Ok (reading (value ∷ []) objects read.labels)) (one_tree literal_table u v (spells ∙ sym spelled)) read.read))
   at_literal v spelled (Err (misread refusal)) (u, at, spells, refused, is) =
       ap (λ r. Err (misread r)) is ∙ ap set_said (sym (subst (λ u. reading_of u ≡ Err at) (one_tree literal_table u v (spells ∙ sym spelled)) refused))
-  at_literal v spelled (Err (no_literal place)) (k, s, is) = absurd (not_both v k spelled s)
+  at_literal v spelled (Err (no_literal place)) (k, s, is) = absurd (literal_excludes lexemes v k spelled s)
   at_literal v spelled (Err (no_field side step)) is = absurd is
   at_literal v spelled (Err not_block) is = absurd is
   at_literal v spelled (Err (ill_typed fault)) is = absurd is
 
   at_syntax : (k : ℕ) → IsSyntax literal_kinds (kinds_of lexemes) k → ((j : ℕ) → IsSyntax literal_kinds (kinds_of lexemes) j → j ≡ k)
       → (made : Answer T) → IsSetHere made → made ≡ Err (no_literal (byte_of lexemes end k))
-  at_syntax k s same (Ok made) (objects, value, (u, spells, read), is) = absurd (not_both u k spells s)
-  at_syntax k s same (Err (misread refusal)) (u, at, spells, refused, is) = absurd (not_both u k spells s)
+  at_syntax k s same (Ok made) (objects, value, (u, spells, read), is) = absurd (literal_excludes lexemes u k spells s)
+  at_syntax k s same (Err (misread refusal)) (u, at, spells, refused, is) = absurd (literal_excludes lexemes u k spells s)
   at_syntax k s same (Err (no_literal place)) (j, i, is) = ap (λ p. Err (no_literal p)) (is ∙ ap (byte_of lexemes end) (same j i))
   at_syntax k s same (Err (no_field side step)) is = absurd is
   at_syntax k s same (Err not_block) is = absurd is

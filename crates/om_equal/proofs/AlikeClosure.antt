@@ -10,20 +10,11 @@ use Rattle.om_types.specs.declared.head.HeadOf.{HeadOf}
 use Rattle.om_types.specs.Ty.{Ty, variable, named, tuple, bracket, part, tag, tag_of, including}
 use Rattle.om_types.specs.Equal.{HeadsAgree, Holds, EqualBy}
 use Rattle.om_types.specs.Reached.{parts_of}
-use Rattle.om_model.proofs.Options.{Contains-first, Contains-later, Contains-none, Contains-cases, Contains-map, Contains-flat_map, map-Contains}
+use Rattle.om_model.proofs.Options.{Contains-first, Contains-later, Contains-none, Contains-cases, Contains-map, Contains-flat_map, map-Contains, flat_map-Contains}
 use Rattle.om_equal.proofs.AgreeLemmas.{HeadsAgree-more}
 use Rattle.om_equal.proofs.AlikeLemmas.{Whole, Alike}
 
 -- ---- what is in lists made of others
-
-pub flat_mapped_is :
-    {X Y : Type 0} (f : X → List Y) (xs : List X) (y : Y) → Contains (flat_map f xs) y → (x : X)
-    × Contains xs x × Contains (f x) y
-flat_mapped_is f [] y among = absurd (Contains-none y among)
-flat_mapped_is f (x ∷ xs) y among = ⊎_elim
-    (λ here. (x, Contains-first x xs, here))
-    (λ later. let is = flat_mapped_is f xs y later in (is.0, Contains-later x xs is.0 is.1, is.2))
-    (Contains-append_cases (f x) (flat_map f xs) y among)
 
 pair_is : (p : Ty × Ty) (t u : Ty) → p.0 ≡ t → p.1 ≡ u → p ≡ (t, u)
 pair_is p t u first second = ap (λ a. (a, p.1)) first ∙ ap (λ b. (t, b)) second
@@ -43,7 +34,7 @@ both_is : (f : Ty → Ty → Ty) (ts us : List Ty) (v : Ty) → Contains (both f
     × Contains ts t × Contains us u × (f t u ≡ v)
 unfolding both
 both_is f ts us v among =
-    let one = flat_mapped_is (λ a. map (λ b. f a b) us) ts v among in
+    let one = flat_map-Contains (λ a. map (λ b. f a b) us) ts v among in
     let other = map-Contains (λ b. f one.0 b) us v one.2 in
     (one.0, other.0, one.1, other.1, other.2)
 
@@ -214,7 +205,7 @@ module _ (same_or_not : (t u : Ty) → (t ≡ u) ⊎ (t ≡ u → ⊥)) (pairs :
     all_is : (t u : Ty) → Contains all (t, u) → Contains types u × Alike pairs t u
     unfolding all pairs_to
     all_is t u held =
-        let found = flat_mapped_is pairs_to types (t, u) held in
+        let found = flat_map-Contains pairs_to types (t, u) held in
         let source = map-Contains (λ w. (w, found.0)) (sources found.0) (t, u) found.2 in
         let second : found.0 ≡ u = ap (λ (p : Ty × Ty). p.1) source.2 in
         let first : source.0 ≡ t = ap (λ (p : Ty × Ty). p.0) source.2 in (

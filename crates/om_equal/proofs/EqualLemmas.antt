@@ -9,8 +9,7 @@ use Rattle.om_types.specs.declared.head.TagOf.{TagOf}
 use Rattle.om_types.specs.Equal.{Pairwise, ArgumentsAgree, TagsAgree, SameTags, HeadsAgree, Holds}
 use Rattle.om_types.specs.Equal.{IsClosed, EqualBy}
 use Rattle.om_types.specs.Reached.{parts_of, listed_if}
-use Rattle.om_model.proofs.Options.{Contains-first, Contains-later, Contains-none, Contains-cases, Contains-map, Contains-flat_map, map-Contains}
-use Rattle.om_equal.proofs.AlikeClosure.{flat_mapped_is}
+use Rattle.om_model.proofs.Options.{Contains-first, Contains-later, Contains-none, Contains-cases, Contains-map, Contains-flat_map, map-Contains, flat_map-Contains}
 
 -- ---- heads turned round, and joined
 
@@ -226,9 +225,9 @@ module _ {T : Type 0} (head : T → HeadOf T) where
     joined_is : (t v : T) → Holds joined t v → (u : T) × Holds pairs t u × Holds others u v
     unfolding joined
     joined_is t v held =
-        let one = flat_mapped_is (λ p. flat_map (λ q. joined_if p q (same_or_not p.1 q.0)) others)
+        let one = flat_map-Contains (λ p. flat_map (λ q. joined_if p q (same_or_not p.1 q.0)) others)
         pairs (t, v) held in
-        let two = flat_mapped_is (λ q. joined_if one.0 q (same_or_not one.0.1 q.0)) others (t, v)
+        let two = flat_map-Contains (λ q. joined_if one.0 q (same_or_not one.0.1 q.0)) others (t, v)
         one.2 in
         let is = joined_if_is one.0 two.0 (same_or_not one.0.1 two.0.0) t v two.2 in
         let first : one.0.0 ≡ t = ap (λ (p : T × T). p.0) is.1 in

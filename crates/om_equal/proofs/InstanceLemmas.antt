@@ -8,6 +8,7 @@ use Rattle.std.specs.Str.{bytes_eq}
 use Rattle.std.proofs.lemmas.Bool.{false≢true}
 use Rattle.std.proofs.lemmas.Slice.Eq.{bytes_eq-Decides}
 use Rattle.std.proofs.lemmas.Option.{same_Some, none-some}
+use Rattle.std.proofs.lemmas.List.{length_push}
 use Rattle.om_types.specs.declared.decl.Body.{Body}
 use Rattle.om_types.specs.declared.decl.Body.TheVariants as bodies
 use Rattle.om_types.specs.declared.decl.Decl.{Decl}
@@ -158,10 +159,6 @@ module _ (value : List ℕ → Ty) where
 
 -- ---- abbreviations
 
-length-push : (ts : List Ty) (t : Ty) → length (ts ++ t ∷ []) ≡ suc (length ts)
-length-push [] t = refl
-length-push (u ∷ ts) t = ap suc (length-push ts t)
-
 -- the parts and those that follow are as many as the name takes
 counted : (decls : List Decl) (k : ℕ) (t : Ty) (name : List ℕ) → TakeArguments decls k t
     → name_of t ≡ Some name → arity_of decls name ≡ Some (length (parts t) + k)
@@ -170,7 +167,7 @@ counted decls k (named n) name given is =
     subst (λ m. arity_of decls m ≡ Some (0 + k)) (same_Some n name is) (given ∙ ap Some none)
 counted decls k (part t a) name given is =
     let more : length (parts t) + suc k ≡ length (parts t ++ a ∷ []) + k =
-    omega (arith, length-push (parts t) a) in
+    omega (arith, length_push (parts t) a) in
     counted decls (suc k) t name given.0 is ∙ ap Some more
 counted decls k t name given is = absurd (none-some name is)
 

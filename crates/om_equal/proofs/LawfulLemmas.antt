@@ -13,8 +13,7 @@ use Rattle.om_types.specs.Fitting.{fields_of, is_mutable, or_none, is_asked, ask
 use Rattle.om_types.proofs.AskedLemmas.{asked_is, is_needed}
 use Rattle.om_types.specs.Accepted.{AreSound, AreKnownByHash}
 use Rattle.om_types.specs.Equal.{Equal, declared_shapes}
-use Rattle.om_types.specs.Reached.{named_in, parts_of, reached_from, IsReached}
-use Rattle.std.proofs.lemmas.List.Elements.{Contains-append_left, Contains-append_right}
+use Rattle.om_types.specs.Reached.{reached_from, IsReached}
 use Rattle.om_types.specs.Lawful.{AreLawful}
 use Rattle.om_equal.proofs.AlikeClosure.{alike_is_equal}
 use Rattle.om_equal.proofs.AlikeLemmas.{Alike}
@@ -22,7 +21,7 @@ use Rattle.om_equal.proofs.EqualLemmas.{equal_itself, equal_turned, equal_joined
 use Rattle.om_equal.proofs.HeadShapes.{pair_shapes}
 use Rattle.om_equal.proofs.NeedLemmas.{alike_heads}
 use Rattle.om_equal.proofs.RankedLemmas.{are_ranked}
-use Rattle.om_equal.proofs.ReachedLemmas.{reached_listed, needs_named}
+use Rattle.om_equal.proofs.ReachedLemmas.{parts_here, named_here, reached_listed, needs_named}
 use Rattle.om_equal.proofs.NeedAgreement.{FieldsAgree, both_some, both_some_back, need_matched}
 use Rattle.om_equal.proofs.NeedAgreement.{turned_fields}
 use Rattle.om_equal.proofs.ShapeAgreement.{ShapesAgree, fields_agree, mutable_agrees, asked_same}
@@ -33,14 +32,6 @@ use Rattle.om_equal.proofs.TyEquality.{types_same_or_not}
 module _ (decls : List Decl) (sound : AreSound decls) (types : List Ty)
     (listed : (u a : Ty) → Contains types u → Contains (reached_from decls u) a → Contains types a)
     (known : AreKnownByHash decls types) where
-  parts_here : (u a : Ty) → Contains types u → Contains (parts_of (head decls u)) a → Contains types a
-  parts_here u a among has =
-      listed u a among (Contains-append_right (named_in (shape decls u)) (parts_of (head decls u)) a has)
-
-  named_here : (u a : Ty) → Contains types u → Contains (named_in (shape decls u)) a → Contains types a
-  named_here u a among has =
-      listed u a among (Contains-append_left (named_in (shape decls u)) (parts_of (head decls u)) a has)
-
   abbrev Same : Ty → Ty → Type 0
   Same = Equal decls
 
@@ -50,7 +41,7 @@ module _ (decls : List Decl) (sound : AreSound decls) (types : List Ty)
   alike_equal t u equal a b among alike =
       alike_is_equal types_same_or_not equal.pairs (head decls)
       (alike_heads decls sound.rank (are_ranked decls sound) equal.pairs equal.closed)
-      types (parts_here) a b among alike
+      types (parts_here decls types listed) a b among alike
 
   shapes_agree : (t u : Ty) (equal : Same t u) → Contains types u → ShapesAgree (Alike equal.pairs)
       (shape decls t) (shape decls u)
@@ -101,7 +92,7 @@ module _ (decls : List Decl) (sound : AreSound decls) (types : List Ty)
   field graph v t u i a (inr among) equal has =
       let found = need_matched (Alike equal.pairs) (fields_of graph v (shape decls t))
       (fields_of graph v (shape decls u)) (agree_at t u equal among graph v) i a has in
-      let listed = named_here u found.0 among
+      let listed = named_here decls types listed u found.0 among
       (needs_named (shape decls u) graph v i found.0 found.1) in
       (found.0, found.1, alike_equal t u equal a found.0 listed found.2, inr listed)
   field graph v t u i a (inl among) equal has =
@@ -110,7 +101,7 @@ module _ (decls : List Decl) (sound : AreSound decls) (types : List Ty)
       (fields_of graph v (shape decls t)) (agree_at u t back among graph v) in
       let found = need_matched (λ x y. Alike back.pairs y x) (fields_of graph v (shape decls t))
       (fields_of graph v (shape decls u)) agree i a has in
-      let listed = named_here t a among
+      let listed = named_here decls types listed t a among
       (needs_named (shape decls t) graph v i a has) in
       (found.0, found.1, turned found.0 a (alike_equal u t back found.0 a listed found.2), inl listed)
 
@@ -147,12 +138,12 @@ module _ (decls : List Decl) (sound : AreSound decls) (types : List Ty)
   -- the shapes of declared types are lawful at types that reach none but themselves
   pub listed_lawful : AreLawful (declared_shapes decls) (λ u. Contains types u)
   listed_lawful = record {
-    reflexive = λ t among. equal_itself (head decls) types (parts_here) t
+    reflexive = λ t among. equal_itself (head decls) types (parts_here decls types listed) t
         among;
     symmetric = λ t u equal. turned t u equal;
     transitive = λ t u w first second. equal_joined (head decls) types_same_or_not t u w first
         second;
-    closed = λ graph v t i a among has. named_here t a among
+    closed = λ graph v t i a among has. named_here decls types listed t a among
         (needs_named (shape decls t) graph v i a
         (asked_is (shape decls) (fields_at graph v t) i a has).0);
     fits = fit;

@@ -12,10 +12,9 @@ use Rattle.om_types.specs.Head.{head}
 use Rattle.om_types.specs.Equal.{HeadsAgree, Holds, Equal, EqualBy}
 use Rattle.om_types.specs.Reached.{parts_of}
 use Rattle.om_types.specs.Table.{head_with_parts, head_or_absent, head_at, AreHeadsOf}
-use Rattle.om_model.proofs.Options.{Contains-first, Contains-later, Contains-none, Contains-cases, Contains-map, Contains-flat_map, map-Contains}
+use Rattle.om_model.proofs.Options.{Contains-first, Contains-later, Contains-none, Contains-cases, Contains-map, Contains-flat_map, map-Contains, flat_map-Contains}
 use Rattle.om_types.proofs.ListLemmas.{Contains-filter_mapped, filter_mapped_is}
 use Rattle.om_equal.proofs.AgreeLemmas.{HeadsAgree-more}
-use Rattle.om_equal.proofs.AlikeClosure.{flat_mapped_is}
 use Rattle.om_equal.proofs.HeadMapLemmas.{Through, HeadsAgree-map, HeadsAgree-unmap, parts_of-map}
 use Rattle.om_equal.proofs.TableLemmas.{slice_get-mapped, mapped_some}
 use Rattle.om_equal.proofs.TyEquality.{types_same_or_not}
@@ -224,8 +223,8 @@ module _ (decls : List Decl) (types : List Ty) (all : List (HeadOf ℕ))
       × Holds pairs t u × Is i t × Is j u
   unfolding numbered
   numbered_is pairs i j held =
-      let pair = flat_mapped_is numbered_pair pairs (i, j) held in
-      let row = flat_mapped_is (λ k. map (λ l. (k, l)) (numbers_of pair.0.1)) (numbers_of pair.0.0)
+      let pair = flat_map-Contains numbered_pair pairs (i, j) held in
+      let row = flat_map-Contains (λ k. map (λ l. (k, l)) (numbers_of pair.0.1)) (numbers_of pair.0.0)
       (i, j) pair.2 in
       let item = map-Contains (λ l. (row.0, l)) (numbers_of pair.0.1) (i, j) row.2 in
       let first : row.0 ≡ i = ap (λ (p : ℕ × ℕ). p.0) item.2 in

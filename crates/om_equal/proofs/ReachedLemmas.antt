@@ -33,7 +33,7 @@ use Rattle.om_equal.proofs.HeadShapes.{found_is}
 -- ---- the list
 
 -- nothing is lost but what comes again
-without_repeats_has :
+pub without_repeats_has :
     (all seen others : List Ty) (x : Ty) → IsWithoutRepeats seen all others → Contains all x
     → Contains seen x ⊎ Contains others x
 without_repeats_has [] seen others x without among = absurd (Contains-none x among)
@@ -58,6 +58,20 @@ not_seen : {X : Type 0} (x : X) (A : Type 0) → Contains [] x ⊎ A → A
 not_seen x A (inl never) = absurd (Contains-none x never)
 not_seen x A (inr a) = a
 
+-- of types that reach none but themselves the parts are among them, and what they name
+module _ (decls : List Decl) (types : List Ty)
+    (listed : (u a : Ty) → Contains types u → Contains (reached_from decls u) a → Contains types a)
+  where
+    pub parts_here :
+        (u a : Ty) → Contains types u → Contains (parts_of (head decls u)) a → Contains types a
+    parts_here u a among has =
+        listed u a among (Contains-append_right (named_in (shape decls u)) (parts_of (head decls u)) a has)
+
+    pub named_here :
+        (u a : Ty) → Contains types u → Contains (named_in (shape decls u)) a → Contains types a
+    named_here u a among has =
+        listed u a among (Contains-append_left (named_in (shape decls u)) (parts_of (head decls u)) a has)
+
 module _ (decls : List Decl) (t : Ty) (types : List Ty) (reached : IsReached decls t types) where
   listed : (x : Ty) → Contains (t ∷ flat_map (reached_from decls) types) x → Contains types x
   listed x among =
@@ -77,15 +91,11 @@ module _ (decls : List Decl) (t : Ty) (types : List Ty) (reached : IsReached dec
 
   pub parts_listed :
       (u a : Ty) → Contains types u → Contains (parts_of (head decls u)) a → Contains types a
-  parts_listed u a among has =
-      reached_listed u a among (Contains-append_right (named_in (shape decls u))
-      (parts_of (head decls u)) a has)
+  parts_listed u a among has = parts_here decls types reached_listed u a among has
 
   pub named_listed :
       (u a : Ty) → Contains types u → Contains (named_in (shape decls u)) a → Contains types a
-  named_listed u a among has =
-      reached_listed u a among (Contains-append_left (named_in (shape decls u))
-      (parts_of (head decls u)) a has)
+  named_listed u a among has = named_here decls types reached_listed u a among has
 
 -- ---- what is needed is named
 

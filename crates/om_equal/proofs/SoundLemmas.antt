@@ -42,10 +42,9 @@ use Rattle.om_types.specs.Shape.{tag_shape}
 use Rattle.om_types.specs.Shape.{head_shape, shape, is_flat}
 use Rattle.om_types.specs.Reached.{listed_if, named_in, parts_of, reached_from, IsReached}
 use Rattle.om_types.specs.Table.{tag_with_part, head_with_parts}
-use Rattle.om_model.proofs.Options.{Contains-first, Contains-none, Contains-cases, Contains-flat_map, map-Contains}
+use Rattle.om_model.proofs.Options.{Contains-first, Contains-none, Contains-cases, Contains-flat_map, map-Contains, flat_map-Contains}
 use Rattle.om_model.proofs.Lists.{Contains-place}
 use Rattle.om_types.proofs.ListLemmas.{filter_mapped_is}
-use Rattle.om_equal.proofs.AlikeClosure.{flat_mapped_is}
 use Rattle.om_equal.proofs.HeadInstance.{includes_of, head-instance, tags_in-map, variants-map}
 use Rattle.om_equal.proofs.HeadInstance.{IsNoVariable}
 use Rattle.om_equal.proofs.HeadInstance.{no_variable, of_argument, unfolded_is}
@@ -159,7 +158,7 @@ with_part_parts h t a among = absurd (Contains-none a among)
 joined_parts : (tags more : List (TagOf Ty)) (a : Ty) → Contains (arguments_in (joined tags more)) a
     → Contains (arguments_in tags) a ⊎ Contains (arguments_in more) a
 joined_parts tags more a among =
-    let source = flat_mapped_is (λ (item : TagOf Ty). listed_if item.argument) (joined tags more) a
+    let source = flat_map-Contains (λ (item : TagOf Ty). listed_if item.argument) (joined tags more) a
     among in
     ⊎_elim
     (λ first. inl (Contains-flat_map (λ (item : TagOf Ty). listed_if item.argument) tags source.0 a
@@ -475,7 +474,7 @@ module _ (decls : List Decl) (well : AreWellFormed decls) where
         → Contains (flat_map (λ (c : Constr Ty). c.fields) (blocks_in (instance value) all)) a
         → Sound a
     variant_named all known a among =
-        let block = flat_mapped_is (λ (c : Constr Ty). c.fields) (blocks_in (instance value) all) a
+        let block = flat_map-Contains (λ (c : Constr Ty). c.fields) (blocks_in (instance value) all) a
         among in
         let source = filter_mapped_is (λ (constructor : Constructor). block_of (instance value)
         constructor.arguments) all block.0 block.1 in
@@ -504,7 +503,7 @@ module _ (decls : List Decl) (well : AreWellFormed decls) where
   tag_arguments : (tags : List (TagOf Ty)) (a : Ty)
       → Contains (named_in (shapes.Poly (map tag_shape tags))) a → Contains (arguments_in tags) a
   tag_arguments tags a among =
-      let poly = flat_mapped_is (λ (p : PolyTag Ty). listed_if p.arg) (map tag_shape tags) a
+      let poly = flat_map-Contains (λ (p : PolyTag Ty). listed_if p.arg) (map tag_shape tags) a
       among in
       let source = map-Contains tag_shape tags poly.0 poly.1 in
       Contains-flat_map (λ (item : TagOf Ty). listed_if item.argument) tags source.0 a source.1

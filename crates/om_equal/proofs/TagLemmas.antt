@@ -3,26 +3,19 @@ use Rattle.std.proofs.Common.{ℕ, ◌≡◌, ◌∙◌, ◌⊎◌, ⊎_elim, in
 use Rattle.std.proofs.Common.{refl, sym, ap}
 use Rattle.std.specs.Prelude.{Contains, filter, not, ◌||◌}
 use Rattle.std.specs.Str.{bytes_eq}
-use Rattle.std.proofs.lemmas.Bool.{false≢true}
+use Rattle.std.proofs.lemmas.Bool.{false≢true, or_left, or_right}
 use Rattle.std.proofs.lemmas.Slice.Eq.{bytes_eq-Decides}
 use Rattle.std.proofs.lemmas.List.Elements.{Contains-append_left, Contains-append_right}
 use Rattle.std.proofs.lemmas.List.Elements.{Contains-append_cases}
-use Rattle.om_types.proofs.ListLemmas.{Contains-filtered, filtered-Contains}
+use Rattle.om_types.proofs.ListLemmas.{filtered-Contains}
 use Rattle.om_types.specs.declared.head.TagOf.{TagOf}
 use Rattle.om_types.specs.Ty.{Ty}
 use Rattle.om_types.specs.Head.{has_tag, joined}
 use Rattle.om_types.specs.Equal.{TagsAgree}
 use Rattle.om_model.proofs.Options.{Contains-first, Contains-later, Contains-none, Contains-cases}
+use Rattle.om_model.proofs.Lists.{Contains-filter}
 
 -- ---- a tag of a name
-
-or_first : (a b : Bool) → a ≡ true → (a || b) ≡ true
-or_first true b is = refl
-or_first false b is = absurd (false≢true is)
-
-or_later : (a b : Bool) → b ≡ true → (a || b) ≡ true
-or_later true b is = refl
-or_later false b is = is
 
 or_is : (a b : Bool) → (a || b) ≡ true → (a ≡ true) ⊎ (b ≡ true)
 or_is true b is = inl refl
@@ -43,9 +36,9 @@ pub Contains-has_tag :
     → has_tag tags name ≡ true
 Contains-has_tag [] tag name among same = absurd (Contains-none tag among)
 Contains-has_tag (first ∷ tags) tag name among same = ⊎_elim
-    (λ here. or_first (bytes_eq first.name name) (has_tag tags name)
+    (λ here. or_left (bytes_eq first.name name) (has_tag tags name)
     ((bytes_eq-Decides first.name name).1 (ap (λ (t : TagOf Ty). t.name) here ∙ same)))
-    (λ later. or_later (bytes_eq first.name name) (has_tag tags name)
+    (λ later. or_right (bytes_eq first.name name) (has_tag tags name)
     (Contains-has_tag tags tag name later same))
     (Contains-cases first tags tag among)
 
@@ -84,7 +77,7 @@ module _ (Alike : Ty → Ty → Type 0) where
       let found = later tag is.0 in (
         found.0,
         Contains-append_right others (filter (is_new others) more') found.0
-            (Contains-filtered (is_new others) more' found.0 found.1
+            (Contains-filter (is_new others) more' found.0 found.1
             (not_is (has_tag others found.0.name) (λ has.
             let other = has_tag-Contains others found.0.name has in
             let same = names other.0 other.1 in

@@ -1,5 +1,5 @@
 -- How many objects the tokens of a tree make.
-use Rattle.std.proofs.Common.{◌≡◌, ℕ, suc, ◌+◌, List, ◌∷◌, ◌++◌, length, map, Option, refl, ap, ap₂, ◌∙◌, length-append}
+use Rattle.std.proofs.Common.{◌≡◌, ℕ, suc, ◌+◌, ◌≤◌, List, [], ◌∷◌, ◌++◌, length, map, Option, refl, sym, ap, ap₂, ◌∙◌, length-append, arith}
 use Rattle.std.proofs.lemmas.List.{map-append}
 use Rattle.std.proofs.lemmas.List.Sums.{sum_by-append, sum_by-cons}
 use Rattle.om_model.specs.declared.code.Measure.{Measure}
@@ -7,7 +7,7 @@ use Rattle.om_model.specs.declared.value.Obj.{Obj}
 use Rattle.om_model.specs.declared.value.Obj.TheVariants as objs
 use Rattle.om_model.specs.declared.value.Val.{Val}
 use Rattle.om_format.specs.Words.{of_object, fields, objects}
-use Rattle.om_format.specs.Token.{Token, integer, atom, shared, block, leaf, IsToken, measure_of, leaf_measure}
+use Rattle.om_format.specs.Token.{Token, integer, atom, shared, block, leaf, IsToken, IsLeaf, measure_of, leaf_measure}
 use Rattle.om_format.specs.Tree.{Tree, Forest, node, none, more, trees_in, IsTree, AreTrees, tokens, forest_tokens, made, made_by, all_made, object_of, objects_of, all_objects, roots}
 
 -- the objects of tokens one after another
@@ -54,6 +54,9 @@ length-object_of (leaf (objs.I32 z)) values h = refl
 length-object_of (leaf (objs.I64 z)) values h = refl
 length-object_of (leaf (objs.Native z)) values h = refl
 
+pub made_by_leaf : (o : Obj) → IsLeaf o → made_by (leaf o) ≡ 1
+made_by_leaf o h = sym (length-object_of (leaf o) [] h)
+
 -- a tree's objects are as many as it makes
 mutual
   pub length-objects_of : (tree : Tree) (c : ℕ) → IsTree tree → length (objects_of tree c) ≡ made tree
@@ -71,3 +74,11 @@ mutual
 pub length-roots : (f : Forest) (c : ℕ) → length (roots f c) ≡ trees_in f
 length-roots none c = refl
 length-roots (more tree f) c = ap suc (length-roots f (c + made tree))
+
+-- every tree has a token
+pub some_tokens : (tree : Tree) → 1 ≤ length (tokens tree)
+some_tokens (node t f) = omega arith
+
+pub trees_in-le : (f : Forest) → trees_in f ≤ length (forest_tokens f)
+trees_in-le none = omega arith
+trees_in-le (more tree f) = omega (arith, some_tokens tree, trees_in-le f, length-append (tokens tree) (forest_tokens f))

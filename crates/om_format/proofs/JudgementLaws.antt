@@ -1,5 +1,6 @@
 -- One thing becomes of bytes, and nothing else.
-use Rattle.std.proofs.Common.{◌≡◌, ℕ, ◌≤◌, List, length, take, refl}
+use Rattle.std.proofs.Common.{◌≡◌, ℕ, ◌≤◌, ◌<◌, List, length, take, refl, ap, ◌∙◌, length-append, arith}
+use Rattle.std.specs.List.{concat}
 use Rattle.om_model.specs.declared.refusal.ReadRefusal.{ReadRefusal}
 use Rattle.om_format.specs.Tree.{Tree}
 use Rattle.om_format.specs.Spelled.{SpelledUnder}
@@ -9,6 +10,18 @@ use Rattle.om_format.specs.Laws.{HasOneJudgement}
 use Rattle.om_format.proofs.OneJudgement.{Closed, front_or_closed, front_or_refused, closed_or_refused, closed_at_once, refused_at_once}
 use Rattle.om_format.proofs.SpellTrees.{PassesWhole, PassesWhole-spelled, tree-same}
 use Rattle.om_format.proofs.StandLemmas.{Judges-some}
+use Rattle.om_format.proofs.TokenStepLemmas.{header_length-from}
+
+-- a value has bytes
+pub spelled_some :
+    (limit : ℕ) (bytes : List ℕ) (tree : Tree) → SpelledUnder limit bytes tree → 0 < length bytes
+spelled_some limit bytes tree s =
+    omega (
+      arith,
+      header_length-from s.header,
+      s.spells.is_header.whole,
+      ap length s.bytes_are ∙ length-append s.header (concat s.pieces),
+    )
 
 -- a spelled value is closed
 pub Closed-spelled : (limit : ℕ) (bytes : List ℕ) (tree : Tree) (s : SpelledUnder limit bytes tree) → Closed limit bytes s.header s.pieces

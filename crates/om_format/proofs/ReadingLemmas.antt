@@ -1,7 +1,8 @@
 -- Bytes are cut into tokens in one way.
 use Rattle.std.proofs.Common.{◌≡◌, ℕ, List, [], ◌∷◌, ◌++◌, inl, inr, ◌⊎◌, refl, sym, ◌∙◌, ap, ap₂, subst, append_assoc, append-nil}
 use Rattle.std.proofs.lemmas.List.{append_cancel_left}
-use Rattle.std.specs.List.{concat, AllZip}
+use Rattle.std.specs.List.{concat}
+pub use Rattle.om_model.proofs.Lists.{AllZip-push}
 use Rattle.om_format.specs.Raw.{IsRaw}
 use Rattle.om_format.specs.Front.{TokenPasses, TokensPass}
 use Rattle.om_format.proofs.RawLemmas.{IsRaw-same}
@@ -15,13 +16,6 @@ concat-append (t ∷ ts) us = ap (λ xs. t ++ xs) (concat-append ts us) ∙ sym 
 -- one more token
 pub concat-push : (ts : List (List ℕ)) (t : List ℕ) → concat (ts ++ t ∷ []) ≡ concat ts ++ t
 concat-push ts t = concat-append ts (t ∷ []) ∙ ap (λ xs. concat ts ++ xs) (append-nil t)
-
--- what holds of items place by place holds of one more of each
-pub AllZip-push : {A B : Type 0} (R : A → B → Type 0) (xs : List A) (ys : List B) (x : A) (y : B) → AllZip R xs ys → R x y → AllZip R (xs ++ x ∷ []) (ys ++ y ∷ [])
-AllZip-push R [] [] x y h r = (r, tt)
-AllZip-push R [] (b ∷ ys) x y h r = absurd h
-AllZip-push R (a ∷ xs) [] x y h r = absurd h
-AllZip-push R (a ∷ xs) (b ∷ ys) x y h r = (h.0, AllZip-push R xs ys x y h.1 r)
 
 -- the tokens after a cut pass after those before it
 pub TokensPass-append : (header : List ℕ) (before ts us : List (List ℕ))

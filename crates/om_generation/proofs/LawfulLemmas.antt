@@ -1,24 +1,16 @@
 -- The command is lawful, where the language is: a value has one tree, and this one line.
-use Rattle.std.proofs.Common.{◌≡◌, ℕ, List, Bool, inl, sym, ap, ◌∙◌, subst}
+use Rattle.std.proofs.Common.{◌≡◌, ℕ, List, inl, sym, ap, ◌∙◌, subst}
 use Rattle.om_format.specs.Tree.{Tree}
 use Rattle.om_canonical.proofs.SameTree.{one_tree_only}
-use Rattle.om_outcome.specs.Outcome.{Said, says, stops, Language, the_verdict, line}
+use Rattle.om_outcome.specs.Outcome.{says, stops, Language, the_verdict, line}
 use Rattle.om_generate.specs.Generated.{generated}
 use Rattle.om_generate.specs.Line.{generated_text}
 use Rattle.om_promises.specs.Commands.{Item}
 use Rattle.om_promises.specs.Lawful.{IsOnce, AreLawfulAt, AreLawful, AreInTurns}
 use Rattle.om_promises.specs.LawfulLanguage.{IsGiven, IsLawful}
+use Rattle.om_commands.proofs.ItemLemmas.{both_same}
 use Rattle.om_generation.specs.Generation.{Making, IsMadeLine, EndsWithLine, generation}
 use Rattle.om_generation.proofs.FindLemmas.{found_once, found_inside, found_given}
-
-abbrev said_of : List ℕ → Bool → Said
-said_of text well = record { text = text; well = well }
-
--- what is said is its text, and whether nothing is wrong
-same_said :
-    (said other : Said) → said.text ≡ other.text → said.well ≡ other.well → said ≡ other
-same_said said other text well =
-    ap (λ t. said_of t said.well) text ∙ ap (λ w. said_of other.text w) well
 
 module _ {D T E : Type 0} (language : Language D T E) where
   module _ (lawful : IsLawful language) (a : Making T) (given : IsGiven language a.type) where
@@ -35,7 +27,7 @@ module _ {D T E : Type 0} (language : Language D T E) where
         verdict k.is_verdict in
         let texts = ap (λ (t : Tree). line (generated_text t h.verdict)) trees
         ∙ ap (λ (v : List ℕ). line (generated_text k.tree v)) same.0 in
-        same_said said other (h.text_is ∙ (texts ∙ sym k.text_is)) same.1
+        both_same said other (h.text_is ∙ (texts ∙ sym k.text_is)) same.1
 
     ends_once : (items : List Item) (bytes : List ℕ) → IsOnce (EndsWithLine language a items bytes)
     ends_once items bytes (says said) (says other) h k =

@@ -1,6 +1,5 @@
 -- The command takes nothing, and its last reply is the line.
-use Rattle.std.proofs.Common.{◌≡◌, ℕ, List, [], Bool, true, Result, Ok, Err, inr, refl, sym, subst}
-use Rattle.std.specs.Prelude.{◌&&◌}
+use Rattle.std.proofs.Common.{ℕ, List, [], Bool, Result, Ok, Err, inr, refl, sym, subst}
 use Rattle.om_outcome.specs.Outcome.{Said}
 use Rattle.om_outcome.specs.declared.stop.Stop.TheVariants.{Memory as out_of_memory}
 use Rattle.om_edge.specs.Sink.{Puts, PutsPart}
@@ -9,15 +8,12 @@ use Rattle.om_stops.specs.declared.stop.Halt.{Halt}
 use Rattle.om_stops.specs.declared.stop.Halt.TheVariants as halts
 use Rattle.om_promises.specs.Account.{HoldNoStop}
 use Rattle.om_promises.proofs.PutLemmas.{puts_nothing}
+use Rattle.om_promises.proofs.ValueLemmas.{and_true}
 use Rattle.om_work.specs.Works.{PutsLast, EndsAt}
 use Rattle.om_declared.specs.declared.requested.Prepared.{Prepared}
 use Rattle.om_declared.specs.Language.{TypeOver, declared_types}
 use Rattle.om_generation.specs.Generation.{Making, IsMadeLine, generation}
 use Rattle.om_generator.specs.Lines.{making_of, HasNothing}
-
-true_last : (b : Bool) → (b && true) ≡ b
-true_last true = refl
-true_last b = refl
 
 module _ (number count : ℕ) (r : Prepared) where
   abbrev act : Making TypeOver
@@ -56,7 +52,7 @@ module _ (number count : ℕ) (r : Prepared) where
       → (out : Change ByteState) → Puts out said.text
       → EndsAt (generation declared_types) act (HasNothing number count r) out (Ok said.well)
   ends_line said is out put =
-      ends_none out (Ok said.well) (said, (refl, refl, is), sym (true_last said.well), put)
+      ends_none out (Ok said.well) (said, (refl, refl, is), sym (and_true said.well), put)
 
   pub ends_part :
       (said : Said) → IsMadeLine declared_types act said

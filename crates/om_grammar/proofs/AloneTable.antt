@@ -19,7 +19,7 @@ use Rattle.om_grammar.proofs.HolesFronts.{step_adds}
 use Rattle.om_grammar.proofs.HolesLead.{type_read, texpr_leads}
 use Rattle.om_grammar.proofs.HolesStand.{completes}
 
-accepts : (t : Texpr) → type_accepted (type_read (whole end) t) ≡ Some t
+pub accepts : (t : Texpr) → type_accepted (type_read (whole end) t) ≡ Some t
 accepts (single a) = refl
 accepts (starred t a) = refl
 

@@ -1,6 +1,6 @@
 -- Names that are found to be read back are so at the types of a table.
-use Rattle.std.proofs.Common.{◌≡◌, ℕ, suc, ◌+◌, ◌<◌, ◌≤◌, ⊎_elim, Bool, true, false, List, [], ◌∷◌, length, Option, Some, refl, sym, ap, subst, ◌∙◌, arith, get_or, lt-ltb}
-use Rattle.std.specs.Prelude.{slice_get, find, codes, Contains, unwrap_or, option_map}
+use Rattle.std.proofs.Common.{◌≡◌, ℕ, ◌+◌, ◌<◌, ◌≤◌, ⊎_elim, Bool, true, false, List, [], ◌∷◌, length, Some, refl, sym, ap, subst, ◌∙◌, arith, get_or, lt-ltb}
+use Rattle.std.specs.Prelude.{slice_get, find, codes, Contains, unwrap_or}
 use Rattle.std.specs.List.{position, position_or_len}
 use Rattle.std.specs.Str.{bytes_eq}
 use Rattle.std.specs.Char.{is_ascii_uppercase}
@@ -10,7 +10,7 @@ use Rattle.std.proofs.lemmas.List.{length-map}
 use Rattle.std.proofs.lemmas.List.Quantifiers.{position-Some}
 use Rattle.std.proofs.lemmas.List.Sums.{position_or_len_is}
 use Rattle.std.proofs.lemmas.Option.{none-some, slice_get_within, get_or_from_slice_get}
-use Rattle.om_model.proofs.Options.{Contains-none, Contains-cases}
+use Rattle.om_model.proofs.Lists.{Contains-place}
 use Rattle.om_types.specs.declared.decl.Decl.{Decl}
 use Rattle.om_types.specs.declared.names.ConstrNames.{ConstrNames}
 use Rattle.om_types.specs.declared.names.TagName.{TagName}
@@ -21,7 +21,6 @@ use Rattle.om_types.specs.Names.{names_of, no_names}
 use Rattle.om_types.specs.Shape.{shape}
 use Rattle.om_types.specs.Table.{with_parts, node_or_none}
 use Rattle.om_types.specs.Ty.{Ty}
-use Rattle.om_equal.proofs.TableLemmas.{slice_get-mapped, mapped_some}
 use Rattle.om_leaves.specs.Frames.{is_hash}
 use Rattle.om_lex.specs.Lexeme.{Upper, IsForm}
 use Rattle.om_lexed.specs.Lexed.{Begins, Ends}
@@ -31,6 +30,7 @@ use Rattle.om_literal_grammar.specs.Literal.{upper_head, cons_head, empty_head}
 use Rattle.om_literal_texts.specs.Readable.{IsHead, AreFieldNames, AreSumNames, IsConstructorName, IsReadable}
 use Rattle.om_literal_texts.proofs.ObjectReadLemmas.{same_names_refl}
 use Rattle.om_show.specs.Tables.{shape_in, names_in}
+use Rattle.om_show.proofs.TableLemmas.{shape_is, names_are}
 use Rattle.om_type_table.specs.declared.tabled.Tabled.{Tabled}
 use Rattle.om_type_table.specs.Made.{types_of, IsTypeTable}
 use Rattle.om_guess.specs.Spelled.{has_name, AreConstantNames, AreConstructorNames, IsSpelled, SpelledAreReadable}
@@ -147,41 +147,15 @@ readable shapes.Anything names h = h
 readable (shapes.ArrayOfAnything t) names h = h
 
 module _ (decls : List Decl) (t : Ty) (table : Tabled) (is : IsTypeTable decls t table) where
-  abbrev Is : ℕ → Ty → Type 0
-  Is i u = slice_get (types_of table) i ≡ Some u
-
-  abbrev type_if : ℕ → Option Ty
-  type_if i = slice_get (types_of table) i
-
-  -- the shape at a number is the type's, but for numbers in the place of types
-  shape_is : (i : ℕ) (u : Ty) → Is i u → with_parts type_if (shape_in table i) ≡ with_parts Some (shape decls u)
-  shape_is i u at =
-      let found = mapped_some (with_parts type_if) (slice_get table.nodes i) (with_parts Some (shape decls u))
-      (sym (slice_get-mapped (with_parts type_if) table.nodes i)
-      ∙ ap (λ all. slice_get all i) is.made.nodes
-      ∙ slice_get-mapped (λ u. with_parts Some (shape decls u)) (types_of table) i
-      ∙ ap (option_map (λ u. with_parts Some (shape decls u))) at) in
-      ap (λ node. with_parts type_if (node_or_none node)) found.1 ∙ found.2
-
-  names_are : (i : ℕ) (u : Ty) → Is i u → names_in table i ≡ names_of decls u
-  names_are i u at =
-      ap (λ all. unwrap_or (slice_get all i) no_names) is.named
-      ∙ ap (λ found. unwrap_or found no_names) (slice_get-mapped (names_of decls) (types_of table) i)
-      ∙ ap (λ found. unwrap_or (option_map (names_of decls) found) no_names) at
-
   sizes : length table.nodes ≡ length (types_of table)
   sizes =
       sym (length-map table.nodes (with_parts (slice_get (types_of table))))
       ∙ ap length is.made.nodes
       ∙ length-map (types_of table) (λ (t : Ty). with_parts Some (shape decls t))
 
-contains_at : {X : Type 0} (xs : List X) (x : X) → Contains xs x → (i : ℕ) × (slice_get xs i ≡ Some x)
-contains_at [] x among = absurd (Contains-none x among)
-contains_at (y ∷ ys) x among = ⊎_elim (λ here. (0, ap Some here)) (λ later. let r = contains_at ys x later in (suc r.0, r.1)) (Contains-cases y ys x among)
-
 pub spelled_are_readable : SpelledAreReadable
 spelled_are_readable decls t table is spelled u among =
-    let found = contains_at (types_of table) u among in
+    let found = Contains-place (types_of table) u among in
     let i = found.0 in
     let at = found.1 in
     let within : i < length table.nodes = omega (arith, slice_get_within (types_of table) i u at, sizes decls t table is) in

@@ -3,6 +3,7 @@ use Rattle.std.proofs.Common.{ℕ, ◌<◌, ◌≤◌, ◌+◌, ◌≡◌, ◌�
 use Rattle.std.specs.Prelude.{slice_get, Contains, IsTrue, ◌↔◌}
 use Rattle.std.proofs.lemmas.Option.{same_Some, slice_get_read, slice_get-get_or, slice_get_within}
 use Rattle.om_model.proofs.Options.{slice_get-Contains}
+use Rattle.om_model.proofs.Lists.{map-slice_get}
 use Rattle.om_types.specs.declared.decl.Field.{Field}
 use Rattle.om_types.specs.declared.decl.Body.{Body}
 use Rattle.om_types.specs.declared.decl.Body.TheVariants as bodies
@@ -12,7 +13,7 @@ use Rattle.om_types.specs.Occurrence.{Placed, DeclPlaces}
 use Rattle.om_types.specs.Scope.{IsThrough, IsFlatThroughGroup, BreaksInFile, float_in_group, decls_of, declared_names}
 use Rattle.om_scope.specs.Least.{IsLeast, sooner, place_if}
 use Rattle.om_scope.proofs.LeastLemmas.{least_same, least_more, least_if, Before}
-use Rattle.om_scope.proofs.FileLemmas.{map_at, decl_at, name_placed}
+use Rattle.om_scope.proofs.FileLemmas.{decl_at, name_placed}
 use Rattle.om_head_rules.specs.Rules.{FlatAt, SomeFlat}
 
 -- a record whose fields are all float
@@ -71,7 +72,7 @@ flat_in_file :
     → SomeFlat (decls_of all) (declared_names all) k ↔ BreaksInFile all float_in_group k
 flat_in_file all k = (
   λ (i, below, (d, p, d_is, p_is, placed, flat)).
-      let x = map_at (λ (e : DeclPlaces). e.decl) all i d d_is in
+      let x = map-slice_get (λ (e : DeclPlaces). e.decl) all i d d_is in
       let p_same : (x.0.place, x.0.decl.name) ≡ p = same_Some (x.0.place, x.0.decl.name) p (sym (name_placed all i x.0 x.1) ∙ p_is) in
       inr (
         x.0,

@@ -4,6 +4,7 @@ use Rattle.std.specs.Prelude.{slice_get, Contains}
 use Rattle.std.proofs.lemmas.List.Elements.{All-contains}
 use Rattle.std.proofs.lemmas.Option.{slice_get-get_or, slice_get_within}
 use Rattle.om_model.proofs.Options.{map-Contains, slice_get-Contains}
+use Rattle.om_model.proofs.Lists.{map-slice_get}
 use Rattle.om_types.specs.declared.decl.Decl.{Decl}
 use Rattle.om_types.specs.declared.head.TagOf.{TagOf}
 use Rattle.om_types.specs.Ty.{Ty, tuple}
@@ -13,7 +14,7 @@ use Rattle.om_types.specs.Scope.{Rule, turn, not_variant, tag_clash, hash_clash,
 use Rattle.om_scope.specs.Least.{IsLeast}
 use Rattle.om_scope.proofs.LeastLemmas.{least_same}
 use Rattle.om_store.specs.Held.{Grows}
-use Rattle.om_store.proofs.HeldLemmas.{get-mapped, there_kept}
+use Rattle.om_store.proofs.HeldLemmas.{there_kept}
 use Rattle.om_brackets.specs.declared.item.Item.{Item}
 use Rattle.om_brackets.specs.declared.spellings.Collision.{Collision}
 use Rattle.om_brackets.specs.Items.{ClashesIn}
@@ -25,8 +26,9 @@ use Rattle.om_head_rules.specs.Rules.{SomeBreaks, ItemsInclude, AreTagged, Colli
 use Rattle.om_head_rules.specs.Apart.{AreApart, StandApart}
 use Rattle.om_head_rules.specs.Rules.{IsWithin, AreWithin, AreAllWithin, item_at, items_at, brackets_at, BracketsBreak, BracketsHash}
 use Rattle.om_head_rules.proofs.FirstLemmas.{of_late, all_alike, found_first}
-use Rattle.om_head_rules.proofs.VariantLemmas.{include_alike, brackets_at-kept, type_kept}
+use Rattle.om_head_rules.proofs.VariantLemmas.{include_alike, brackets_at-kept}
 use Rattle.om_head_rules.proofs.TagLemmas.{tags_alike, names_alike}
+use Rattle.om_layout.proofs.NearerLemmas.{type_kept}
 
 -- ---- tags
 
@@ -102,7 +104,7 @@ module _ (decls : List Decl) (types : List Ty) (brackets : List (List NumberedIt
       → slice_get (items_at types bracket) i ≡ Some (place, t)
       → (n : ℕ) × (n < length types) × (type_at types n ≡ t)
   item_within bracket within i place t at =
-      let found = get-mapped (item_at types) bracket i (place, t) at in (
+      let found = map-slice_get (item_at types) bracket i (place, t) at in (
         found.0.number,
         All-contains (IsWithin types) bracket found.0 within (slice_get-Contains bracket i found.0 found.1),
         ap (λ (p : PlacedItem). p.1) found.2,

@@ -21,16 +21,9 @@ use Rattle.om_store.proofs.HeldLemmas.{there_kept}
 use Rattle.om_store.proofs.InstanceLemmas.{number_there, numbers_many}
 use Rattle.om_head_rules.specs.declared.item.NumberedItem.{NumberedItem}
 use Rattle.om_head_rules.specs.Numbered.{IsNumbered, AreNumbered, AreAllNumbered}
+use Rattle.om_model.proofs.Lists.{AllZip-push}
 
 -- ---- two lists, place by place
-
-zip_push :
-    {A B : Type 0} (R : A → B → Type 0) (xs : List A) (ys : List B) (x : A) (y : B)
-    → AllZip R xs ys → R x y → AllZip R (xs ++ x ∷ []) (ys ++ y ∷ [])
-zip_push R [] [] x y zip one = (one, zip)
-zip_push R [] (b ∷ ys) x y zip one = absurd zip
-zip_push R (a ∷ xs) [] x y zip one = absurd zip
-zip_push R (a ∷ xs) (b ∷ ys) x y zip one = (zip.0, zip_push R xs ys x y zip.1 one)
 
 zip_weaker :
     {A B : Type 0} (R S : A → B → Type 0) (weaker : (a : A) (b : B) → R a b → S a b) (xs : List A) (ys : List B)
@@ -77,7 +70,7 @@ items_turn types new tree out next items k e i grown below next_is here so_far =
     ∙ map-append (item_told tree) (take k items) (get_or items k e ∷ []) in
     subst (λ l. AreNumbered new l (items_told tree (take (k + 1) items))) (sym next_is)
     (subst (AreNumbered new (out ++ i ∷ [])) (sym same)
-    (zip_push (IsNumbered new) out told i (item_told tree (get_or items k e))
+    (AllZip-push (IsNumbered new) out told i (item_told tree (get_or items k e))
     (items_kept types new out told grown so_far) here))
 
 -- the next turn of the loop over a type's brackets
@@ -98,7 +91,7 @@ brackets_turn types new tree out next brackets k inside e items all grown below 
     ∙ sym (append_assoc all (brackets_told tree (take k brackets)) (more ∷ [])) in
     subst (λ l. AreAllNumbered new l (all ++ brackets_told tree (take (k + 1) brackets))) (sym next_is)
     (subst (AreAllNumbered new (out ++ items ∷ [])) (sym same)
-    (zip_push (AreNumbered new) out told items more (brackets_kept types new out told grown so_far) here))
+    (AllZip-push (AreNumbered new) out told items more (brackets_kept types new out told grown so_far) here))
 
 -- ---- the item that a node adds
 

@@ -23,7 +23,8 @@ use Rattle.om_head_rules.specs.Rules.{IsWithin, AreWithin, AreAllWithin, item_at
 use Rattle.om_head_rules.specs.Rules.{AreTagged, CollideAmong, TagsBreak, BracketsBreak, BracketsHash}
 use Rattle.om_head_rules.proofs.FirstLemmas.{of_late}
 use Rattle.om_head_rules.proofs.LoopLemmas.{maps_more}
-use Rattle.om_head_rules.proofs.VariantLemmas.{type_kept, items_kept}
+use Rattle.om_head_rules.proofs.VariantLemmas.{items_kept}
+use Rattle.om_layout.proofs.NearerLemmas.{type_kept}
 
 -- ---- the tags of a head, by numbers and as they are written
 

@@ -16,10 +16,10 @@ use Rattle.om_store.specs.declared.node.TypeNode.{TypeNode}
 use Rattle.om_store.specs.declared.node.TypeNode.TheVariants as lent
 use Rattle.om_store.specs.Held.{Grows}
 use Rattle.om_store.specs.Lent.{written_of}
-use Rattle.om_store.proofs.HeldLemmas.{there_kept}
 use Rattle.om_head_rules.specs.declared.item.NumberedItem.{NumberedItem}
 use Rattle.om_head_rules.specs.Rules.{IsWithin, AreWithin, AreAllWithin, item_at, items_at, brackets_at, IncludesOther, IncludesOtherAt}
 use Rattle.om_head_rules.specs.Rules.{ItemsInclude, SomeBreaks, ItemsBreak, BracketsBreak}
+use Rattle.om_layout.proofs.NearerLemmas.{type_kept}
 
 -- ---- one item
 
@@ -53,12 +53,6 @@ none_included decls types number node there no_including = (
 )
 
 -- ---- where types are added
-
-pub type_kept :
-    (old new : List Ty) (i : ℕ) → Grows old new → i < length old → type_at new i ≡ type_at old i
-type_kept old new i grown below =
-    get_or_from_slice_get new i (type_at old i) tuple
-    (there_kept old new i (type_at old i) grown (slice_get-get_or old i tuple below))
 
 pub items_kept :
     (old new : List Ty) (items : List NumberedItem) → Grows old new → AreWithin old items

@@ -190,14 +190,13 @@ module _ (decls : List Decl) (sound : AreSound decls) where
   bracketed_left (including t a) bracketed = refl
   bracketed_left t bracketed = absurd bracketed
 
-  pub head_as_written : (t : Ty) → unfolded decls t ≡ None → head decls t ≡ plain_head (head decls) t
-  head_as_written t left = head_plain decls sound.rank (are_ranked decls sound) t left
-
   pub head_of_bracket : (t : Ty) → IsBracketed t → has_bracket t ≡ true
       → head decls t ≡ heads.Variants (with_items (head decls) [] (items t))
   head_of_bracket t bracketed is =
-      head_as_written t (bracketed_left t bracketed) ∙ plain_head-bracket (head decls) t is
+      head_plain decls sound.rank (are_ranked decls sound) t (bracketed_left t bracketed)
+      ∙ plain_head-bracket (head decls) t is
 
   pub head_of_no_bracket : (t : Ty) → IsBracketed t → has_bracket t ≡ false → head decls t ≡ heads.Absent
   head_of_no_bracket t bracketed is =
-      head_as_written t (bracketed_left t bracketed) ∙ plain_head-no_bracket (head decls) t bracketed is
+      head_plain decls sound.rank (are_ranked decls sound) t (bracketed_left t bracketed)
+      ∙ plain_head-no_bracket (head decls) t bracketed is

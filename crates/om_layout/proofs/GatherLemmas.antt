@@ -23,6 +23,8 @@ use Rattle.om_store.specs.declared.node.TypeNode.{TypeNode}
 use Rattle.om_store.specs.declared.node.TypeNode.TheVariants as lent
 use Rattle.om_store.specs.Lent.{written_of}
 use Rattle.std.specs.Borrow.{Bor}
+use Rattle.om_equal.proofs.NeedLemmas.{head_plain}
+use Rattle.om_equal.proofs.RankedLemmas.{are_ranked}
 use Rattle.om_layout.specs.Plain.{IsBracketed, IsPlainHead}
 use Rattle.om_layout.specs.Unfolded.{HasHeadOf}
 use Rattle.om_layout.specs.declared.bracket.Step.{Step}
@@ -30,7 +32,7 @@ use Rattle.om_layout.specs.declared.bracket.Step.TheVariants as steps
 use Rattle.om_layout.specs.Tags.{has_bracket, before_item, items, tags_of_item, with_item, with_items, tags_at, tags_of_entries, IsTagWithin, has_name, with_tag, IsHeadOf}
 use Rattle.om_layout.specs.Work.{work, written_work}
 use Rattle.om_layout.specs.Steps.{BringsNone, IsSettled, AreSettled, AreLeft, AreGathered, AreAll, IsStepWithin, item_work, steps_work}
-use Rattle.om_layout.proofs.BracketLemmas.{none_new_more, joined_none, joined-plain, joined-no_bracket, head_as_written, head_of_bracket, head_of_no_bracket}
+use Rattle.om_layout.proofs.BracketLemmas.{none_new_more, joined_none, joined-plain, joined-no_bracket, head_of_bracket, head_of_no_bracket}
 
 -- ---- a tag more
 
@@ -275,7 +277,7 @@ module _ (decls : List Decl) (sound : AreSound decls) (types : List Ty) (n : ℕ
 
   module _ (ended : unfolded decls (type_at types n) ≡ None) where
     written : tags_in (head decls (type_at types n)) ≡ tags_in (plain_head (head decls) (type_at types n))
-    written = ap tags_in (head_as_written decls sound (type_at types n) ended)
+    written = ap tags_in (head_plain decls sound.rank (are_ranked decls sound) (type_at types n) ended)
 
     pub include_none : has_bracket (type_at types n) ≡ false → AreLeft decls types tags rest all
     include_none is =
@@ -410,4 +412,4 @@ pub plain_is_head :
     → HasHeadOf decls types t number → IsPlainHead types (type_at types number) h → IsHeadOf decls types t h
 plain_is_head decls sound types t number h has is =
     is (head decls)
-    ∙ ap (head_with_parts (λ (u : Ty). Some u)) (sym (head_as_written decls sound (type_at types number) has.ended) ∙ has.head)
+    ∙ ap (head_with_parts (λ (u : Ty). Some u)) (sym (head_plain decls sound.rank (are_ranked decls sound) (type_at types number) has.ended) ∙ has.head)

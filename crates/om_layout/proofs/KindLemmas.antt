@@ -14,10 +14,12 @@ use Rattle.om_types.specs.Nodes.{type_at}
 use Rattle.om_types.specs.Head.{head, plain_head, with_part, with_tags, head_meant}
 use Rattle.om_types.specs.Shape.{is_float_head, is_float}
 use Rattle.om_types.specs.Accepted.{AreSound, AreVariants}
+use Rattle.om_equal.proofs.NeedLemmas.{head_plain}
+use Rattle.om_equal.proofs.RankedLemmas.{are_ranked}
 use Rattle.om_layout.specs.Unfolded.{HasHeadOf}
 use Rattle.om_layout.specs.Tags.{has_bracket}
 use Rattle.om_layout.specs.Kind.{is_float_base, is_float_name}
-use Rattle.om_layout.proofs.BracketLemmas.{plain_head-bracket, takes_no_tags, head_as_written}
+use Rattle.om_layout.proofs.BracketLemmas.{plain_head-bracket, takes_no_tags}
 
 -- ---- polymorphic variants
 
@@ -99,7 +101,7 @@ module _ (head : Ty → HeadOf Ty) where
 
 module _ (decls : List Decl) (sound : AreSound decls) (types : List Ty) (t : Ty) (number : ℕ) (has : HasHeadOf decls types t number) where
   written : plain_head (head decls) (type_at types number) ≡ head decls t
-  written = sym (head_as_written decls sound (type_at types number) has.ended) ∙ has.head
+  written = sym (head_plain decls sound.rank (are_ranked decls sound) (type_at types number) has.ended) ∙ has.head
 
   pub are_variants : (test : Bool) → test ≡ has_bracket (type_at types number) → IsTrue test ↔ AreVariants (head decls t)
   are_variants test is =

@@ -18,13 +18,13 @@ use Rattle.om_types.specs.Nodes.{type_at}
 use Rattle.om_types.specs.Declarations.{abbreviated, unfolded}
 use Rattle.om_types.specs.Head.{head, plain_head, with_tags, tags_in, has_tag, bare_tag, carrying_tag}
 use Rattle.om_types.specs.Accepted.{AreSound}
-use Rattle.om_equal.proofs.NeedLemmas.{head_again}
+use Rattle.om_equal.proofs.NeedLemmas.{head_again, head_plain}
 use Rattle.om_equal.proofs.RankedLemmas.{are_ranked}
 use Rattle.om_layout.specs.Tags.{has_bracket, before_item}
 use Rattle.om_layout.specs.Way.{EachLeads, IsAbbreviation}
 use Rattle.om_layout.specs.Work.{work}
 use Rattle.om_layout.specs.Steps.{AreThere, BringsNone, EachBringsNone, EachItemBringsNone, IsSettled, IsSettledAt, AreSettled, numbers_work}
-use Rattle.om_layout.proofs.BracketLemmas.{is_new, none_kept, head_as_written}
+use Rattle.om_layout.proofs.BracketLemmas.{is_new, none_kept}
 use Rattle.om_layout.proofs.WayLemmas.{name_instance, instance_itself, unfolded_is, way_head, way_work}
 
 -- ---- tags that are there
@@ -125,7 +125,7 @@ module _ (decls : List Decl) (tags : List (TagOf Ty)) where
   module _ (sound : AreSound decls) where
     pub each_bracket : (t : Ty) → has_bracket t ≡ true → EachWrittenThere t → EachBringsNone decls tags t
     each_bracket t has written value =
-        ap (λ h. filter (is_new tags) (tags_in h)) (head_as_written decls sound (instance value t) (bracket_left t has value))
+        ap (λ h. filter (is_new tags) (tags_in h)) (head_plain decls sound.rank (are_ranked decls sound) (instance value t) (bracket_left t has value))
         ∙ written value
 
     pub each_led : (t u : Ty) → EachLeads decls None t u → EachBringsNone decls tags u → EachBringsNone decls tags t

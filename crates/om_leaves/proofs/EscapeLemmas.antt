@@ -1,6 +1,5 @@
 -- Bytes that stand for themselves, and those that do not, behind what was put.
-use Rattle.std.proofs.Common.{Bool, true, false, ℕ, zero, suc, refl, ◌+◌, ◌-◌, ◌<◌, ◌≤◌, ◌≡◌, ◌==◌, ◌∙◌, ⊎_elim, List, [], ◌∷◌, ◌++◌, length, take, drop, get_or, sym, ap, append_assoc, arith, length-drop, get_or-drop}
-use Rattle.std.specs.Bool.{OnTrue}
+use Rattle.std.proofs.Common.{true, ℕ, zero, suc, refl, ◌+◌, ◌-◌, ◌<◌, ◌≤◌, ◌≡◌, ◌==◌, ◌∙◌, ⊎_elim, List, [], ◌∷◌, ◌++◌, length, take, drop, get_or, sym, ap, append_assoc, arith, length-drop, get_or-drop}
 use Rattle.std.specs.List.{flat_map, slice_range}
 use Rattle.std.proofs.lemmas.Bool.Decides.{eqb_tells}
 use Rattle.std.proofs.lemmas.List.{append-nil, take_more, flat_map_more}
@@ -43,7 +42,3 @@ all_plain f (x ∷ xs) plain =
 pub eq_zero : (n : ℕ) → (n == 0) ≡ true → n ≡ 0
 eq_zero zero is = refl
 eq_zero (suc n) is = ⊎_elim (λ same. same.1) (λ other. absurd (cc)) (eqb_tells (suc n) 0)
-
-pub on_true : (b : Bool) (P : Type 0) → (b ≡ true → P) → OnTrue b P
-on_true true P holds = holds refl
-on_true false P holds = tt

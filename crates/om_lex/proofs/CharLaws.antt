@@ -5,6 +5,7 @@ use Rattle.std.specs.Char.{is_ascii_digit, is_ascii_hexdigit}
 use Rattle.std.proofs.lemmas.Bool.{eqb-true, eqb-false, ne_eqb, and_parts, and_from, or_parts, leb-true, le-leb, agree_below_at}
 use Rattle.std.proofs.lemmas.List.{drop_at, drop_all, drop_more, drop-drop, length-drop, flat_map_more, map_push, append-nil, take-append-drop}
 use Rattle.std.proofs.lemmas.List.Folds.{length-prefix_len}
+use Rattle.std.proofs.lemmas.Option.{cond_some}
 use Rattle.om_lex.specs.declared.lexeme.LexemeKind.TheVariants as kinds
 use Rattle.om_lex.specs.declared.lexeme.LexFault.TheVariants as faults
 use Rattle.om_lex.specs.declared.found.Found.{Found}
@@ -15,11 +16,6 @@ use Rattle.om_lex.specs.Scan.{hexadecimal_at, decimal_at, escape_at, char_at, ch
 pub chosen : {A : Type 0} (b : Bool) (x y z : A) → cond b x y ≡ z → ((b ≡ true) × (x ≡ z)) ⊎ ((b ≡ false) × (y ≡ z))
 chosen true x y z e = inl (refl, e)
 chosen false x y z e = inr (refl, e)
-
--- a test that did not fail
-pub passed : {A : Type 0} (b : Bool) (x z : A) → cond b (Some x) None ≡ Some z → (b ≡ true) × (x ≡ z)
-passed true x z e = (refl, cc)
-passed false x z e = absurd cc
 
 pub no_value : {A : Type 0} {x : A} → None ≡ Some x → ⊥
 no_value e = cc
@@ -36,7 +32,7 @@ unfolding hexadecimal_at
 hexadecimal_at-is quote [] c e = absurd (no_value e)
 hexadecimal_at-is quote (h ∷ []) c e = absurd (no_value e)
 hexadecimal_at-is quote (h ∷ l ∷ bs) c e =
-    let p = passed (is_ascii_hexdigit h && is_ascii_hexdigit l) (Hexadecimal h l) c e in
+    let p = cond_some (is_ascii_hexdigit h && is_ascii_hexdigit l) (Hexadecimal h l) c e in
     let both = and_parts (is_ascii_hexdigit h) (is_ascii_hexdigit l) p.0 in
     subst (IsCharAt quote (92 ∷ 120 ∷ h ∷ l ∷ bs)) p.1 (and_from _ _ both.0 (and_from _ _ both.1 refl), refl)
 
@@ -46,7 +42,7 @@ decimal_at-is quote [] c e = absurd (no_value e)
 decimal_at-is quote (d ∷ []) c e = absurd (no_value e)
 decimal_at-is quote (d ∷ e ∷ []) c is = absurd (no_value is)
 decimal_at-is quote (d ∷ e ∷ f ∷ bs) c is =
-    let p = passed ((is_ascii_digit d && is_ascii_digit e && is_ascii_digit f) && leb (number_in 10 (d ∷ e ∷ f ∷ [])) 255) (Decimal d e f) c is in
+    let p = cond_some ((is_ascii_digit d && is_ascii_digit e && is_ascii_digit f) && leb (number_in 10 (d ∷ e ∷ f ∷ [])) 255) (Decimal d e f) c is in
     let range = and_parts (is_ascii_digit d && is_ascii_digit e && is_ascii_digit f) (leb (number_in 10 (d ∷ e ∷ f ∷ [])) 255) p.0 in
     let two = and_parts (is_ascii_digit d && is_ascii_digit e) (is_ascii_digit f) range.0 in
     let one = and_parts (is_ascii_digit d) (is_ascii_digit e) two.0 in

@@ -5,12 +5,13 @@ use Rattle.std.specs.Char.{is_ascii_digit, is_ascii_hexdigit}
 use Rattle.std.proofs.lemmas.Bool.{false≢true, eqb-true, eqb-false, ltb-false, cases_Bool}
 use Rattle.std.proofs.lemmas.List.{take-append-drop, length-take-le, length-drop}
 use Rattle.std.proofs.lemmas.List.Folds.{length-prefix_len}
+use Rattle.std.proofs.lemmas.Option.{cond_some}
 use Rattle.om_lex.specs.declared.lexeme.Symbol.{Symbol}
 use Rattle.om_lex.specs.Lexeme.{starts_name, is_name_byte, CharForm, char_bytes, IsCharForm, minus_text, suffix_text, Form, Character, Number, Quoted, Double}
 use Rattle.om_lex.specs.Scan.{or_form, closed_char, character_form, quote_form, variable_form, tag_form, word_form, begins_with, char_at, one_more, chars_of, string_form, suffix_at, number_form, double_form, pair_at, single_symbol, or_symbol, symbol_form, form_at}
 use Rattle.om_lex.proofs.NumberLaws.{prefix_passes}
 use Rattle.om_lex.proofs.SymbolLaws.{single_symbol-is, pair_at-is}
-use Rattle.om_lex.proofs.CharLaws.{chosen, passed, no_value, some_is, char_at-is, char_bytes-positive}
+use Rattle.om_lex.proofs.CharLaws.{chosen, no_value, some_is, char_at-is, char_bytes-positive}
 use Rattle.om_lex.proofs.NameLaws.{Begins, word-begins, tag_form-begins, variable_form-begins}
 
 pub begins_with-is : (byte : ℕ) (text : List ℕ) → begins_with byte text ≡ true → (rest : List ℕ) × (text ≡ byte ∷ rest)
@@ -26,7 +27,7 @@ character_form-begins bs form e = by_char (char_at 39 bs) refl e
     by_char : (o : Option CharForm) → char_at 39 bs ≡ o → closed_char bs o ≡ Some form → Begins (39 ∷ bs) form
     by_char None at e = absurd (no_value e)
     by_char (Some c) at e =
-        let p = passed (begins_with 39 (drop (length (char_bytes c)) bs)) (Character c) form e in
+        let p = cond_some (begins_with 39 (drop (length (char_bytes c)) bs)) (Character c) form e in
         let is = char_at-is 39 bs c at in
         let close = begins_with-is 39 (drop (length (char_bytes c)) bs) p.0 in
         subst (Begins (39 ∷ bs)) p.1 (is.0, (close.0, ap (λ t. 39 ∷ t) (is.1 ∙ ap (λ t. char_bytes c ++ t) close.1 ∙ sym (append_assoc (char_bytes c) (39 ∷ []) close.0))))
@@ -72,7 +73,7 @@ string_form-begins : (bs : List ℕ) (form : Form) → string_form bs ≡ Some f
 unfolding string_form
 string_form-begins bs form e =
     let read = chars_of (length bs) bs in
-    let p = passed (begins_with 34 read.1) (Quoted read.0) form e in
+    let p = cond_some (begins_with 34 read.1) (Quoted read.0) form e in
     let are = chars_of-are (length bs) bs in
     let close = begins_with-is 34 read.1 p.0 in
     subst (Begins (34 ∷ bs)) p.1 (are.0, (close.0, ap (λ t. 34 ∷ t) (are.1 ∙ ap (λ t. flat_map char_bytes read.0 ++ t) close.1 ∙ sym (append_assoc (flat_map char_bytes read.0) (34 ∷ []) close.0))))
@@ -114,7 +115,7 @@ double_form-begins bs form e =
     elim (chosen (ltb (length bs) 16) None (cond (list_all is_ascii_hexdigit (take 16 bs)) (Some (Double (take 16 bs))) None) (Some form) e) [
       | inl h ↦ absurd (no_value h.1)
       | inr h ↦
-          let p = passed (list_all is_ascii_hexdigit (take 16 bs)) (Double (take 16 bs)) form h.1 in
+          let p = cond_some (list_all is_ascii_hexdigit (take 16 bs)) (Double (take 16 bs)) form h.1 in
           subst (Begins (36 ∷ bs)) p.1 ((length-take-le 16 bs (ltb-false (length bs) 16 h.0), p.0), (drop 16 bs, ap (λ t. 36 ∷ t) (sym (take-append-drop 16 bs))))
     ]
 

@@ -4,6 +4,7 @@ use Rattle.std.specs.List.{list_all, prefix_len, take_while, flat_map, AllByRecu
 use Rattle.std.specs.Char.{is_ascii_digit, is_ascii_hexdigit, is_ascii_uppercase}
 use Rattle.std.proofs.lemmas.Bool.{false≢true, ne_eqb, le-ltb, and_parts, or_left, or_right, agree_below_at, leb-true}
 use Rattle.std.proofs.lemmas.List.{append-nil, take_at, drop_at}
+use Rattle.std.proofs.lemmas.Option.{cond_some}
 use Rattle.om_lex.specs.declared.lexeme.Keyword.{Keyword}
 use Rattle.om_lex.specs.declared.lexeme.Keyword.TheVariants as keywords
 use Rattle.om_lex.specs.declared.lexeme.Suffix.{Suffix}
@@ -12,7 +13,7 @@ use Rattle.om_lex.specs.declared.lexeme.Symbol.{Symbol}
 use Rattle.om_lex.specs.declared.lexeme.Symbol.TheVariants as symbols
 use Rattle.om_lex.specs.Lexeme.{starts_lower, starts_name, is_name_byte, CharForm, char_bytes, IsCharForm, keyword_text, minus_text, suffix_text, symbol_text, Form, Reserved, Lower, Upper, Tag, Variable, Character, Number, Quoted, Double, Mark, form_bytes, IsForm, is_character}
 use Rattle.om_lex.specs.Scan.{closed_char, character_form, quote_form, variable_form, tag_form, word_form, char_at, string_form, suffix_at, number_form, double_form, pair_symbol, pair_at, single_symbol, or_symbol, symbol_form, form_at}
-use Rattle.om_lex.proofs.CharLaws.{passed, no_value, char_at-form, chars_of-forms}
+use Rattle.om_lex.proofs.CharLaws.{no_value, char_at-form, chars_of-forms}
 use Rattle.om_lex.proofs.NameLaws.{apart, take_while-more, keyword_of-keyword, keyword_of-other, form_bytes-word, is_character-word}
 use Rattle.om_lex.proofs.SymbolLaws.{pair_at-is}
 
@@ -101,7 +102,7 @@ variable_form-found b bs more first = rw first refl
 
 is_character-closed : (bs : List ℕ) (o : Option CharForm) (form : Form) → closed_char bs o ≡ Some form → is_character form ≡ true
 is_character-closed bs None form e = absurd (no_value e)
-is_character-closed bs (Some c) form e = sym (ap is_character (passed _ (Character c) form e).1)
+is_character-closed bs (Some c) form e = sym (ap is_character (cond_some _ (Character c) form e).1)
 
 variable-found : (b : ℕ) (bs more : List ℕ) → starts_lower b ≡ true → list_all is_name_byte (b ∷ bs) ≡ true → IsFound (39 ∷ b ∷ bs ++ more) (Variable (b ∷ bs))
 unfolding form_at quote_form character_form

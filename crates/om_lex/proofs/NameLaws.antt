@@ -4,13 +4,14 @@ use Rattle.std.specs.List.{list_all, prefix_len, take_while}
 use Rattle.std.specs.Char.{is_ascii_uppercase, is_ascii_lowercase}
 use Rattle.std.proofs.lemmas.Bool.{false≢true, ne_eqb, or_cases, or_left, or_right, and_parts, and_from, cases_Bool}
 use Rattle.std.proofs.lemmas.List.{take-append-drop}
+use Rattle.std.proofs.lemmas.Option.{cond_some}
 use Rattle.om_lex.specs.declared.lexeme.Keyword.{Keyword}
 use Rattle.om_lex.specs.declared.lexeme.Keyword.TheVariants as keywords
 use Rattle.om_lex.specs.Lexeme.{starts_lower, starts_name, is_name_byte, IsName, keyword_text, Form, Tag, Variable, form_bytes, IsForm, is_character}
 use Rattle.om_lex.specs.Scan.{keyword_of, cased_form, reserved_or, word_form, tag_form, variable_form}
 use Rattle.om_lex.proofs.WordLaws.{keyword_of-some}
 use Rattle.om_lex.proofs.NumberLaws.{prefix_passes}
-use Rattle.om_lex.proofs.CharLaws.{passed, no_value}
+use Rattle.om_lex.proofs.CharLaws.{no_value}
 
 -- the form is written right, and begins the text
 abbrev pub Begins : List ℕ → Form → Type 0
@@ -123,12 +124,12 @@ pub tag_form-begins : (bs : List ℕ) (form : Form) → tag_form bs ≡ Some for
 unfolding tag_form
 tag_form-begins [] form e = absurd (no_value e)
 tag_form-begins (b ∷ bs) form e =
-    let p = passed (starts_name b) (Tag (take_while is_name_byte (b ∷ bs))) form e in
+    let p = cond_some (starts_name b) (Tag (take_while is_name_byte (b ∷ bs))) form e in
     subst (Begins (96 ∷ b ∷ bs)) p.1 (name_at starts_name b bs p.0 (name_byte-from_start b p.0), (drop (prefix_len is_name_byte (b ∷ bs)) (b ∷ bs), ap (λ t. 96 ∷ t) (run_and_rest is_name_byte (b ∷ bs))))
 
 pub variable_form-begins : (bs : List ℕ) (form : Form) → variable_form bs ≡ Some form → Begins (39 ∷ bs) form
 unfolding variable_form
 variable_form-begins [] form e = absurd (no_value e)
 variable_form-begins (b ∷ bs) form e =
-    let p = passed (starts_lower b) (Variable (take_while is_name_byte (b ∷ bs))) form e in
+    let p = cond_some (starts_lower b) (Variable (take_while is_name_byte (b ∷ bs))) form e in
     subst (Begins (39 ∷ b ∷ bs)) p.1 (name_at starts_lower b bs p.0 (name_byte-from_start b (or_left _ _ p.0)), (drop (prefix_len is_name_byte (b ∷ bs)) (b ∷ bs), ap (λ t. 39 ∷ t) (run_and_rest is_name_byte (b ∷ bs))))

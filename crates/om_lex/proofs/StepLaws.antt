@@ -2,13 +2,14 @@
 use Rattle.std.proofs.Common.{◌≡◌, ◌≢◌, ℕ, ◌+◌, true, false, ◌&&◌, eqb, List, [], ◌∷◌, ◌++◌, length, Some, None, Ok, Err, refl, sym, ap, ◌∙◌, arith, inl, inr, length-append, append_assoc}
 use Rattle.std.specs.List.{flat_map}
 use Rattle.std.proofs.lemmas.Bool.{false≢true, true≢false, ne_eqb, eqb-true, and_parts, or_cases, false_from_ne_true, le-leb, lt-leb, leb-true, leb-false}
+use Rattle.std.proofs.lemmas.Option.{cond_some}
 use Rattle.om_lex.specs.declared.lexeme.LexFault.TheVariants as faults
 use Rattle.om_lex.specs.Lexeme.{is_separator, number_in, greatest, Form, Reserved, Lower, Upper, Tag, Variable, Character, Number, Quoted, Double, Mark, form_bytes, IsInRange, IsTooBig}
 use Rattle.om_lex.specs.LexText.{Cut, cut_bytes, IsInside, IsTaken, Part, Separator, Comment, Word, part_bytes, IsPart}
 use Rattle.om_lex.specs.declared.found.Step.{Step}
 use Rattle.om_lex.specs.declared.found.Step.TheVariants as steps
 use Rattle.om_lex.specs.Scan.{begins_with, chars_of, string_form, pair_at, pair_symbol, single_symbol, symbol_form, form_at, in_range, found, found_at, string_at, lexeme_at, closing, gap_of, word_of, step_at}
-use Rattle.om_lex.proofs.CharLaws.{chosen, passed, no_value}
+use Rattle.om_lex.proofs.CharLaws.{chosen, no_value}
 use Rattle.om_lex.proofs.FormLaws.{begins_with-is}
 use Rattle.om_lex.proofs.TakenLaws.{found-taken}
 use Rattle.om_lex.proofs.InsideLaws.{inside_text, closing-inside}
@@ -65,7 +66,7 @@ pub string_form-at : (bs : List ℕ) (form : Form) → string_form bs ≡ Some f
 unfolding string_form string_at
 string_form-at bs form e =
     let read = chars_of (length bs) bs in
-    let p = passed (begins_with 34 read.1) (Quoted read.0) form e in
+    let p = cond_some (begins_with 34 read.1) (Quoted read.0) form e in
     let close = begins_with-is 34 read.1 p.0 in
     rw (close.1, ← p.1) refl
 

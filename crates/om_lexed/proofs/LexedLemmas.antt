@@ -82,7 +82,7 @@ lexed_tag name is = lexed_form Ends (Tag name) is (λ after ends. found_part (Ta
 no_marks : (s : Symbol) → ((after : List ℕ) → form_at (form_bytes (Mark s) ++ after) ≡ Some (Mark s)) → (Mark s ≢ Mark symbols.OpenParen) → (May : List ℕ → Type 0) → IsLexed May (form_bytes (Mark s)) (mark s)
 no_marks s found other May = lexed_form May (Mark s) tt (λ after may. found_part (Mark s) after (found after) other tt)
 
-by_next : (P : List ℕ → Type 0) → P [] → ((b : ℕ) (bs : List ℕ) → P (b ∷ bs)) → (after : List ℕ) → P after
+pub by_next : (P : List ℕ → Type 0) → P [] → ((b : ℕ) (bs : List ℕ) → P (b ∷ bs)) → (after : List ℕ) → P after
 by_next P none some [] = none
 by_next P none some (b ∷ bs) = some b bs
 

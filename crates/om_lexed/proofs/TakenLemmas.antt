@@ -42,7 +42,7 @@ paren_part after found may =
 
 -- ---- words
 
-ends_run : (after : List ℕ) → Ends after → take_while is_name_byte after ≡ []
+pub ends_run : (after : List ℕ) → Ends after → take_while is_name_byte after ≡ []
 ends_run [] e = refl
 ends_run (b ∷ bs) e = rw e refl
 
@@ -69,7 +69,7 @@ tag_found (b ∷ bs) after is ends =
 -- ---- numbers
 
 -- a byte of no name is no digit and no suffix
-no_digit : (b : ℕ) → is_name_byte b ≡ false → is_ascii_digit b ≡ false
+pub no_digit : (b : ℕ) → is_name_byte b ≡ false → is_ascii_digit b ≡ false
 no_digit b e = elim (cases_Bool (is_ascii_digit b)) [
   | inr none ↦ none
   | inl digit ↦ absurd (false≢true (sym e ∙ or_left _ _ (or_left _ _ (or_left _ _ (or_left _ _ digit)))))

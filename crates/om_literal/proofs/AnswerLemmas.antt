@@ -18,6 +18,11 @@ use Rattle.om_literal.specs.Starts.{Start, misfit, out_of_range, small, whole, b
 use Rattle.om_literal.specs.Reading.{Reading, Refusal, misfit_at, int_range_at, label_at, reading, is_next, again_read, small_read, block_read, begun, literal_read, inside}
 use Rattle.om_literal.specs.LiteralAnswers.{byte_of, in_bytes, fault_of, shape_in, names_in, IsValue, IsMisread, IsAnswer, HasOneAnswer}
 
+-- lexemes of a literal have no place of Syntax
+pub literal_excludes : (lexemes : List Lexeme) (v : Literal) (k : ℕ) → literal_kinds v ≡ kinds_of lexemes
+    → IsSyntax literal_kinds (kinds_of lexemes) k → ⊥
+literal_excludes lexemes v k spelled s = no_syntax literal_table v k (subst (λ all. IsSyntax literal_kinds all k) (sym spelled) s)
+
 -- ---- a literal is one value
 
 abbrev pub HasOneValue : {T : Type 0} → Result Reading (Refusal T) → Type 0
@@ -101,13 +106,10 @@ module _ (table : Tabled) (at : ℕ) (lexemes : List Lexeme) (end : ℕ) (old : 
       ap (λ all. Ok (all, value)) i.behind
       ∙ ap (said lexemes end old) (sym (subst (λ u. reading_of u ≡ Ok (reading (value ∷ []) i.objects i.read.labels)) (one_tree literal_table i.literal v (i.spelled ∙ sym spelled)) i.read.read))
 
-  no_literal : (v : Literal) (k : ℕ) → literal_kinds v ≡ kinds_of lexemes → IsSyntax literal_kinds (kinds_of lexemes) k → ⊥
-  no_literal v k spelled s = no_syntax literal_table v k (subst (λ all. IsSyntax literal_kinds all k) (sym spelled) s)
-
   other_said : (v : Literal) → literal_kinds v ≡ kinds_of lexemes → (other : Result (List Obj × Val) LiteralFault)
       → IsAnswer table at lexemes end old other → other ≡ said lexemes end old (reading_of v)
   other_said v spelled (Ok (new, value)) a = value_said v new value spelled a
-  other_said v spelled (Err (faults.Syntax place)) a = absurd (no_literal v a.lexeme spelled a.syntax)
+  other_said v spelled (Err (faults.Syntax place)) a = absurd (literal_excludes lexemes v a.lexeme spelled a.syntax)
   other_said v spelled (Err (faults.Misfit place t)) a = misread_said v _ spelled a
   other_said v spelled (Err (faults.IntRange place)) a = misread_said v _ spelled a
   other_said v spelled (Err (faults.Label place)) a = misread_said v _ spelled a
@@ -116,11 +118,11 @@ module _ (table : Tabled) (at : ℕ) (lexemes : List Lexeme) (end : ℕ) (old : 
   -- at a place of Syntax
   other_syntax : (k : ℕ) → ((j : ℕ) → IsSyntax literal_kinds (kinds_of lexemes) j → j ≡ k) → IsSyntax literal_kinds (kinds_of lexemes) k
       → (other : Result (List Obj × Val) LiteralFault) → IsAnswer table at lexemes end old other → other ≡ Err (faults.Syntax (byte_of lexemes end k))
-  other_syntax k same s (Ok (new, value)) a = absurd (no_literal a.literal k a.spelled s)
+  other_syntax k same s (Ok (new, value)) a = absurd (literal_excludes lexemes a.literal k a.spelled s)
   other_syntax k same s (Err (faults.Syntax place)) a = ap (λ p. Err (faults.Syntax p)) (a.is ∙ ap (byte_of lexemes end) (same a.lexeme a.syntax))
-  other_syntax k same s (Err (faults.Misfit place t)) a = absurd (no_literal a.literal k a.spelled s)
-  other_syntax k same s (Err (faults.IntRange place)) a = absurd (no_literal a.literal k a.spelled s)
-  other_syntax k same s (Err (faults.Label place)) a = absurd (no_literal a.literal k a.spelled s)
+  other_syntax k same s (Err (faults.Misfit place t)) a = absurd (literal_excludes lexemes a.literal k a.spelled s)
+  other_syntax k same s (Err (faults.IntRange place)) a = absurd (literal_excludes lexemes a.literal k a.spelled s)
+  other_syntax k same s (Err (faults.Label place)) a = absurd (literal_excludes lexemes a.literal k a.spelled s)
   other_syntax k same s (Err faults.Memory) a = absurd a
 
   pub one_answer : HasOneAnswer table at lexemes end old

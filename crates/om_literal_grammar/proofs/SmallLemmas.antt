@@ -6,15 +6,12 @@ use Rattle.om_literal_grammar.specs.declared.node.Form.TheVariants as forms
 use Rattle.om_literal_grammar.specs.declared.node.Node.{Node}
 use Rattle.om_literal_grammar.specs.declared.nodes.SmallNode.{SmallNode}
 use Rattle.om_literal_grammar.specs.Small.{plain_node, node_by, node_in, nodes_in, IsHeldBy, AreHeld, Holds, Keeps}
+use Rattle.om_model.proofs.Lists.{slice_get-last}
 
 found_before : {T : Type 0} (xs ys : List T) (i : ℕ) → i < length xs → slice_get (xs ++ ys) i ≡ slice_get xs i
 found_before [] ys i h = absurd (omega (arith, h))
 found_before (x ∷ xs) ys zero h = refl
 found_before (x ∷ xs) ys (suc i) h = found_before xs ys i (omega (arith, h))
-
-found_last : {T : Type 0} (xs : List T) (x : T) → slice_get (xs ++ x ∷ []) (length xs) ≡ Some x
-found_last [] x = refl
-found_last (y ∷ xs) x = found_last xs x
 
 module _ (others more : List Node) where
   same_by : (first parts : ℕ) (form : Option Form) → IsHeldBy (length others) first form → node_by (others ++ more) first parts form ≡ node_by others first parts form
@@ -35,7 +32,7 @@ module _ (others more : List Node) where
 pub last_found : (others new : List Node) (n : Node) (number : ℕ) → number ≡ length others → new ≡ others ++ n ∷ [] → unwrap_or (slice_get new number) (plain_node forms.Unit 0 0) ≡ n
 last_found others new n number last is =
     ap (λ (found : Option Node). unwrap_or found (plain_node forms.Unit 0 0))
-    (ap (λ i. slice_get new i) last ∙ ap (λ (ns : List Node). slice_get ns (length others)) is ∙ found_last others n)
+    (ap (λ i. slice_get new i) last ∙ ap (λ (ns : List Node). slice_get ns (length others)) is ∙ slice_get-last others n)
 
 nodes_put : (others : List Node) (all : List SmallNode) (k : ℕ) (s : SmallNode) → nodes_in others (slice_set all k s) ≡ slice_set (nodes_in others all) k (node_in others s)
 nodes_put others [] zero s = refl

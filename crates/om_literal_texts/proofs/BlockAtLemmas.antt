@@ -7,6 +7,7 @@ use Rattle.std.proofs.lemmas.List.{length-replicate}
 use Rattle.om_model.specs.Graph.{IsInteger}
 use Rattle.om_model.specs.declared.value.Val.{Val}
 use Rattle.om_model.specs.declared.value.Val.TheVariants as vals
+use Rattle.om_model.proofs.Lists.{found_passes}
 use Rattle.om_types.specs.declared.names.ConstrNames.{ConstrNames}
 use Rattle.om_types.specs.declared.names.TagName.{TagName}
 use Rattle.om_types.specs.declared.names.Names.{Names}
@@ -27,7 +28,7 @@ use Rattle.om_literal_texts.specs.Blocks.{IsRow, ReadsRow, IsBlockAt}
 use Rattle.om_literal_texts.specs.Listing.{listing, IsText, AreTexts}
 use Rattle.om_literal_texts.specs.Readable.{AreSumNames, AreFieldNames, IsTagName, IsReadable, IsConstructorName}
 use Rattle.om_literal_texts.proofs.BlockReadLemmas.{applied_row, array_row, tuple_row, fields_row, types_in, same_types}
-use Rattle.om_literal_texts.proofs.LeafReadLemmas.{found_passes, same_number, some_of, in_bits}
+use Rattle.om_literal_texts.proofs.LeafReadLemmas.{same_number, some_of, in_bits}
 use Rattle.om_literal_texts.proofs.ObjectReadLemmas.{listing_count, same_names_refl}
 
 texts_many : (texts : List (List ℕ)) (vs : List Literal) → AreTexts texts vs → length texts ≡ length vs

@@ -1,5 +1,5 @@
 -- The text of a value without parts is a plain literal that is this value.
-use Rattle.std.proofs.Common.{◌≡◌, ◌≢◌, ℕ, ℤ, pos, negsuc, zero, suc, ◌<◌, ◌≤◌, ◌^◌, ◌⊎◌, Bool, true, false, cond, eqb, List, [], ◌∷◌, ◌++◌, Option, Some, None, refl, sym, ap, subst, ◌∙◌, arith, inl, inr}
+use Rattle.std.proofs.Common.{◌≡◌, ◌≢◌, ℕ, ℤ, pos, negsuc, zero, suc, ◌<◌, ◌≤◌, ◌^◌, ◌⊎◌, true, false, eqb, List, [], ◌∷◌, ◌++◌, Option, Some, None, refl, sym, ap, subst, ◌∙◌, arith, inl, inr}
 use Rattle.std.specs.Prelude.{slice_get, find, IsTrue, IsSome, unwrap_or, option_map, codes}
 use Rattle.std.specs.Fmt.{signed_decimal}
 use Rattle.std.specs.Str.{bytes_eq}
@@ -7,6 +7,7 @@ use Rattle.std.proofs.lemmas.Bool.{false≢true, true≢false, lt-ltb, ltb-true,
 use Rattle.std.proofs.lemmas.List.{append-nil}
 use Rattle.om_model.specs.declared.value.Val.TheVariants as vals
 use Rattle.om_model.specs.Graph.{IsSigned, IsInteger}
+use Rattle.om_model.proofs.Lists.{found_passes}
 use Rattle.om_lex.specs.declared.lexeme.Keyword.{Keyword}
 use Rattle.om_lex.specs.declared.lexeme.Keyword.TheVariants as keywords
 use Rattle.om_lex.specs.declared.lexeme.LexemeKind.TheVariants as kinds
@@ -77,15 +78,6 @@ absent_lexed z range = subst (λ t. IsLexed Ends t (plain_kinds (integer (record
 
 absent_begins : (z : ℤ) → InRange z → Begins (signed_decimal z)
 absent_begins z range = subst Begins (append-nil (signed_decimal z)) (begins_integer z [] range)
-
--- what is found has passed the test
-pub found_passes : {X : Type 0} (p : X → Bool) (xs : List X) (x : X) → find p xs ≡ Some x → p x ≡ true
-found_passes p [] x e = absurd cc
-found_passes p (y ∷ ys) x e = by_test (found_passes p ys x) (p y) refl e
-  where
-    by_test : (find p ys ≡ Some x → p x ≡ true) → (b : Bool) → p y ≡ b → cond b (Some y) (find p ys) ≡ Some x → p x ≡ true
-    by_test others true q e = let same : y ≡ x = cc in ap p (sym same) ∙ q
-    by_test others false q e = others e
 
 pub same_number : (x y : ℤ) → is_number x y ≡ true → x ≡ y
 same_number (pos m) (pos n) e = ap pos (eqb-true m n e)

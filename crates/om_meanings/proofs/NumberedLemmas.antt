@@ -2,6 +2,7 @@
 -- commands whose items are values, what is said of the items.
 use Rattle.std.proofs.Common.{◌≡◌, ℕ, suc, Bool, true, false, List, [], ◌∷◌, ◌++◌, length, inl, inr, refl, sym, ap, ◌∙◌, subst}
 use Rattle.std.specs.Prelude.{◌&&◌, ◌↔◌}
+use Rattle.std.proofs.lemmas.Bool.{and_parts}
 use Rattle.om_format.specs.Stream.{SpellAll}
 use Rattle.om_format.specs.Tree.{Tree}
 use Rattle.om_outcome.specs.Outcome.{Said, all_well, Language}
@@ -10,7 +11,7 @@ use Rattle.om_commands.specs.Tasks.{items_of, IsFirstValue}
 use Rattle.om_commands.proofs.FrontLemmas.{cut_of, spelled_of}
 use Rattle.om_meanings.specs.Numbered.{HoldsOfAll, HoldsOfSome}
 use Rattle.om_meanings.proofs.ItemLemmas.{one_more}
-use Rattle.om_meanings.proofs.SaidLemmas.{both_true, and_false}
+use Rattle.om_meanings.proofs.SaidLemmas.{and_false}
 
 -- this is said of the values, the first of which has the number
 abbrev pub AreSaid : (ℕ → Tree → Said → Type 0) → ℕ → List Tree → List Said → Type 0
@@ -47,7 +48,7 @@ module _ (SaidOf : ℕ → Tree → Said → Type 0) (Certified : Bool → ℕ �
   all_certified k [] (s ∷ said) h e = absurd h
   all_certified k (t ∷ trees) [] h e = absurd h
   all_certified k (t ∷ trees) (s ∷ said) (is, more) e =
-      let both = both_true s.well (all_well said) e in
+      let both = and_parts s.well (all_well said) e in
       (holds true k t (s, is, both.0), all_certified (suc k) trees said more both.1)
 
   pub some_wrong :

@@ -2,6 +2,7 @@
 use Rattle.std.proofs.Common.{◌≡◌, ◌+◌, ◌<◌, ◌≤◌, Bool, true, false, List, [], ◌∷◌, ◌++◌, length, Option, Some, None, inl, inr, refl, sym, ap, ◌∙◌, subst, length-append, arith}
 use Rattle.std.specs.Prelude.{◌&&◌, ◌↔◌, IsTrue, if◌then◌else◌}
 use Rattle.std.specs.List.{AllByRecursion}
+use Rattle.std.proofs.lemmas.Bool.{and_parts}
 use Rattle.om_format.specs.Tree.{Tree}
 use Rattle.om_outcome.specs.declared.status.Status.{Status}
 use Rattle.om_outcome.specs.declared.status.Status.TheVariants.{Well, No, Usage, Script}
@@ -14,11 +15,6 @@ use Rattle.om_meanings.specs.Values.{HoldsOfSome, AreTwo, HasLine, HasSomeLine, 
 use Rattle.om_meanings.proofs.ItemLemmas.{AreSaid}
 
 -- ---- whether nothing is wrong
-
-pub both_true : (a b : Bool) → a && b ≡ true → (a ≡ true) × (b ≡ true)
-both_true true true e = (refl, refl)
-both_true true false e = absurd (cc e)
-both_true false b e = absurd (cc e)
 
 pub and_false : (b : Bool) → b && false ≡ false
 and_false true = refl
@@ -97,7 +93,7 @@ module _ {D T E : Type 0} (language : Language D T E) where
   well_lines saying type earlier [] (s ∷ said) h e = absurd h
   well_lines saying type earlier (t ∷ trees) [] h e = absurd h
   well_lines saying type earlier (t ∷ trees) (s ∷ said) (is, more) e =
-      let both = both_true s.well (all_well said) e in (
+      let both = and_parts s.well (all_well said) e in (
         (is.0, subst (λ w. language.LineOf saying type t is.0 w) both.0 is.1),
         well_lines saying type (earlier ++ t ∷ []) trees said more both.1,
       )

@@ -10,31 +10,18 @@ use Rattle.om_model.specs.declared.value.Obj.TheVariants as objects
 use Rattle.om_types.specs.declared.shape.PolyTag.{PolyTag}
 use Rattle.om_types.specs.declared.shape.ShapeOf.{ShapeOf}
 use Rattle.om_types.specs.declared.shape.ShapeOf.TheVariants as shapes
-use Rattle.om_types.specs.Fitting.{none_if, or_none, object_fields, block_fields, tag_fields, argument_field, is_asked, is_bytes, is_double, has_doubles, is_int32, is_int64, is_native}
+use Rattle.om_types.specs.Fitting.{or_none, object_fields, block_fields, tag_fields, argument_field, is_asked}
 use Rattle.om_types.specs.Table.{Table, table_shapes, is_asked_in}
 use Rattle.om_types.specs.Typing.{values_of}
 use Rattle.om_types.proofs.AskedLemmas.{need_typed}
 use Rattle.om_format.specs.Token.{IsLeaf}
 use Rattle.om_pass_law.specs.Asked.{Need, of_type, hash_of, shape_at, block_needs, fields_ask}
+use Rattle.om_pass_law.proofs.PassLemmas.{leaf_needs}
 use Rattle.om_misfit_law.specs.PassedBut.{Made}
 use Rattle.om_misfit_law.proofs.BridgeLemmas.{IsFrom, IsField}
 use Rattle.om_misfit_law.proofs.FieldLemmas.{AreFields, numbered, tagged, fields_are}
 use Rattle.om_misfit_law.proofs.PlacedLemmas.{ArePlaced, fields_placed}
 use Rattle.om_misfit_law.proofs.RealLemmas.{IsRealIf, real_from}
-
--- a leaf has no fields
-nothing_needed : (test : Bool) (i a : ℕ) → Contains (or_none (none_if {T = ℕ} test)) (i, a) → ⊥
-nothing_needed true i a needed = Contains-none (i, a) needed
-nothing_needed false i a needed = Contains-none (i, a) needed
-
-leaf_needs : (shape : ShapeOf ℕ) (object : Obj) (i a : ℕ) → IsLeaf object → Contains (or_none (object_fields shape object)) (i, a) → ⊥
-leaf_needs shape (objects.Block tag values) i a is needed = is
-leaf_needs shape (objects.Bytes bytes) i a is needed = nothing_needed (is_bytes shape) i a needed
-leaf_needs shape (objects.Double bits) i a is needed = nothing_needed (is_double shape) i a needed
-leaf_needs shape (objects.Doubles all) i a is needed = nothing_needed (has_doubles shape (length all)) i a needed
-leaf_needs shape (objects.I32 z) i a is needed = nothing_needed (is_int32 shape) i a needed
-leaf_needs shape (objects.I64 z) i a is needed = nothing_needed (is_int64 shape) i a needed
-leaf_needs shape (objects.Native z) i a is needed = nothing_needed (is_native shape) i a needed
 
 -- a block of which nothing is asked has no fields that are needed
 hidden_fields : (shape : ShapeOf ℕ) (tag : ℕ) (values : List Val) → is_asked shape ≡ false → block_fields shape tag values ≡ Some []

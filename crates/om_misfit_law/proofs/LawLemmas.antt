@@ -1,4 +1,5 @@
 -- The one misfit that was met is the least fault.
+use mathlib.Core.List.{cons≢nil}
 use Rattle.std.proofs.Common.{ℕ, ◌≡◌, ◌∙◌, ⊎_elim, List, [], ◌∷◌, ◌++◌, length, Some, refl, sym, ap, subst, arith}
 use Rattle.std.specs.Prelude.{Contains, IsTrue, All}
 use Rattle.std.proofs.lemmas.List.{append-nil}
@@ -17,12 +18,6 @@ use Rattle.om_misfit_law.proofs.FrontLemmas.{PassesBut, IsFromStart, passes_from
 use Rattle.om_misfit_law.proofs.PlainLemmas.{plain_alone}
 use Rattle.om_misfit_law.proofs.ReadLemmas.{Good, IsMetAs, IsReadBut, all_in, tree_read}
 use Rattle.om_misfit_law.proofs.RealLemmas.{IsReal}
-
-no_list : {X : Type 0} (x : X) (xs : List X) → x ∷ xs ≡ [] → ⊥
-no_list {X} x xs same = subst IsSome same tt where
-  IsSome : List X → Type 0
-  IsSome [] = ⊥
-  IsSome (x ∷ xs) = Unit {0}
 
 module _ (table : Table) (lawful : AreLawful (table_shapes table) Everything) (back : List ℕ) (tree : Tree) (made : List Made) (m : Missed) (is : IsTree tree)
     (passed : PassedBut back table (tokens tree) made [] (m ∷ [])) where
@@ -56,7 +51,7 @@ module _ (table : Table) (lawful : AreLawful (table_shapes table) Everything) (b
       read.good o (omega arith) (omega (arith, below, long, many)) t trail at
 
   met : IsMetAs back table noted made graph whole m m
-  met = ⊎_elim (λ same. absurd (no_list m [] (same ∙ read.passes.1))) (λ is. is) read.met
+  met = ⊎_elim (λ same. absurd (cons≢nil (same ∙ read.passes.1))) (λ is. is) read.met
 
   -- something is asked of the root, where the trail begins with it
   root_asked : (trail : List (ℕ × ℕ)) (o t : ℕ) → IsMadeAt made o t trail → IsTrue (is_asked_in table t) → IsTrue (is_asked_in table 0)
@@ -70,7 +65,7 @@ module _ (table : Table) (lawful : AreLawful (table_shapes table) Everything) (b
   -- where the misfit is not the root, the root has what is asked for
   all_made : (link : ℕ × ℕ) (trail : List (ℕ × ℕ)) → m.trail ≡ link ∷ trail → IsTrue (is_asked_in table 0) → AreMade table graph made back noted whole m.trail
   all_made link trail its asked = record {
-    root_fine = ⊎_elim (λ fine. fine) (λ missed. absurd (no_list link trail (sym its ∙ missed.here))) (read.value asked);
+    root_fine = ⊎_elim (λ fine. fine) (λ missed. absurd (cons≢nil (sym its ∙ missed.here))) (read.value asked);
     fits = λ o t trail at. (good o t trail at).fits;
     fields = λ o t trail i a at needed. (good o t trail at).fields i a needed;
     ways = λ o t trail at asked. (good o t trail at).way asked;

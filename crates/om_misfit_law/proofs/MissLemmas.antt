@@ -6,7 +6,6 @@ use Rattle.std.proofs.lemmas.Option.{none-some}
 use Rattle.om_model.specs.declared.value.Val.{Val}
 use Rattle.om_model.specs.declared.value.Val.TheVariants as vals
 use Rattle.om_model.specs.declared.value.Obj.{Obj}
-use Rattle.om_model.specs.declared.value.Obj.TheVariants as objects
 use Rattle.om_types.specs.declared.shape.Constr.{Constr}
 use Rattle.om_types.specs.declared.shape.PolyTag.{PolyTag}
 use Rattle.om_types.specs.declared.shape.ShapeOf.{ShapeOf}
@@ -14,6 +13,7 @@ use Rattle.om_types.specs.declared.shape.ShapeOf.TheVariants as shapes
 use Rattle.om_types.specs.Fitting.{none_if, fits_int, fits_atom, object_fields, fields_if, constr_fields, block_fields, tag_fields, is_asked}
 use Rattle.om_types.specs.Table.{Table, table_shapes, is_asked_in}
 use Rattle.om_format.specs.Token.{Token, integer, atom, shared, block, leaf}
+use Rattle.om_scan.proofs.PathLemmas.{any_object}
 use Rattle.om_pass_law.specs.Asked.{of_type, hash_of, shape_at, needs_if, constr_needs, block_needs, shape_asks, fields_ask}
 use Rattle.om_misfit_law.specs.PassedBut.{Misses}
 use Rattle.om_misfit_law.specs.MissedLaw.{IsSpelledBy}
@@ -100,17 +100,8 @@ accepts_block : (shape : ShapeOf ℕ) (t tag size : ℕ) → is_asked shape ≡ 
 accepts_block shapes.Anything t tag size hidden is = none-some (map of_type (replicate size t)) (sym is)
 accepts_block shape t tag size hidden is = false≢true (sym hidden)
 
-anything_accepts : (object : Obj) → object_fields {T = ℕ} shapes.Anything object ≡ Some []
-anything_accepts (objects.Block tag values) = refl
-anything_accepts (objects.Bytes bytes) = refl
-anything_accepts (objects.Double bits) = refl
-anything_accepts (objects.Doubles all) = refl
-anything_accepts (objects.I32 z) = refl
-anything_accepts (objects.I64 z) = refl
-anything_accepts (objects.Native z) = refl
-
 accepts_leaf : (shape : ShapeOf ℕ) (object : Obj) → is_asked shape ≡ false → object_fields shape object ≡ None → ⊥
-accepts_leaf shapes.Anything object hidden is = none-some [] (sym is ∙ anything_accepts object)
+accepts_leaf shapes.Anything object hidden is = none-some [] (sym is ∙ any_object object)
 accepts_leaf shape object hidden is = false≢true (sym hidden)
 
 -- a token misses only a type of whose values something is asked

@@ -1,7 +1,7 @@
 -- From tokens that have what their places ask for but at one to the objects of their tree.
 use Rattle.std.proofs.Common.{ℕ, suc, ◌+◌, ◌-◌, ◌<◌, ◌≤◌, ◌≡◌, ◌∙◌, ◌⊎◌, ⊎_elim, inl, inr, List, [], ◌∷◌, ◌++◌, length, Option, Some, None, refl, sym, ap, subst, arith}
 use Rattle.std.specs.Prelude.{slice_get, ℤ}
-use Rattle.std.proofs.lemmas.Bool.{false≢true}
+use Rattle.std.proofs.lemmas.Bool.{false≢true, cases_lt}
 use Rattle.std.proofs.lemmas.List.{append_assoc, append-nil, length-append}
 use Rattle.std.proofs.lemmas.Option.{none-some, same_Some}
 use Rattle.om_model.specs.declared.value.Val.{Val}
@@ -24,7 +24,7 @@ use Rattle.om_misfit_law.proofs.GoodLemmas.{IsGoodBut, leaf_good, block_good}
 use Rattle.om_misfit_law.proofs.MissLemmas.{missed_is_asked}
 use Rattle.om_misfit_law.proofs.PlacedLemmas.{IsHashOf, IsPlacedIf, ArePlaced}
 use Rattle.om_misfit_law.proofs.RealLemmas.{IsReal, IsRealIf, AreReal, block_real}
-use Rattle.om_misfit_law.proofs.UnaskedLemmas.{after_token, before_or_not, kept_at, made_long, made_there}
+use Rattle.om_misfit_law.proofs.UnaskedLemmas.{after_token, kept_at, made_long, made_there}
 
 -- ---- what is told apart
 
@@ -138,7 +138,7 @@ module _ (back : List ℕ) (table : Table) (noted : List (ℕ × ℕ)) (all : Li
   both_good c n k first second o from to = ⊎_elim
       (λ before. first o from before)
       (λ later. second o later (omega (arith, to)))
-      (before_or_not o (c + n))
+      (cases_lt o (c + n))
 
   only_good : (c t : ℕ) (trail : List (ℕ × ℕ)) → IsMadeAt all c t trail → Good c t trail → AreGoodBut c 1
   only_good c t trail at good o from to =

@@ -3,6 +3,7 @@ use Rattle.std.proofs.Common.{ℕ, zero, suc, ◌+◌, ◌<◌, ◌≤◌, ◌�
 use Rattle.std.specs.Prelude.{slice_get, replicate}
 use Rattle.std.proofs.lemmas.List.{append_assoc, append-nil, length-append}
 use Rattle.std.proofs.lemmas.Option.{none-some}
+use Rattle.std.proofs.lemmas.Bool.{cases_lt}
 use Rattle.om_model.proofs.Lists.{slice_get-append_left, slice_get-last}
 use Rattle.om_types.specs.Table.{Table}
 use Rattle.om_format.specs.Words.{of_object, fields}
@@ -23,12 +24,6 @@ unasked_are (atom tag) = refl
 unasked_are (shared offset) = refl
 unasked_are (block tag size) = refl
 unasked_are (leaf object) = ap (λ n. replicate n nothing) (sym (leaf_fields object))
-
-pub before_or_not : (m n : ℕ) → (m < n) ⊎ (n ≤ m)
-before_or_not zero zero = inr (omega arith)
-before_or_not zero (suc n) = inl (omega arith)
-before_or_not (suc m) zero = inr (omega arith)
-before_or_not (suc m) (suc n) = ⊎_elim (λ less. inl (omega (arith, less))) (λ most. inr (omega (arith, most))) (before_or_not m n)
 
 module _ (type : Option ℕ) (trail : List (ℕ × ℕ)) (made : List Made) where
   -- a token makes as many objects as it makes
@@ -97,7 +92,7 @@ module _ (back : List ℕ) (table : Table) (noted : List (ℕ × ℕ)) (all : Li
         untyped = λ o from to. ⊎_elim
             (λ before. (trail, kept_at made' (unasked token ++ places) (forest_tokens f ++ rest) missed o record { type = None; trail = trail } h (made_there None trail made token is o from before)))
             (λ later. r.untyped o (omega (arith, later, long)) (omega (arith, to, long)))
-            (before_or_not o (length made + made_by token));
+            (cases_lt o (length made + made_by token));
         passes = r.passes;
       }
 
@@ -130,7 +125,7 @@ module _ (back : List ℕ) (table : Table) (noted : List (ℕ × ℕ)) (all : Li
           untyped = λ o from to. ⊎_elim
               (λ before. first.untyped o from before)
               (λ after. later.untyped o (omega (arith, after, place)) (omega (arith, to, place)))
-              (before_or_not o (length made + made_of_tree tree));
+              (cases_lt o (length made + made_of_tree tree));
           passes = later.passes;
         }
 

@@ -1,6 +1,6 @@
 -- Each path leads to a value that is held, by the only way that there is, or goes through a hole.
 use Rattle.std.proofs.Common.{ℕ, ◌≡◌, ◌∙◌, ◌⊎◌, ⊎_elim, inl, inr, List, [], ◌∷◌, ◌++◌}
-use Rattle.std.proofs.Common.{Option, Some, None, refl, sym, ap, subst, arith}
+use Rattle.std.proofs.Common.{Some, refl, sym, ap, subst, arith}
 use Rattle.std.specs.Prelude.{Contains, IsSomeAnd, option_map}
 use Rattle.std.proofs.lemmas.Option.{option_and_then_some, same_Some, none-some}
 use Rattle.std.proofs.lemmas.List.{append_assoc, append-nil, length-append}
@@ -8,16 +8,16 @@ use Rattle.om_model.proofs.Options.{IsSomeAnd-some, Contains-cases, Contains-non
 use Rattle.om_model.specs.declared.value.Val.{Val}
 use Rattle.om_model.specs.declared.value.Val.TheVariants as vals
 use Rattle.om_model.specs.declared.value.Obj.{Obj}
-use Rattle.om_types.specs.declared.fault.Fault.{Fault}
-use Rattle.om_types.specs.declared.fault.Fault.TheVariants.{Misfit, Clash}
+use Rattle.om_types.specs.declared.fault.Fault.TheVariants.{Misfit}
 use Rattle.om_types.specs.Shapes.{Shapes}
 use Rattle.om_types.specs.Lawful.{Everything, AreLawful}
 use Rattle.om_types.specs.Typing.{field_at, IsListed, IsHeld}
-use Rattle.om_types.specs.Fault.{IsBefore, IsMisfit, IsFault, type_of_field, step, value_at}
-use Rattle.om_types.specs.LeastFault.{IsToldBefore, IsLeastFault}
-use Rattle.om_types.proofs.FaultLemmas.{named_is_needed}
+use Rattle.om_types.specs.Fault.{IsBefore, IsMisfit, type_of_field, step, value_at}
+use Rattle.om_types.specs.LeastFault.{IsLeastFault}
+use Rattle.om_types.proofs.FaultLemmas.{named_is_needed, paired}
+use Rattle.om_typing.proofs.LeastLemmas.{least_misfit}
 use Rattle.om_typing.proofs.PathLemmas.{value_at-push}
-use Rattle.om_typing.proofs.SearchedLemmas.{never_before_itself}
+use Rattle.om_typing.proofs.SearchedLemmas.{never_before_itself, never_before_root}
 use Rattle.om_misfit_law.specs.OnlyWay.{AreHeldBut, IsNeededOf, path_of, IsWay, IsOnlyWay, HasOnlyWay}
 
 -- a path is not before another where its front is not
@@ -26,34 +26,16 @@ front_not_before front [] path not before = not (subst (λ p. IsBefore p path) (
 front_not_before front (i ∷ more) path not (inl shorter) = not (inl (omega (arith, shorter, length-append front (i ∷ more))))
 front_not_before front (i ∷ more) path not (inr equal) = not (inl (omega (arith, equal.0, length-append front (i ∷ more))))
 
-no_path_before_root : (path : List ℕ) → IsBefore path [] → ⊥
-no_path_before_root [] (inl shorter) = omega arith
-no_path_before_root [] (inr equal) = equal.1
-no_path_before_root (i ∷ path) (inl shorter) = omega arith
-no_path_before_root (i ∷ path) (inr equal) = absurd (omega (arith, equal.0))
-
 module _ {T : Type 0} (shapes : Shapes T) (graph : List Obj) (root : Val) (t : T) where
-  -- a misfit before which no misfit is
-  least_misfit : (path : List ℕ) → IsMisfit shapes graph root t path → ((other : List ℕ) → IsMisfit shapes graph root t other → IsBefore other path → ⊥) → IsLeastFault shapes graph root t (Misfit path)
-  least_misfit path misfit first = record { is_fault = misfit; least = none } where
-    none : (other : Fault) → IsFault shapes graph root t other → IsToldBefore other (Misfit path) → ⊥
-    none (Misfit other) is told = first other is told
-    none (Clash one two) is told = told
-
   pub root_misfit : (shapes.fits graph root t → ⊥) → IsLeastFault shapes graph root t (Misfit [])
-  root_misfit not = least_misfit [] not (λ other is before. no_path_before_root other before)
+  root_misfit not =
+      least_misfit shapes graph root t [] not (λ other is before. never_before_root other before)
 
   -- a trail's path leads to its object
   pub way_leads : (trail : List (ℕ × ℕ)) (o : ℕ) (u : T) → IsWay shapes graph root t trail o u → value_at shapes graph root t (path_of trail) ≡ Some (vals.Ref o, u)
   way_leads [] o u way = cc (way.0, way.1)
   way_leads (link ∷ trail) o u way =
       value_at-push shapes graph (path_of trail) root t link.1 (vals.Ref link.0, way.0) (vals.Ref o, u) (way_leads trail link.0 way.0 way.1) way.2
-
-paired : {T : Type 0} (w : Val) (named : Option T) (next : Val × T) → option_map (λ u. (w, u)) named ≡ Some next → (named ≡ Some next.1) × (w ≡ next.0)
-paired w None next same = absurd (none-some next same)
-paired w (Some u) next same =
-    let pair = same_Some (w, u) next same in
-    (ap (λ p. Some p.1) pair, ap (λ p. p.0) pair)
 
 module _ {T : Type 0} (shapes : Shapes T) (lawful : AreLawful shapes Everything) (graph : List Obj)
     (pairs : List (ℕ × T)) (holes : List (ℕ × ℕ)) (root : Val) (t : T)

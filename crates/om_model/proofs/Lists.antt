@@ -1,9 +1,9 @@
 -- Lists: what stands at a place, what holds of each element, and what a test leaves.
-use Rattle.std.proofs.Common.{ℕ, zero, suc, ◌<◌, ◌≡◌, ◌≢◌, ◌∙◌, ◌⊎◌, ⊎_elim, List, [], ◌∷◌, ◌++◌, length, take, set, get_or, Bool, cond, true, false, Some, refl, sym, ap, subst, arith}
-use Rattle.std.specs.Prelude.{slice_get, filter, Contains}
-use Rattle.std.specs.List.{AllByRecursion, AllZip}
+use Rattle.std.proofs.Common.{ℕ, zero, suc, ◌+◌, ◌<◌, ◌≡◌, ◌≢◌, ◌∙◌, ◌⊎◌, ⊎_elim, inl, inr, List, [], ◌∷◌, ◌++◌, length, take, set, get_or, Bool, cond, true, false, Some, refl, sym, ap, subst, arith}
+use Rattle.std.specs.Prelude.{slice_get, slice_index, map, filter, replicate, Contains}
+use Rattle.std.specs.List.{AllByRecursion, AllZip, find}
 use Rattle.std.proofs.Math.Seq.{take-length}
-use Rattle.std.proofs.lemmas.Option.{none-some, slice_get-get_or}
+use Rattle.std.proofs.lemmas.Option.{none-some, same_Some, slice_get-get_or}
 use Rattle.om_model.proofs.Options.{Contains-none, Contains-cases}
 
 -- ---- places
@@ -19,6 +19,39 @@ pub slice_get-last :
     {X : Type 0} (xs : List X) (y : X) → slice_get (xs ++ y ∷ []) (length xs) ≡ Some y
 slice_get-last [] y = refl
 slice_get-last (x ∷ xs) y = slice_get-last xs y
+
+-- what stands behind the first of two lists
+pub slice_get-append_right :
+    {X : Type 0} (xs ys : List X) (i : ℕ) → slice_get (xs ++ ys) (length xs + i) ≡ slice_get ys i
+slice_get-append_right [] ys i = ap (slice_get ys) (omega arith)
+slice_get-append_right (x ∷ xs) ys i =
+    let e : suc (length xs) + i ≡ suc (length xs + i) = omega arith in
+    rw e (slice_get-append_right xs ys i)
+
+-- an element of a list with one more at its end
+pub slice_get-push_cases :
+    {X : Type 0} (xs : List X) (y : X) (k : ℕ) (x : X) → slice_get (xs ++ y ∷ []) k ≡ Some x
+    → (slice_get xs k ≡ Some x) ⊎ ((k ≡ length xs) × (y ≡ x))
+slice_get-push_cases [] y zero x at_k = inr (refl, same_Some y x at_k)
+slice_get-push_cases [] y (suc k) x at_k = absurd (none-some x at_k)
+slice_get-push_cases (z ∷ xs) y zero x at_k = inl at_k
+slice_get-push_cases (z ∷ xs) y (suc k) x at_k = ⊎_elim
+    (λ here. inl here)
+    (λ last. inr (ap suc last.0, last.1))
+    (slice_get-push_cases xs y k x at_k)
+
+-- an element of a list whose elements are all replaced
+pub map-slice_get :
+    {X Y : Type 0} (f : X → Y) (xs : List X) (k : ℕ) (y : Y) → slice_get (map f xs) k ≡ Some y
+    → (x : X) × (slice_get xs k ≡ Some x) × (f x ≡ y)
+map-slice_get f [] k y at_k = absurd (none-some y at_k)
+map-slice_get f (x ∷ xs) zero y at_k = (x, refl, same_Some (f x) y at_k)
+map-slice_get f (x ∷ xs) (suc k) y at_k = map-slice_get f xs k y at_k
+
+pub slice_index-zeros : (n k : ℕ) → slice_index (replicate n 0) k ≡ 0
+slice_index-zeros zero k = refl
+slice_index-zeros (suc n) zero = refl
+slice_index-zeros (suc n) (suc k) = slice_index-zeros n k
 
 -- what is read below the length stands there
 pub slice_get-read :
@@ -90,7 +123,27 @@ AllZip-length R [] (y ∷ ys) all = absurd all
 AllZip-length R (x ∷ xs) [] all = absurd all
 AllZip-length R (x ∷ xs) (y ∷ ys) all = ap suc (AllZip-length R xs ys all.1)
 
+-- one more of each
+pub AllZip-push :
+    {A B : Type 0} (R : A → B → Type 0) (xs : List A) (ys : List B) (x : A) (y : B) → AllZip R xs ys
+    → R x y → AllZip R (xs ++ x ∷ []) (ys ++ y ∷ [])
+AllZip-push R [] [] x y all more = (more, tt)
+AllZip-push R [] (b ∷ ys) x y all more = absurd all
+AllZip-push R (a ∷ xs) [] x y all more = absurd all
+AllZip-push R (a ∷ xs) (b ∷ ys) x y all more = (all.0, AllZip-push R xs ys x y all.1 more)
+
 -- ---- a test
+
+-- what is found passes
+pub found_passes :
+    {X : Type 0} (p : X → Bool) (xs : List X) (x : X) → find p xs ≡ Some x → p x ≡ true
+found_passes p [] x found = absurd (none-some x found)
+found_passes p (y ∷ ys) x found = by_test (found_passes p ys x) (p y) refl found where
+  by_test :
+      (find p ys ≡ Some x → p x ≡ true) → (b : Bool) → p y ≡ b
+      → cond b (Some y) (find p ys) ≡ Some x → p x ≡ true
+  by_test others true is found = ap p (sym (same_Some y x found)) ∙ is
+  by_test others false is found = others found
 
 -- what is of the list and passes is kept
 pub Contains-filter :

@@ -1,13 +1,12 @@
 -- The loop over the lexemes of a type.
 use Rattle.std.proofs.Common.{ℕ, suc, ◌≡◌, ◌≤◌, ◌<◌, ◌⊎◌, ◌∙◌, false, List, [], ◌∷◌, ◌++◌, length, take, Some, None, refl, ap, subst}
 use Rattle.om_lex.specs.declared.lexeme.LexemeKind.{LexemeKind}
-use Rattle.om_grammar.specs.Grammar.{Kinds, Texpr, single, starred, texpr}
+use Rattle.om_grammar.specs.Grammar.{Kinds, texpr}
 use Rattle.om_grammar.specs.Depths.{texpr_ends}
 use Rattle.om_grammar.specs.Refusals.{opened, IsTooDeep, IsRefusedAsSyntax}
 use Rattle.om_grammar.specs.Holes.{whole, first_part, next_part, alone, read, step, outside}
 use Rattle.om_grammar.specs.Alone.{End, end, Nowhere, TypeState, types, type_accepted}
-use Rattle.om_grammar.proofs.HolesLead.{type_read}
-use Rattle.om_grammar.proofs.AloneTable.{type_table}
+use Rattle.om_grammar.proofs.AloneTable.{type_table, accepts}
 use Rattle.om_grammar.proofs.ReachedLemmas.{Reached, Moved, reached_first, refused_syntax, refused_end, read_whole, refused_deep, reached_next}
 use Rattle.om_types.specs.Nodes.{type_of, AreOrdered}
 use Rattle.om_types.proofs.NodeLemmas.{AreOrdered-none}
@@ -72,10 +71,6 @@ none_accepted (read (alone q) a) h = absurd (cc)
 none_accepted (outside q) h = absurd (cc)
 none_accepted s h = refl
 
-all_accepted : (t : Texpr) → type_accepted (type_read (whole end) t) ≡ Some t
-all_accepted (single a) = refl
-all_accepted (starred t a) = refl
-
 module _ {lexemes : Kinds} {ns : List Node} {fs : List Frame} {phase : Phase} {count place : ℕ}
     (here : TypeReached lexemes ns fs phase count place) where
   pub type_end_refused : length lexemes ≤ place → whole_code ns fs phase ≡ None →
@@ -95,7 +90,7 @@ module _ {lexemes : Kinds} {ns : List Node} {fs : List Frame} {phase : Phase} {c
       (λ s shown.
       let w = subst (Ends bottom s) e (whole_ends bottom s ns fs phase shown.ordered
       shown.shown) in
-      (w.type, ap type_accepted w.state_is ∙ all_accepted w.type, w.type_is)) in
+      (w.type, ap type_accepted w.state_is ∙ accepts w.type, w.type_is)) in
       record { tree = found.0; reads = found.1; stands = found.2 }
 
   module _ (kind : LexemeKind) (h : place < length lexemes) (e : take (suc place) lexemes

@@ -79,7 +79,7 @@ module _ (table : Table) (stated : ℕ) (old new : State) (need : Need) (piece :
 -- ---- customs
 
 -- a number of a `Nativeint` has bytes
-known_data : (kind : CustomKind) (size b : ℕ) → 5 ≤ size → size ≡ 3 + custom_bytes (Some kind) b → IsKnownData (Some kind) b
+pub known_data : (kind : CustomKind) (size b : ℕ) → 5 ≤ size → size ≡ 3 + custom_bytes (Some kind) b → IsKnownData (Some kind) b
 known_data customs.Int32 size b some whole = tt
 known_data customs.Int64 size b some whole = tt
 known_data customs.Native size b some whole = omega (arith, some, whole)

@@ -20,11 +20,11 @@ use Rattle.om_pass_law.proofs.BlockLemmas.{fields_many, asked_good}
 
 -- ---- leaves
 
-nothing_needed : (test : Bool) (i a : ℕ) → Contains (or_none (none_if {T = ℕ} test)) (i, a) → ⊥
+pub nothing_needed : (test : Bool) (i a : ℕ) → Contains (or_none (none_if {T = ℕ} test)) (i, a) → ⊥
 nothing_needed true i a needed = Contains-none (i, a) needed
 nothing_needed false i a needed = Contains-none (i, a) needed
 
-leaf_needs : (shape : ShapeOf ℕ) (object : Obj) (i a : ℕ) → IsLeaf object → Contains (or_none (object_fields shape object)) (i, a) → ⊥
+pub leaf_needs : (shape : ShapeOf ℕ) (object : Obj) (i a : ℕ) → IsLeaf object → Contains (or_none (object_fields shape object)) (i, a) → ⊥
 leaf_needs shape (objects.Block tag values) i a is needed = is
 leaf_needs shape (objects.Bytes bytes) i a is needed = nothing_needed (is_bytes shape) i a needed
 leaf_needs shape (objects.Double bits) i a is needed = nothing_needed (is_double shape) i a needed

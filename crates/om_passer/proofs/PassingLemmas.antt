@@ -9,6 +9,7 @@ use Rattle.om_stops.specs.declared.stop.Halt.{Halt}
 use Rattle.om_stops.specs.declared.stop.Halt.TheVariants as halts
 use Rattle.om_promises.specs.Account.{HoldNoStop}
 use Rattle.om_promises.specs.Commands.{Item, text as text_item, Commands, SaysFirst}
+use Rattle.om_promises.proofs.LengthLemmas.{front_byte}
 use Rattle.om_promises.proofs.PutLemmas.{puts_nothing}
 use Rattle.om_passing.specs.Skipping.{Passed, passed_said, bytes_said, skipping}
 use Rattle.om_passing.proofs.PassedLemmas.{drop_first, byte_items, bytes_well, bytes_said_more, byte_count, join_cut, join_say, within_cut, within_say, within_more, goes_on_after, goes_on_within}
@@ -16,12 +17,6 @@ use Rattle.om_passing.proofs.SkippingLemmas.{byte_stays}
 use Rattle.om_passing.proofs.TableLemmas.{all_well_append}
 use Rattle.om_work.specs.Works.{Has, ItemsStay, HaltsIn, FinishesIn, Halts, Feeds, PutsLast, EndsAt}
 use Rattle.om_passer.specs.Passing.{HasPassed}
-
--- bytes begin with their first
-pub front_byte : (bytes : List ℕ) → 0 < length bytes
-    → (more : List ℕ) × (bytes ≡ get_or bytes 0 0 ∷ more) × (take 1 bytes ≡ get_or bytes 0 0 ∷ [])
-front_byte [] some = absurd (omega (arith, some))
-front_byte (b ∷ more) some = (more, refl, refl)
 
 module _ {A : Type 0} (passed_by : Request → Passed) (c : Commands A) (p : Passed) (a : A) where
   abbrev after : Commands (Passed × A)

@@ -74,7 +74,7 @@ is_feed b = eqb b 10
 abbrev pub first_len : List ℕ → ℕ
 first_len text = position_or_len is_feed text
 
-last_line : (text : List ℕ) → first_len text ≡ length text → lines_of text ≡ text ∷ []
+pub last_line : (text : List ℕ) → first_len text ≡ length text → lines_of text ≡ text ∷ []
 last_line text e =
     slice_split_none is_feed text
     (All-from_get_or (λ b. is_feed b ≡ false) text 0 (λ k h. fails_before_first is_feed text k 0 (subst (λ n. k < n) (sym e) h)))

@@ -1,5 +1,5 @@
 -- Texts that are made of words and brackets are regular.
-use Rattle.std.proofs.Common.{◌≡◌, ◌⊎◌, ℕ, Bool, true, false, ◌&&◌, ◌==◌, List, [], ◌∷◌, ◌++◌, refl, ap, sym, subst, ◌∙◌, ⊎_elim}
+use Rattle.std.proofs.Common.{◌≡◌, ◌⊎◌, ℕ, true, false, ◌&&◌, ◌==◌, List, [], ◌∷◌, ◌++◌, refl, ap, sym, subst, ◌∙◌, ⊎_elim}
 use Rattle.std.specs.Prelude.{codes}
 use Rattle.std.proofs.lemmas.Bool.{and_from, not_from_false}
 use Rattle.std.proofs.lemmas.List.{append-nil, append_assoc}
@@ -28,9 +28,6 @@ to_goes : (to : Site) (rest : List ℕ) → (to ≡ sites.Outside) ⊎ (to ≡ s
 to_goes to rest is may =
     ⊎_elim (λ e. ap (λ s. is_regular s rest) e ∙ may.1) (λ e. ap (λ s. is_regular s rest) e ∙ name_goes rest may) is
 
-both : (x y : Bool) → x ≡ true → y ≡ true → (x && y) ≡ true
-both x y h k = and_from x y h k
-
 named : (b : ℕ) (bytes opening text : List ℕ) → (b == 32) ≡ false → Leads sites.Outside (b ∷ bytes) sites.Name → is_regular sites.Name (opening ++ text) ≡ true → MayBegin (b ∷ bytes ++ opening ++ text)
 named b bytes opening text no_blank leads regular =
     subst MayBegin (sym (append_assoc (b ∷ bytes) opening text))
@@ -43,17 +40,17 @@ parts_are_regular_lem = record {
       (not_from_false (b == 32) no_blank, led (b ∷ bytes) sites.Outside to rest leads ∙ to_goes to rest end may);
   behind_word = λ b bytes text no_blank leads may.
       (not_from_false (b == 32) no_blank, led (b ∷ bytes) sites.Outside sites.Outside text leads ∙ may.1);
-  paren = λ rest may. (refl, both (goes_on sites.Outside rest) (is_regular sites.Outside rest) may.0 may.1);
-  brace = λ rest may. (refl, both (goes_on sites.Outside rest) (is_regular sites.Outside rest) may.0 may.1);
-  bar = λ rest may. (refl, both (goes_on sites.Outside rest) (is_regular sites.Outside rest) may.0 may.1);
+  paren = λ rest may. (refl, and_from (goes_on sites.Outside rest) (is_regular sites.Outside rest) may.0 may.1);
+  brace = λ rest may. (refl, and_from (goes_on sites.Outside rest) (is_regular sites.Outside rest) may.0 may.1);
+  bar = λ rest may. (refl, and_from (goes_on sites.Outside rest) (is_regular sites.Outside rest) may.0 may.1);
   comma = λ text may. (refl, may.1);
   semicolon = λ text may. (refl, may.1);
-  opens_paren = λ text may. (refl, both (has_no_blank text) (is_regular sites.Outside text) may.0 may.1);
-  opens_brace = λ text may. (refl, both (has_no_blank text) (is_regular sites.Outside text) may.0 may.1);
-  opens_array = λ text may. (refl, both (has_no_blank text) (is_regular sites.Outside text) may.0 may.1);
+  opens_paren = λ text may. (refl, and_from (has_no_blank text) (is_regular sites.Outside text) may.0 may.1);
+  opens_brace = λ text may. (refl, and_from (has_no_blank text) (is_regular sites.Outside text) may.0 may.1);
+  opens_array = λ text may. (refl, and_from (has_no_blank text) (is_regular sites.Outside text) may.0 may.1);
   opens_list = λ text may. (refl, may.1);
   opens_named = λ b bytes text no_blank leads may. (
-    named b bytes (codes "(") text no_blank leads (both (has_no_blank text) (is_regular sites.Outside text) may.0 may.1),
-    named b bytes (codes "{") text no_blank leads (both (has_no_blank text) (is_regular sites.Outside text) may.0 may.1),
+    named b bytes (codes "(") text no_blank leads (and_from (has_no_blank text) (is_regular sites.Outside text) may.0 may.1),
+    named b bytes (codes "{") text no_blank leads (and_from (has_no_blank text) (is_regular sites.Outside text) may.0 may.1),
   );
 }

@@ -1,4 +1,5 @@
 pub mod LengthLemmas
+pub mod LineLemmas
 pub mod StreamLemmas
 pub mod ValueLemmas
 pub mod PutLemmas

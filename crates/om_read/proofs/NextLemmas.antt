@@ -12,7 +12,8 @@ use Rattle.om_format.specs.Step.{Context, first_refusal, token_steps}
 use Rattle.om_format.specs.Front.{with_next, context, IsOpen}
 use Rattle.om_format.proofs.RawLemmas.{raw_measure-take}
 use Rattle.om_format.proofs.NextLemmas.{next_passes}
-use Rattle.om_format.proofs.ReadingLemmas.{concat-push, AllZip-push}
+use Rattle.om_model.proofs.Lists.{AllZip-push}
+use Rattle.om_format.proofs.ReadingLemmas.{concat-push}
 use Rattle.om_format.proofs.SpellTokens.{SpelledThere-passes, sums_of-push}
 use Rattle.om_format.proofs.SpellValues.{raw_measures-spelled, IsToken-spelled}
 use Rattle.om_format.proofs.StandLemmas.{AreBytes-take}

@@ -10,6 +10,7 @@ use Rattle.om_model.specs.declared.value.Val.{Val}
 use Rattle.om_model.specs.declared.value.Val.TheVariants as vals
 use Rattle.om_model.specs.declared.value.Obj.{Obj}
 use Rattle.om_model.specs.declared.value.Obj.TheVariants as objects
+use Rattle.om_model.proofs.Lists.{slice_get-append_right}
 use Rattle.om_types.specs.declared.names.Names.{Names}
 use Rattle.om_types.specs.declared.shape.ShapeOf.{ShapeOf}
 use Rattle.om_types.specs.declared.shape.ShapeOf.TheVariants as shapes
@@ -17,7 +18,7 @@ use Rattle.om_types.specs.Fitting.{fields_of, or_none, none_if, fits_int, fits_a
 use Rattle.om_types.specs.Fault.{field_of, type_of_field}
 use Rattle.om_format.specs.Token.{integer, atom, shared, block, leaf, IsLeaf}
 use Rattle.om_format.specs.Tree.{Tree, Forest, node, none, more, trees_in, IsTree, AreTrees, root, roots, made, made_by, all_made, objects_of, all_objects, ReferBack, AllReferBack}
-use Rattle.om_format.proofs.Counts.{leaf_fields, length-objects_of, length-roots}
+use Rattle.om_format.proofs.Counts.{leaf_fields, length-objects_of, length-roots, made_by_leaf}
 use Rattle.om_show.specs.Pieces.{Text, First, Again, has, firsts, agains}
 use Rattle.om_leaves.specs.Frames.{Frame, before_part, frame_of, int_text, tag_of_values, hidden_text}
 use Rattle.om_show.specs.Shown.{Met, met, led_by, met_within, asked_met, object_met, parts_from}
@@ -42,19 +43,6 @@ use Rattle.om_show.specs.Shown.{shown_text}
 abbrev tail : Forest → Forest
 tail none = none
 tail (more s fs) = fs
-
-get_behind : {X : Type 0} (xs ys : List X) (j : ℕ) → slice_get (xs ++ ys) (length xs + j) ≡ slice_get ys j
-get_behind [] ys j = ap (slice_get ys) (omega arith)
-get_behind (x ∷ xs) ys j = let e : suc (length xs) + j ≡ suc (length xs + j) = omega arith in ap (slice_get (x ∷ (xs ++ ys))) e ∙ get_behind xs ys j
-
-leaf_makes : (object : Obj) → IsLeaf object → made_by (leaf object) ≡ 1
-leaf_makes (objects.Block tag values) is = absurd is
-leaf_makes (objects.Bytes bytes) is = refl
-leaf_makes (objects.Double bits) is = refl
-leaf_makes (objects.Doubles all) is = refl
-leaf_makes (objects.I32 z) is = refl
-leaf_makes (objects.I64 z) is = refl
-leaf_makes (objects.Native z) is = refl
 
 -- ---- a tree whose value is an integer makes nothing
 
@@ -221,7 +209,7 @@ module _ {T : Type 0} (shape : T → ShapeOf T) (names : T → Names) (graph : L
         let many : length found.ts ≡ trees_in fs = found.many ∙ ap length rest_is ∙ length-roots fs d in
         let place : IsPlaced graph (all_objects fs d) d = subst (λ d. IsPlaced graph (all_objects fs d) d) refl (subst (λ k. IsPlaced graph (all_objects fs d) k) (sym e) (subst (λ os. IsPlaced graph os (c + 1)) objects_are parts_placed)) in
         let field : (j : ℕ) (w : Val) → slice_get (roots fs d) j ≡ Some w → field_of graph (vals.Ref c) (length found.skip + j) ≡ Some w =
-        λ j w h. field_is (length found.skip + j) ∙ ap (λ vs. slice_get vs (length found.skip + j)) values_are ∙ get_behind found.skip (roots fs d) j ∙ h in
+        λ j w h. field_is (length found.skip + j) ∙ ap (λ vs. slice_get vs (length found.skip + j)) values_are ∙ slice_get-append_right found.skip (roots fs d) j ∙ h in
         let parts = claim n d (length found.skip) found.ts shown 0 c place trees refers many (omega (arith, one_in)) (omega arith) field (λ j u w type h. part_holds j u w type (field j w h)) in
         let parts' : AreMetBack shape names fs d shown 0 found.ts (parts_from shape names graph (meet n) shown (vals.Ref c) 0 (numbered_from (length found.skip) found.ts) (c ∷ down c)) =
         subst (λ seen. AreMetBack shape names fs d shown 0 found.ts (parts_from shape names graph (meet n) shown (vals.Ref c) 0 (numbered_from (length found.skip) found.ts) seen)) (ap down next) parts in
@@ -268,7 +256,7 @@ module _ {T : Type 0} (shape : T → ShapeOf T) (names : T → Names) (graph : L
     tree_back (node (leaf object) f) zero c t placed is back low fuel holds = absurd (omega arith)
     tree_back (node (leaf object) (more s fs)) (suc n) c t placed is back low fuel holds = absurd (let h = is.1 in let l = leaf_fields object in omega arith)
     tree_back (node (leaf object) none) (suc n) c t placed is back low fuel holds =
-        let one : made_by (leaf object) ≡ 1 = leaf_makes object is.0 in
+        let one : made_by (leaf object) ≡ 1 = made_by_leaf object is.0 in
         let at = placed_here graph object [] c placed in
         let holds' : Holds (vals.Ref c) t = holds in
         let first = leaf_claim object is.0 n c t at holds' in

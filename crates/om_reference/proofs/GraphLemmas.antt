@@ -1,10 +1,11 @@
 -- What tokens build, from the last to the first.
-use Rattle.std.proofs.Common.{ℕ, ◌≡◌, ◌+◌, List, [], ◌∷◌, ◌++◌, length, take, drop, map, refl, sym, ◌∙◌, ap, ap₂, arith, append_assoc, append-nil, take_at}
+use Rattle.std.proofs.Common.{ℕ, ◌≡◌, ◌+◌, List, [], ◌∷◌, ◌++◌, length, take, drop, map, sym, ◌∙◌, ap, ap₂, arith, append_assoc, append-nil, take_at}
 use Rattle.std.proofs.lemmas.List.{drop_at}
 use Rattle.om_model.specs.declared.value.Val.{Val}
 use Rattle.om_model.specs.declared.value.Obj.{Obj}
 use Rattle.om_format.specs.Token.{Token as Spelled}
-use Rattle.om_format.specs.Tree.{Tree, node, Forest, none, more, trees_in, IsTree, AreTrees, tokens, forest_tokens, value_of, root, made_by, made, all_made as forest_made, roots, object_of, objects_of, all_objects}
+use Rattle.om_format.specs.Tree.{Tree, node, Forest, none, more, IsTree, AreTrees, tokens, forest_tokens, value_of, root, made_by, made, all_made as forest_made, roots, object_of, objects_of, all_objects}
+use Rattle.om_format.proofs.Counts.{length-roots}
 use Rattle.om_reference.specs.declared.token.Token.{Token}
 use Rattle.om_reference.specs.Token.{token_of}
 use Rattle.om_reference.specs.Graph.{size_of, all_made}
@@ -18,10 +19,6 @@ values_from (t ∷ ts) c = value_of t c ∷ drop (size_of t) (values_from ts (c 
 abbrev pub objects_from : List Spelled → ℕ → List Obj
 objects_from [] c = []
 objects_from (t ∷ ts) c = object_of t (take (size_of t) (values_from ts (c + made_by t))) ++ objects_from ts (c + made_by t)
-
-length-roots : (forest : Forest) (c : ℕ) → length (roots forest c) ≡ trees_in forest
-length-roots none c = refl
-length-roots (more tree forest) c = omega (arith, length-roots forest (c + made tree))
 
 -- ---- trees
 

@@ -15,9 +15,10 @@ use Rattle.om_types.specs.Ty.{Ty}
 use Rattle.om_types.specs.Head.{head}
 use Rattle.om_types.specs.Shape.{shape}
 use Rattle.om_types.specs.Equal.{Equal, Holds}
-use Rattle.om_types.specs.Reached.{listed_if, named_in, parts_of, reached_from}
+use Rattle.om_types.specs.Reached.{listed_if, named_in, reached_from}
 use Rattle.om_types.specs.Table.{constr_with, tag_with_parts, with_parts, Table, IsTableOf}
 use Rattle.om_equal.proofs.EqualLemmas.{equal_itself, equal_turned, equal_joined}
+use Rattle.om_equal.proofs.ReachedLemmas.{parts_here, named_here}
 use Rattle.om_equal.proofs.TableLemmas.{slice_get-mapped}
 use Rattle.om_equal.proofs.TyEquality.{types_same_or_not}
 use Rattle.om_rigid.proofs.EqualDecided.{OrNot, holds_or_not, AreEqualPairs, equal_pairs}
@@ -131,9 +132,6 @@ module _ {X : Type 0} where
 
 module _ (decls : List Decl) (types : List Ty)
     (listed : (u a : Ty) → Contains types u → Contains (reached_from decls u) a → Contains types a) where
-  parts : (u a : Ty) → Contains types u → Contains (parts_of (head decls u)) a → Contains types a
-  parts u a among has = listed u a among (Contains-append_right (named_in (shape decls u)) (parts_of (head decls u)) a has)
-
   -- numbers of types
 
   place : Ty → ℕ
@@ -151,12 +149,12 @@ module _ (decls : List Decl) (types : List Ty)
   node_is : (t : Ty) → Contains types t → with_parts (slice_get types) (node_of t) ≡ with_parts Some (shape decls t)
   unfolding node_of
   node_is t among = parts_twice (slice_get types) place Some (shape decls t)
-      (λ a has. place_is a (listed t a among (Contains-append_left (named_in (shape decls t)) (parts_of (head decls t)) a has)))
+      (λ a has. place_is a (named_here decls types listed t a among has))
 
   -- classes of types
 
-  equals : AreEqualPairs decls types parts
-  equals = equal_pairs decls types parts
+  equals : AreEqualPairs decls types (parts_here decls types listed)
+  equals = equal_pairs decls types (parts_here decls types listed)
 
   abbrev Same : Ty → Ty → Type 0
   Same t u = Holds equals.pairs t u
@@ -170,7 +168,7 @@ module _ (decls : List Decl) (types : List Ty)
   class_is : (t : Ty) → Contains types t → IsAt (λ w. Same w t) types (class_of t)
   unfolding class_of
   class_is t among = placed (λ w. Same w t) (λ w. holds_or_not equals.pairs w t) types t among
-      (equals.keeps t t among among (equal_itself (head decls) types parts t among))
+      (equals.keeps t t among among (equal_itself (head decls) types (parts_here decls types listed) t among))
 
   one_class : (t u : Ty) → Contains types t → Contains types u → class_of t ≡ class_of u → Equal decls t u
   one_class t u among among' same =

@@ -16,6 +16,7 @@ use Rattle.om_heap.specs.Heap.{key_of, field_at, word_of, IsFieldWord}
 use Rattle.om_heap.proofs.ReadLemmas.{word_of-inj}
 use Rattle.om_fits.proofs.RowLemmas.{is_reference}
 use Rattle.om_model.proofs.Options.{Contains-none}
+use Rattle.om_model.proofs.Lists.{slice_index-zeros}
 use Rattle.om_types.specs.Typing.{IsListed}
 use Rattle.om_scan.specs.declared.notes.First.{First}
 use Rattle.om_scan.specs.declared.notes.Notes.{Notes}
@@ -35,11 +36,6 @@ same_or_not zero (suc n) = inr (λ same. omega (arith, same))
 same_or_not (suc m) zero = inr (λ same. omega (arith, same))
 same_or_not (suc m) (suc n) = ⊎_elim (λ same. inl (ap suc same)) (λ other. inr (λ same. other (omega (arith, same)))) (same_or_not m n)
 
-zeros_zero : (n key : ℕ) → slice_index (replicate n 0) key ≡ 0
-zeros_zero zero key = refl
-zeros_zero (suc n) zero = refl
-zeros_zero (suc n) (suc key) = zeros_zero n key
-
 int_asked : (s : ShapeOf ℕ) (z : ℤ) → (IsSome (none_if {T = ℕ} (fits_int s z)) → ⊥) → IsTrue (is_asked s)
 int_asked shapes.Anything z unfit = absurd (unfit refl)
 int_asked s z unfit = refl
@@ -54,8 +50,8 @@ module _ (table : Table) (graph : List Obj) where
   pub marks_none : (n : ℕ) → ((o : ℕ) → o < length graph → key_of graph o < n) → AreMarks table graph (replicate n 0)
   marks_none n keys = record {
     keyed = λ o inside. subst (λ m. key_of graph o < m) (sym (length-replicate n 0)) (keys o inside);
-    small = λ key. let none = zeros_zero n key in omega (arith, none);
-    paths = λ o t inside marked. let none = zeros_zero n (key_of graph o) in absurd (omega (arith, none, marked));
+    small = λ key. let none = slice_index-zeros n key in omega (arith, none);
+    paths = λ o t inside marked. let none = slice_index-zeros n (key_of graph o) in absurd (omega (arith, none, marked));
   }
 
   pub marks_more :

@@ -37,7 +37,7 @@ same_from_key graph o p valid here there same = ⊎_elim
     others)
     (less_same_more o p)
 
-any_object : (object : Obj) → object_fields {T = ℕ} shapes.Anything object ≡ Some []
+pub any_object : (object : Obj) → object_fields {T = ℕ} shapes.Anything object ≡ Some []
 any_object (objects.Block tag values) = refl
 any_object (objects.Bytes bytes) = refl
 any_object (objects.Double bits) = refl

@@ -1,31 +1,20 @@
 -- Places in lists that grow at the end.
 use Rattle.std.proofs.Common.{ℕ, zero, suc, ◌+◌, ◌<◌, ◌≡◌, ◌⊎◌, inl, inr, ⊎_elim, ◌++◌, List, [], ◌∷◌, length, Some, refl, sym, ap, subst, arith}
-use Rattle.std.specs.Prelude.{slice_get, slice_index, slice_set, map, Contains}
+use Rattle.std.specs.Prelude.{slice_get, slice_index, slice_set, Contains}
 use Rattle.std.proofs.lemmas.Option.{same_Some, none-some}
 use Rattle.om_model.proofs.Options.{Contains-cases, Contains-first, Contains-later, slice_get-Contains}
 use Rattle.om_model.proofs.Lists.{slice_get-append_left, slice_get-last, Contains-place}
+pub use Rattle.om_model.proofs.Lists.{slice_get-push_cases, map-slice_get as mapped_at}
 
 pub slice_get-append_below : {X : Type 0} (xs ys : List X) (k : ℕ) (x : X) → k < length xs → slice_get (xs ++ ys) k ≡ Some x → slice_get xs k ≡ Some x
 slice_get-append_below [] ys k x below at_k = absurd (omega arith)
 slice_get-append_below (y ∷ xs) ys zero x below at_k = at_k
 slice_get-append_below (y ∷ xs) ys (suc k) x below at_k = slice_get-append_below xs ys k x (omega arith) at_k
 
-pub slice_get-push_cases : {X : Type 0} (xs : List X) (y : X) (k : ℕ) (x : X) → slice_get (xs ++ y ∷ []) k ≡ Some x → (slice_get xs k ≡ Some x) ⊎ ((k ≡ length xs) × (y ≡ x))
-slice_get-push_cases [] y zero x at_k = inr (refl, same_Some y x at_k)
-slice_get-push_cases [] y (suc k) x at_k = absurd (none-some x at_k)
-slice_get-push_cases (z ∷ xs) y zero x at_k = inl at_k
-slice_get-push_cases (z ∷ xs) y (suc k) x at_k =
-    ⊎_elim (λ here. inl here) (λ last. inr (ap suc last.0, last.1)) (slice_get-push_cases xs y k x at_k)
-
 pub read_at : (xs : List ℕ) (k x : ℕ) → k < length xs → x ≡ slice_index xs k → slice_get xs k ≡ Some x
 read_at [] k x less is = absurd (omega arith)
 read_at (y ∷ xs) zero x less is = ap Some (sym is)
 read_at (y ∷ xs) (suc k) x less is = read_at xs k x (omega arith) is
-
-pub mapped_at : {X Y : Type 0} (f : X → Y) (xs : List X) (k : ℕ) (y : Y) → slice_get (map f xs) k ≡ Some y → (x : X) × (slice_get xs k ≡ Some x) × (f x ≡ y)
-mapped_at f [] k y at_k = absurd (none-some y at_k)
-mapped_at f (x ∷ xs) zero y at_k = (x, refl, same_Some (f x) y at_k)
-mapped_at f (x ∷ xs) (suc k) y at_k = mapped_at f xs k y at_k
 
 -- what is among the items of a list that grew by one
 pub contains_push : {X : Type 0} (xs : List X) (y x : X) → Contains (xs ++ y ∷ []) x → Contains xs x ⊎ (y ≡ x)

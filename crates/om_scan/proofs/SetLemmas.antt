@@ -2,20 +2,18 @@
 use Rattle.std.proofs.Common.{ℕ, ◌≡◌, ◌∙◌, ◌⊎◌, inl, inr, ⊎_elim, Bool, true, false, cond, refl, sym}
 use Rattle.std.specs.Prelude.{IsTrue}
 use Rattle.std.specs.declared.cmp.Ordering.{Ordering}
-use Rattle.std.specs.declared.cmp.Ordering.TheVariants.{Less, Equal, Greater}
+use Rattle.std.specs.declared.cmp.Ordering.TheVariants.{Equal}
 use Rattle.std.specs.Ordering.{is_eq, nat_cmp}
+use Rattle.std.specs.Cmp.{Equal-is}
 use Rattle.std.specs.BTreeMap.{is_at}
 use Rattle.std.specs.BTreeSet.{BTreeSet, contains, Updates}
-use Rattle.std.proofs.lemmas.Bool.{false≢true}
 use Rattle.std.proofs.lemmas.Map.Lookups.{exact_pairs, exact_unsigned}
 use Rattle.om_scan.specs.Seconds.{pair_cmp}
 
-equal_from : (o : Ordering) → is_eq o ≡ true → o ≡ Equal
-equal_from Less is = absurd (false≢true is)
-equal_from Equal is = refl
-equal_from Greater is = absurd (false≢true is)
+pub equal_from : (o : Ordering) → is_eq o ≡ true → o ≡ Equal
+equal_from o is = (Equal-is o).0 is
 
-same_pair : (k q : ℕ × ℕ) → is_at (pair_cmp k) q ≡ true → k ≡ q
+pub same_pair : (k q : ℕ × ℕ) → is_at (pair_cmp k) q ≡ true → k ≡ q
 same_pair k q is = exact_pairs nat_cmp nat_cmp exact_unsigned exact_unsigned k q (equal_from (pair_cmp k q) is)
 
 pub cond_true : (test other : Bool) → cond test true other ≡ true → (test ≡ true) ⊎ (other ≡ true)

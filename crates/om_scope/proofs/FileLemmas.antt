@@ -1,5 +1,5 @@
 -- What breaks a rule in what the code knows of a file breaks it in the file, and the other way.
-use Rattle.std.proofs.Common.{ℕ, zero, suc, ◌<◌, ◌≤◌, ◌≡◌, ◌≢◌, ◌⊎◌, ⊎_elim, inl, inr, List, [], ◌∷◌}
+use Rattle.std.proofs.Common.{ℕ, ◌<◌, ◌≤◌, ◌≡◌, ◌≢◌, ◌⊎◌, ⊎_elim, inl, inr, List, [], ◌∷◌}
 use Rattle.std.proofs.Common.{Option, Some, None, Bool, true, false, cond, length, refl, sym, ap, subst, arith, ◌∙◌}
 use Rattle.std.specs.Prelude.{slice_get, Contains, ◌↔◌, map, option_map}
 use Rattle.std.specs.List.{filter_map}
@@ -9,6 +9,7 @@ use Rattle.std.proofs.lemmas.Option.{slice_get-get_or}
 use Rattle.std.specs.Str.{bytes_eq}
 use Rattle.std.proofs.lemmas.Slice.Eq.{bytes_eq-Decides}
 use Rattle.om_model.proofs.Options.{Contains-first, Contains-later, slice_get-Contains, slice_get_there}
+use Rattle.om_model.proofs.Lists.{map-slice_get}
 use Rattle.om_types.specs.declared.decl.Decl.{Decl}
 use Rattle.om_types.specs.Ty.{Ty}
 use Rattle.om_types.specs.Accepted.{IsVariable}
@@ -84,13 +85,6 @@ uses_break decls uses occurrences are rule Breaks group same k = (
 
 -- ---- the declaration of a name
 
-pub map_at :
-    {X Y : Type 0} (f : X → Y) (xs : List X) (i : ℕ) (y : Y) → slice_get (map f xs) i ≡ Some y
-    → (x : X) × (slice_get xs i ≡ Some x) × (f x ≡ y)
-map_at f [] i y at = absurd (none-some y at)
-map_at f (x ∷ xs) zero y at = (x, refl, same_Some (f x) y at)
-map_at f (x ∷ xs) (suc i) y at = map_at f xs i y at
-
 -- a name that is found is that of a declaration of the file
 found_in :
     (all : List DeclPlaces) (name : List ℕ) (x : Decl)
@@ -146,8 +140,8 @@ pub not_earlier :
     (e : DeclPlaces) → slice_get all j ≡ Some e → e.decl.name ≡ name → (i : ℕ) → i < j
     → slice_get (names_of_decls (decls_of all)) i ≢ Some name
 not_earlier all distinct name j e at named i before same =
-    let decl = map_at (λ (d : Decl). d.name) (decls_of all) i name same in
-    let f = map_at (λ (x : DeclPlaces). x.decl) all i decl.0 decl.1 in
+    let decl = map-slice_get (λ (d : Decl). d.name) (decls_of all) i name same in
+    let f = map-slice_get (λ (x : DeclPlaces). x.decl) all i decl.0 decl.1 in
     distinct e.place (inl (record {
       earlier = i;
       later = j;
@@ -258,7 +252,7 @@ module _ (all : List DeclPlaces) (rule : NameRule) (none : rule ≢ names.Cyclic
       → SitesBreak rule (decls_of all) sites k
       ↔ ((d : DeclPlaces) × Contains all d × BreaksInDecl all d (rule_of rule) k)
   sites_break sites counted stand k = (
-    λ some. let e = map_at (λ (x : DeclPlaces). x.decl) all some.0 some.2.0 some.2.2 in (
+    λ some. let e = map-slice_get (λ (x : DeclPlaces). x.decl) all some.0 some.2.0 some.2.2 in (
       e.0,
       slice_get-Contains all some.0 e.0 e.1,
       (site_breaks all e.0 some.2.1 (stand some.0 some.2.1 e.0 some.2.3 e.1) rule none distinct k).0

@@ -1,5 +1,5 @@
 -- What a call with bytes in hand does: a front is held behind it, or the lines of a stretch are put.
-use Rattle.std.proofs.Common.{◌≡◌, ℕ, Bool, true, false, refl, List, [], ◌∷◌, ◌++◌, take, Option, Ok, sym, subst, append-nil, arith}
+use Rattle.std.proofs.Common.{◌≡◌, ℕ, true, false, List, [], ◌∷◌, ◌++◌, take, Option, Ok, sym, subst, append-nil, arith}
 use Rattle.std.specs.Prelude.{not, Err}
 use Rattle.om_read.specs.declared.reader.Reader.{Reader}
 use Rattle.om_edge.specs.Sink.{Puts}
@@ -13,14 +13,6 @@ use Rattle.om_searching.specs.Searching.{searching}
 use Rattle.om_searcher.specs.declared.last.Taken.{Taken}
 use Rattle.om_searcher.specs.Searched.{HasSearched, HasStretch, HasTaken, PutsNext}
 use Rattle.om_searcher.proofs.SearchLemmas.{same_limit}
-
-pub is_true : (b : Bool) → not b ≡ false → b ≡ true
-is_true true e = refl
-is_true false e = let never : true ≡ false = e in cc never
-
-pub is_false : (b : Bool) → not b ≡ true → b ≡ false
-is_false true e = let never : false ≡ true = e in cc never
-is_false false e = refl
 
 module _ (limit_by : Request → Option ℕ) (limit : ℕ) (held : List ℕ) (reader : Reader) (at : ℕ)
     (in_hand : List ℕ) (t : Taken) where

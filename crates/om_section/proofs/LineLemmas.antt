@@ -17,13 +17,13 @@ AllNumbers pairs = All (λ (pair : ℕ × ℕ). IsNumber pair.0 × IsNumber pair
 abbrev Lines : Type 0
 Lines = List (List ℕ)
 
-nil_is_no_cons : {A : Type 0} (x : A) (xs : List A) → [] ≡ x ∷ xs → ⊥
+pub nil_is_no_cons : {A : Type 0} (x : A) (xs : List A) → [] ≡ x ∷ xs → ⊥
 nil_is_no_cons x xs is = cc
 
-first_is : {A : Type 0} (x y : A) (xs ys : List A) → x ∷ xs ≡ y ∷ ys → x ≡ y
+pub first_is : {A : Type 0} (x y : A) (xs ys : List A) → x ∷ xs ≡ y ∷ ys → x ≡ y
 first_is x y xs ys is = cc
 
-rest_is : {A : Type 0} (x y : A) (xs ys : List A) → x ∷ xs ≡ y ∷ ys → xs ≡ ys
+pub rest_is : {A : Type 0} (x y : A) (xs ys : List A) → x ∷ xs ≡ y ∷ ys → xs ≡ ys
 rest_is x y xs ys is = cc
 
 both_are : {A : Type 0} (x y : A) (xs ys : List A) → x ≡ y → xs ≡ ys → x ∷ xs ≡ y ∷ ys

@@ -16,20 +16,11 @@ use Rattle.om_section.specs.Reading.{BeginsAt, IsCut, AreNumbers, IsPairLine, Is
 use Rattle.om_section.specs.Runs.{HasMorePairs, HasReadMore}
 use Rattle.om_section.proofs.SectionLemmas.{increasing_push}
 use Rattle.om_section.proofs.TextLemmas.{pair_is_one, AreAlike, verdicts_are_alike, head_tells_verdict}
-use Rattle.om_section.proofs.LineLemmas.{HasPair, pairs_go_on, pairs_have_end, Begin, begin_with, lines_from-push}
+use Rattle.om_section.proofs.LineLemmas.{nil_is_no_cons, first_is, rest_is, HasPair, pairs_go_on, pairs_have_end, Begin, begin_with, lines_from-push}
 use Rattle.om_section.proofs.FaultLemmas.{fault_at_line, fault_behind}
 
 abbrev Lines : Type 0
 Lines = List (List ℕ)
-
-nil_is_no_cons : {A : Type 0} (x : A) (xs : List A) → [] ≡ x ∷ xs → ⊥
-nil_is_no_cons x xs is = cc
-
-first_is : {A : Type 0} (x y : A) (xs ys : List A) → x ∷ xs ≡ y ∷ ys → x ≡ y
-first_is x y xs ys is = cc
-
-rest_is : {A : Type 0} (x y : A) (xs ys : List A) → x ∷ xs ≡ y ∷ ys → xs ≡ ys
-rest_is x y xs ys is = cc
 
 -- ---- pairs
 

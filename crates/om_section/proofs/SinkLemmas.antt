@@ -1,60 +1,16 @@
 -- A text that goes to a sink through a buffer.
-use Rattle.std.proofs.Common.{ℕ, suc, ◌≡◌, ◌+◌, ◌≤◌, ◌∙◌, true, false, List, [], ◌∷◌, ◌++◌, length, take, drop, Option, Some, None, Result, Ok, Err, sym, ap, subst, arith, append_assoc, append-nil, length-append}
-use Rattle.std.specs.Prelude.{IfSome, IsErr, map, codes, slice_get}
-use Rattle.std.proofs.lemmas.List.{take-append-le, take-append-drop, take_more, map-append}
+use Rattle.std.proofs.Common.{ℕ, ◌≡◌, ◌+◌, ◌∙◌, List, [], ◌∷◌, ◌++◌, take, drop, Some, Result, Ok, Err, sym, ap, subst, append_assoc, append-nil}
+use Rattle.std.specs.Prelude.{IsErr, map, codes, slice_get}
+use Rattle.std.proofs.lemmas.List.{take-append-drop, take_more, map-append}
 use Rattle.std.proofs.lemmas.Option.{slice_get_within, get_or_from_slice_get}
 use Rattle.std.proofs.lemmas.Result.{MatchResult-from_err}
 use Rattle.std.proofs.lemmas.List.Concat.{flat_map-append}
 use Rattle.om_edge.specs.State.{ByteState, change}
-use Rattle.om_edge.specs.Faults.{HasCause}
-use Rattle.om_edge.specs.Sink.{Puts, PutsPart, AppendsPart}
+use Rattle.om_edge.specs.Sink.{Puts, PutsPart}
+use Rattle.om_edge.proofs.PutsLemmas.{puts_puts, puts_part, part_more}
 use Rattle.om_section.specs.Format.{pair_line, text_of, head_line, pair_lines, section_text}
 use Rattle.om_section.specs.declared.section.Section.{Section}
 use Rattle.om_section.specs.Putting.{Leaves, PutsFront, PutsAll}
-
--- ---- puts one after another
-
-appended_twice : (x y z : Option (List ℕ)) (p q : List ℕ) → IfSome x (λ b. y ≡ Some (b ++ p)) → IfSome y (λ b. z ≡ Some (b ++ q)) → IfSome x (λ b. z ≡ Some (b ++ (p ++ q)))
-appended_twice None y z p q first second = tt
-appended_twice (Some b) y z p q first second =
-    let r : z ≡ Some ((b ++ p) ++ q) = subst (λ o. IfSome o (λ b. z ≡ Some (b ++ q))) first second in
-    r ∙ ap Some (append_assoc b p q)
-
-take_over : (p q : List ℕ) (n : ℕ) → take (length p + n) (p ++ q) ≡ p ++ take n q
-take_over [] q n = ap (λ m. take m q) (omega arith)
-take_over (x ∷ p) q n = let place : suc (length p) + n ≡ suc (length p + n) = omega arith in rw place (ap (λ t. x ∷ t) (take_over p q n))
-
-part_after : (x y z : Option (List ℕ)) (p q : List ℕ) → IfSome x (λ b. y ≡ Some (b ++ p)) → IfSome y (λ b. AppendsPart b q z) → IfSome x (λ b. AppendsPart b (p ++ q) z)
-part_after None y z p q first second = tt
-part_after (Some b) y z p q first second =
-    let r : AppendsPart (b ++ p) q z = subst (λ o. IfSome o (λ b. AppendsPart b q z)) first second in
-    let front : take (length p + r.0) (p ++ q) ≡ p ++ take r.0 q = take_over p q r.0 in
-    (length p + r.0, omega (arith, length-append p q, r.1), r.2 ∙ ap Some (append_assoc b p (take r.0 q) ∙ ap (λ t. b ++ t) (sym front)))
-
-part_longer : (x z : Option (List ℕ)) (p q : List ℕ) → IfSome x (λ b. AppendsPart b p z) → IfSome x (λ b. AppendsPart b (p ++ q) z)
-part_longer None z p q part = tt
-part_longer (Some b) z p q part =
-    let few : part.0 ≤ length p = omega (arith, part.1) in
-    let front : take part.0 (p ++ q) ≡ take part.0 p = take-append-le part.0 p q few in
-    (part.0, omega (arith, length-append p q, part.1), part.2 ∙ ap (λ t. Some (b ++ t)) (sym front))
-
-pub puts_puts : (a b c : ByteState) (p q : List ℕ) → Puts (change a b) p → Puts (change b c) q → Puts (change a c) (p ++ q)
-puts_puts a b c p q first second = record {
-  appended = appended_twice a.bytes b.bytes c.bytes p q first.appended second.appended;
-  told = second.told ∙ first.told;
-  cause = subst (λ n. HasCause n c.faults false) first.cause.kept second.cause;
-}
-
-puts_part : (a b c : ByteState) (p q : List ℕ) → Puts (change a b) p → PutsPart (change b c) q → PutsPart (change a c) (p ++ q)
-puts_part a b c p q first second = record {
-  appended = part_after a.bytes b.bytes c.bytes p q first.appended second.appended;
-  told = second.told ∙ first.told;
-  cause = subst (λ n. HasCause n c.faults true) first.cause.kept second.cause;
-}
-
--- a part of a text is a part of each longer one
-pub part_more : (a c : ByteState) (p q : List ℕ) → PutsPart (change a c) p → PutsPart (change a c) (p ++ q)
-part_more a c p q part = record { appended = part_longer a.bytes c.bytes p q part.appended; told = part.told; cause = part.cause }
 
 -- ---- what a buffer has
 

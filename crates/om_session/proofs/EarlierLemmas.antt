@@ -1,20 +1,19 @@
 -- The earlier values that are kept, as the lines make one more.
-use Rattle.std.proofs.Common.{◌≡◌, ◌∙◌, ◌⊎◌, inl, inr, ⊎_elim, ℕ, zero, suc, ◌+◌, ◌<◌, ◌≤◌, Bool, true, false, cond, ltb, eqb, List, [], ◌∷◌, ◌++◌, length, map, set, get_or, Option, None, Some, Result, Ok, Err, is_some, refl, sym, ap, subst, length-append, eqb-true, eq-eqb, ne_eqb, lt-ltb, le-ltb, arith}
-use Rattle.std.proofs.Math.Seq.{get_or-append_seam}
+use Rattle.std.proofs.Common.{◌≡◌, ◌∙◌, ◌⊎◌, inl, inr, ⊎_elim, ℕ, zero, suc, ◌+◌, ◌<◌, ◌≤◌, Bool, true, false, ltb, eqb, List, [], ◌∷◌, ◌++◌, length, map, set, get_or, Option, None, Some, Result, Ok, Err, is_some, refl, sym, ap, subst, length-append, eqb-true, eq-eqb, ne_eqb, lt-ltb, le-ltb, arith}
 use Rattle.std.proofs.lemmas.Bool.{ltb-true, ltb-false, eqb-false, cases_lt}
 use Rattle.std.proofs.lemmas.List.{get_or_append_left, get_or_default, get_or-map, length-map, with_items_is}
 use Rattle.std.proofs.lemmas.List.Elements.{All-cons, All-filter, All-map, All-nil, All-push, filter_passes}
 use Rattle.std.proofs.lemmas.List.Folds.{map_fixed}
 use Rattle.std.proofs.lemmas.List.Quantifiers.{Any-push, all_pairs_push}
-use Rattle.std.proofs.lemmas.Option.{slice_get_within, slice_get-get_or, get_or_from_slice_get}
 use Rattle.std.specs.List.{Contains}
 use Rattle.std.specs.List.Sorted.{IsNonDecreasingBy, IsPartitionPoint}
-use Rattle.std.specs.Prelude.{All, Any, IfSome, IsSome, MatchOption, filter, nat_eq, nat_lt, slice_get, unwrap_or, is_ok, OnErr, Vec, if◌then◌else◌}
+use Rattle.std.specs.Prelude.{All, Any, IfSome, IsSome, MatchOption, nat_eq, nat_lt, slice_get, unwrap_or, is_ok, OnErr, Vec, if◌then◌else◌}
 use Rattle.std.specs.Vec.{with_items}
 use Rattle.std.specs.declared.alloc.Global.{Global}
 use Rattle.om_model.specs.declared.value.Val.{Val}
 use Rattle.om_model.specs.declared.value.Obj.{Obj}
 use Rattle.om_model.specs.Graph.{IsValue}
+use Rattle.om_model.proofs.Lists.{Contains-filter, slice_get-append_left, slice_get-last}
 use Rattle.om_type_table.specs.declared.tabled.Tabled.{Tabled}
 use Rattle.om_path.specs.ScriptAnswer.{IsInTime, AreInTime}
 use Rattle.om_path.specs.Uses.{CopiesFrom, IsUnused, IsLastUse}
@@ -32,20 +31,6 @@ use Rattle.om_read.specs.declared.value.Value.{Value}
 use Rattle.om_session.specs.declared.earlier.Earlier.{Earlier}
 use Rattle.om_session.specs.Earlier.{IsMade, AreMade, AreInOrder, IsThere, IsServed, AreServed, IsEntry, AreEarlier, IsUsedUpTo, AreNamed, without, after_value, after_copy, after_action, all_after, with_made}
 
--- what is in a list stays where more comes after
-get_before : {A : Type 0} (xs ys : List A) (n : ℕ) (x : A) → slice_get xs n ≡ Some x → slice_get (xs ++ ys) n ≡ Some x
-get_before xs ys n x is =
-    let less : n < length xs = slice_get_within xs n x is in
-    let size = length-append xs ys in
-    let more : n < length (xs ++ ys) = omega (arith, size, less) in
-    slice_get-get_or (xs ++ ys) n x more ∙ ap (λ y. Some y) (get_or_append_left xs ys x n less ∙ get_or_from_slice_get xs n x x is)
-
-get_last : {A : Type 0} (xs : List A) (x : A) → slice_get (xs ++ x ∷ []) (length xs) ≡ Some x
-get_last xs x =
-    let size = length-append xs (x ∷ []) in
-    let more : length xs < length (xs ++ x ∷ []) = omega (arith, size) in
-    slice_get-get_or (xs ++ x ∷ []) (length xs) x more ∙ ap (λ y. Some y) (get_or-append_seam xs x [] x)
-
 -- ---- the values as they were made
 
 module _ (others : List Other) where
@@ -53,7 +38,7 @@ module _ (others : List Other) where
   one_stays made number None is = tt
   one_stays made number (Some value) is = record {
     valid = is.valid;
-    same = get_before others (made ∷ []) number (value.heap, value.root) is.same;
+    same = slice_get-append_left others (made ∷ []) number (value.heap, value.root) is.same;
   }
 
   -- what is kept stays so
@@ -65,7 +50,7 @@ module _ (others : List Other) where
       → IsMade (others ++ (value.heap, value.root) ∷ []) number value
   last_made number value valid is = record {
     valid = valid;
-    same = subst (λ n. slice_get (others ++ (value.heap, value.root) ∷ []) n ≡ Some (value.heap, value.root)) (sym is) (get_last others (value.heap, value.root));
+    same = subst (λ n. slice_get (others ++ (value.heap, value.root) ∷ []) n ≡ Some (value.heap, value.root)) (sym is) (slice_get-last others (value.heap, value.root));
   }
 
   abbrev IsMadeEntry : Earlier → Type 0
@@ -305,16 +290,6 @@ not_kept kept made used = at (nat_lt made.number made.last) refl where
 
 -- ---- those that are needed
 
--- what passes the test stays
-stays : {X : Type 0} (p : X → Bool) (xs : List X) (x : X) → Contains xs x → p x ≡ true → Contains (filter p xs) x
-stays p [] x (k, within, at) passes = absurd (omega (arith, within))
-stays p (y ∷ ys) x (zero, within, at) passes =
-    subst (λ z. Contains (filter p (z ∷ ys)) x) (sym at) (subst (λ b. Contains (cond b (x ∷ filter p ys) (filter p ys)) x) (sym passes) (0, omega arith, refl))
-stays p (y ∷ ys) x (suc k, within, at) passes = by (p y) (stays p ys x (k, omega (arith, within), at) passes) where
-  by : (b : Bool) → Contains (filter p ys) x → Contains (cond b (y ∷ filter p ys) (filter p ys)) x
-  by true (i, inside, is) = (suc i, omega (arith, inside), is)
-  by false rest = rest
-
 -- no value is needed before there is one
 pub none_needed : (lines : List ScriptLine) → AreEarlier lines 0 []
 none_needed lines = record {
@@ -420,7 +395,7 @@ module _ (lines : List ScriptLine) (n : ℕ) (kept : List Earlier) (are : AreEar
   -- a line of the next value copies from each that is let go then
   named_now : (number last : ℕ) → last ≡ n → Any (λ (line : ScriptLine). CopiesFrom number line.action × (line.value ≡ last)) lines → Any (λ (line : ScriptLine). CopiesFrom number line.action) (lines_of_value n lines)
   named_now number last is (k, line, within, at, (copies, value)) =
-      let own : Contains (lines_of_value n lines) line = stays (λ (line : ScriptLine). eqb line.value n) lines line (k, within, at) (eq-eqb line.value n (value ∙ is)) in
+      let own : Contains (lines_of_value n lines) line = Contains-filter (λ (line : ScriptLine). eqb line.value n) lines line (k, within, at) (eq-eqb line.value n (value ∙ is)) in
       (own.0, line, own.1, own.2, copies)
 
   pub all_named : AreNamed n (lines_of_value n lines) kept

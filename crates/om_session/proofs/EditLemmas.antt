@@ -1,6 +1,6 @@
 -- Values that are edited: the type, the lines, and the bytes.
-use Rattle.std.proofs.Common.{◌≡◌, ◌∙◌, ◌==◌, ◌≢◌, ◌<◌, ℕ, Bool, true, false, cond, List, [], ◌∷◌, length, Option, None, Some, Result, Ok, Err, inl, inr, refl, sym, ap, subst, lt-ltb, eq-eqb}
-use Rattle.std.specs.Prelude.{filter, IsErrAnd, OnOk, option_map, nat_lt, if◌then◌else◌, codes}
+use Rattle.std.proofs.Common.{◌≡◌, ◌∙◌, ◌==◌, ◌≢◌, ℕ, Bool, true, false, cond, List, [], ◌∷◌, length, Option, None, Some, Result, Ok, Err, inl, inr, refl, sym, ap, subst, eq-eqb}
+use Rattle.std.specs.Prelude.{filter, IsErrAnd, OnOk, option_map, if◌then◌else◌, codes}
 use Rattle.om_model.specs.declared.value.Val.{Val}
 use Rattle.om_model.specs.declared.value.Obj.{Obj}
 use Rattle.om_model.specs.Graph.{IsValue}
@@ -189,9 +189,6 @@ made_where_put (Ok unit) made = made
 made_where_put (Err halt) made = tt
 
 -- ---- the end
-
-is_below : (a b : ℕ) → a < b → nat_lt a b ≡ true
-is_below a b less = lt-ltb a b less
 
 module _ (e : Edits) (trees : List Tree) (well : Bool) (n : ℕ) (counted : n ≡ length trees) (lines : List ScriptLine) (are : lines ≡ e.script.now.lines) where
   past_is : (number : Option ℕ) → IsPast lines n number → number ≡ option_map (λ line. line.number) (line_past declared_types e.script.now.lines (length trees))

@@ -1,6 +1,7 @@
 -- What looks at the bytes in hand show is said of the next value.
-use Rattle.std.proofs.Common.{◌≡◌, ℕ, Bool, true, false, suc, ◌+◌, ◌^◌, ◌<◌, List, [], ◌∷◌, ◌++◌, length, take, drop, Option, None, Some, Ok, Err, inl, inr, refl, sym, ap, ◌∙◌, subst, append_assoc, append-nil, length-append, arith}
+use Rattle.std.proofs.Common.{◌≡◌, ℕ, Bool, true, false, ◌+◌, ◌^◌, ◌<◌, List, [], ◌∷◌, ◌++◌, length, take, drop, Option, None, Some, Ok, Err, inl, inr, refl, sym, ap, ◌∙◌, subst, append_assoc, append-nil, length-append, arith}
 use Rattle.std.proofs.lemmas.List.{take-append-drop}
+use Rattle.std.proofs.Math.Seq.{take-append-add}
 use Rattle.std.specs.Prelude.{codes, ◌&&◌, Result}
 use Rattle.std.specs.Borrow.{Bor}
 use Rattle.om_edge.specs.Sink.{PutsPart}
@@ -115,12 +116,6 @@ no_next r limit old piece new after n it found took text says kept glance =
 
 -- ---- a value of which bytes were kept, and the first n in hand are the others
 
-take_kept : (kept rest : List ℕ) (n : ℕ) → take (length kept + n) (kept ++ rest) ≡ kept ++ take n rest
-take_kept [] rest n = let none : 0 + n ≡ n = omega arith in ap (λ k. take k rest) none
-take_kept (b ∷ kept) rest n =
-    let more : suc (length kept) + n ≡ suc (length kept + n) = omega arith in
-    ap (λ k. take k (b ∷ (kept ++ rest))) more ∙ ap (λ bytes. b ∷ bytes) (take_kept kept rest n)
-
 -- where the reader is between values nothing of the next one was taken
 pub nothing_taken : (w : Job) (taken : List ℕ) (said : List Said) (values : Values) (h : HasRead w values taken said) → IsBetween values → h.front ≡ []
 nothing_taken w taken said values h between = at (between (word_limit w) h.front h.leads) where
@@ -171,7 +166,7 @@ module _ (r : Bor Prepared) (limit : ℕ) (before : List ℕ) (said : List Said)
   value_bytes = kept ++ take n in_hand
 
   spelled_kept : SpelledUnder limit value_bytes told.tree
-  spelled_kept = subst (λ bytes. SpelledUnder limit bytes told.tree) (take_kept kept in_hand n) told.spelled
+  spelled_kept = subst (λ bytes. SpelledUnder limit bytes told.tree) (take-append-add kept in_hand n) told.spelled
 
   all_taken : (before ++ kept) ++ take n in_hand ≡ before ++ value_bytes
   all_taken = append_assoc before kept (take n in_hand)

@@ -30,7 +30,7 @@ use Rattle.om_session.specs.Earlier.{IsMade, AreMade, AreEarlier}
 use Rattle.om_session.specs.Edits.{Edit, EditsAll, AnswersOf, PutsEdited}
 use Rattle.om_commands.specs.Tasks.{items_of, MayCome, StopsHere, EndsHere, commands}
 use Rattle.om_commands.proofs.FirstLemmas.{says_first, front_end, goes_on}
-use Rattle.om_commands.proofs.ItemLemmas.{item_stays}
+use Rattle.om_commands.proofs.ItemLemmas.{first_stays}
 use Rattle.om_commands.proofs.StayLemmas.{stops_more}
 use Rattle.om_work.specs.Works.{ItemsStay, HaltsIn, PutsLast}
 use Rattle.om_promises.proofs.StreamLemmas.{value_or_tail}
@@ -99,7 +99,7 @@ holds w taken said values h =
 
 -- a value stays one when bytes follow
 pub values_stay : (w : Job) → ItemsStay (commands declared_types) (task_of w)
-values_stay w items = item_stays declared_types (task_of w)
+values_stay w items = first_stays declared_types (word_limit w)
 
 -- no value was read
 begins_kept : (w : Job) (kept : List Value) (earlier : List Earlier) → kept ≡ [] → earlier ≡ [] → IsKept w [] kept earlier

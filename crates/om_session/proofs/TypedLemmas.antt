@@ -1,7 +1,7 @@
 -- Where a path leads to in a value that has a type, there is a value that has its type.
-use Rattle.std.proofs.Common.{ℕ, ◌≡◌, ⊎_elim, inl, List, [], ◌∷◌, Option, Some, None, subst}
+use Rattle.std.proofs.Common.{ℕ, ◌≡◌, ⊎_elim, inl, List, [], ◌∷◌, Some, subst}
 use Rattle.std.specs.Prelude.{Contains, IsSomeAnd}
-use Rattle.om_model.proofs.Options.{Contains-first, Contains-later, Contains-none, Contains-cases}
+use Rattle.om_model.proofs.Options.{Contains-first, Contains-later, Contains-none, Contains-cases, IsSomeAnd-weaker}
 use Rattle.om_model.specs.declared.value.Val.{Val}
 use Rattle.om_model.specs.declared.value.Val.TheVariants as vals
 use Rattle.om_model.specs.declared.value.Obj.{Obj}
@@ -10,10 +10,6 @@ use Rattle.om_types.specs.Lawful.{AreLawful, Everything}
 use Rattle.om_types.specs.Typing.{field_at, IsHeld, IsTyping, HasType}
 use Rattle.om_types.specs.Fault.{value_at}
 use Rattle.om_types.proofs.FaultLemmas.{place_is_held}
-
-some_more : {A : Type 0} (P Q : A → Type 0) (o : Option A) → ((x : A) → P x → Q x) → IsSomeAnd o P → IsSomeAnd o Q
-some_more P Q None more holds = absurd holds
-some_more P Q (Some x) more holds = more x holds
 
 module _ {T : Type 0} (shapes : Shapes T) (lawful : AreLawful shapes Everything) (graph : List Obj) where
   -- a held value is held at each equal type, by more pairs too
@@ -44,7 +40,7 @@ module _ {T : Type 0} (shapes : Shapes T) (lawful : AreLawful shapes Everything)
       held = λ p t i a among need.
           let k = known p t among in
           let there = lawful.needs graph (vals.Ref p) t k.0 i a (inl tt) (lawful.symmetric k.0 t k.2) need in
-          some_more (λ v. IsHeld shapes graph pairs v there.0) (λ v. IsHeld shapes graph ((o, u) ∷ pairs) v a) (field_at graph p i)
+          IsSomeAnd-weaker (λ v. IsHeld shapes graph pairs v there.0) (λ v. IsHeld shapes graph ((o, u) ∷ pairs) v a) (field_at graph p i)
           (λ v h. held_by_more pairs (o, u) v there.0 a (lawful.symmetric a there.0 there.2) h) (typing.held p k.0 i there.0 k.1 there.1);
       one_type = λ p t a among other mutable.
           let k = known p t among in

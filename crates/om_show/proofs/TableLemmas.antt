@@ -86,7 +86,7 @@ module _ (decls : List Decl) (t : Ty) (table : Tabled) (is : IsTypeTable decls t
   Is i u = slice_get (types_of table) i ≡ Some u
 
   -- the shape at a number is the type's, but for numbers in the place of types
-  shape_is : (i : ℕ) (u : Ty) → Is i u
+  pub shape_is : (i : ℕ) (u : Ty) → Is i u
       → with_parts (slice_get (types_of table)) (shape_in table i) ≡ with_parts Some (shape decls u)
   shape_is i u at =
       let found = mapped_some (with_parts (slice_get (types_of table))) (slice_get table.nodes i)
@@ -97,7 +97,7 @@ module _ (decls : List Decl) (t : Ty) (table : Tabled) (is : IsTypeTable decls t
       ∙ ap (option_map (λ u. with_parts Some (shape decls u))) at) in
       ap (λ node. with_parts (slice_get (types_of table)) (node_or_none node)) found.1 ∙ found.2
 
-  names_are : (i : ℕ) (u : Ty) → Is i u → names_in table i ≡ names_of decls u
+  pub names_are : (i : ℕ) (u : Ty) → Is i u → names_in table i ≡ names_of decls u
   names_are i u at =
       ap (λ all. unwrap_or (slice_get all i) no_names) is.named
       ∙ ap (λ found. unwrap_or found no_names) (slice_get-mapped (names_of decls) (types_of table) i)

@@ -1,16 +1,12 @@
 -- The text of a value at a type that was read is a line that is made into its canonical bytes.
-use Rattle.std.proofs.Common.{◌≡◌, ℕ, ◌<◌, ◌^◌, Bool, true, false, true≢false, List, [], length, map, Option, refl, sym, ap, ◌∙◌, subst, arith}
-use Rattle.std.specs.Prelude.{◌≢◌, if◌then◌else◌}
+use Rattle.std.proofs.Common.{◌≡◌, ℕ, ◌<◌, ◌^◌, Bool, true, false, true≢false, List, [], length, refl, sym, subst, arith}
+use Rattle.std.specs.Prelude.{if◌then◌else◌}
 use Rattle.om_format.specs.Canonical.{canon}
 use Rattle.om_format.specs.Spelled.{SpelledUnder}
 use Rattle.om_format.specs.Tree.{Tree, tokens, root, made, objects_of}
 use Rattle.om_format.proofs.SpellValues.{bytes_of_tokens}
 use Rattle.om_canonical.proofs.CanonLemmas.{made-le}
 use Rattle.om_canonical.proofs.TreeGraphs.{own_tree}
-use Rattle.om_lex.specs.declared.lexeme.Lexeme.{Lexeme}
-use Rattle.om_literal_grammar.specs.Literal.{Literal, labelled, again, Plain, integer, character, string, double, truth, unit, constant, applied, fields, tuple, empty_array, array, literal_kinds}
-use Rattle.om_literal_grammar.specs.Nodes.{FirstsBelow, literal_nodes, plain_nodes}
-use Rattle.om_literal_grammar.proofs.RangeLemmas.{firsts_in}
 use Rattle.om_types.specs.Accepted.{AreWellFormed, IsSoundType}
 use Rattle.om_types.specs.Equal.{declared_shapes}
 use Rattle.om_types.specs.Names.{names_of}
@@ -25,40 +21,12 @@ use Rattle.om_decl.specs.Read.{IsDeclared, IsTypeOf}
 use Rattle.om_declared.specs.Language.{TypeOver, ReachesFew}
 use Rattle.om_texts.specs.Texts.{IsUnbroken}
 use Rattle.om_build.specs.Lines.{IsMade, plain_if}
+use Rattle.om_build.proofs.GuessLemmas.{lexemes_some}
 use Rattle.om_decimal_texts.specs.Plain.{decimals_from}
 use Rattle.om_decimal_texts.specs.Texts.{decimal_text}
 use Rattle.om_decimal_texts.proofs.FeedLemmas.{decimals_no_feed}
 use Rattle.om_decimal_readback.specs.Laws.{StandsForIt}
 use Rattle.om_decimal_readback.proofs.ApartLemmas.{texts_are_read_back}
-
--- ---- a literal has lexemes
-
-plain_some : (p : Plain) (l : Option ℕ) (n : ℕ) → FirstsBelow n (plain_nodes 0 l p) → 0 < n
-plain_some (integer i) l n h = h.0
-plain_some (character c) l n h = h.0
-plain_some (string s) l n h = h.0
-plain_some (double d) l n h = h.0
-plain_some (truth b) l n h = h.0
-plain_some unit l n h = h.0
-plain_some (constant c) l n h = h.0
-plain_some (applied c ps v) l n h = h.0
-plain_some (fields o rs x v) l n h = h.0
-plain_some (tuple ps u v) l n h = h.0
-plain_some empty_array l n h = h.0
-plain_some (array ps v) l n h = h.0
-
-some_below : (v : Literal) (n : ℕ) → FirstsBelow n (literal_nodes 0 v) → 0 < n
-some_below (labelled l p) n h = plain_some p l n h
-some_below (again k) n h = h.0
-
-lexemes_some : (v : Literal) (lexemes : List Lexeme)
-    → literal_kinds v ≡ map (λ (l : Lexeme). l.kind) lexemes → lexemes ≢ []
-lexemes_some v lexemes spelled none =
-    let some : 0 < length (literal_kinds v) =
-    some_below v (length (literal_kinds v)) (firsts_in v) in
-    let empty : length (literal_kinds v) ≡ 0 =
-    ap length (spelled ∙ ap (λ (all : List Lexeme). map (λ (l : Lexeme). l.kind) all) none) in
-    omega (arith, some, empty)
 
 -- ---- a value that is spelled has few objects
 

@@ -1,7 +1,8 @@
 -- A call of `show` that ended well: FILE and TYPE were read, all of the input is values that have
 -- the type, and their texts are put as lines.
 use Rattle.std.proofs.Common.{◌≡◌, ◌⊎◌, ℕ, Bool, true, false, List, [], ◌∷◌, ◌++◌, length, Some, Result, Ok, Err, inl, inr, refl, sym, ap, ◌∙◌, subst}
-use Rattle.std.specs.Prelude.{◌&&◌, if◌then◌else◌}
+use Rattle.std.specs.Prelude.{if◌then◌else◌}
+use Rattle.std.proofs.lemmas.Bool.{and_parts}
 use Rattle.std.specs.List.{AllByRecursion}
 use Rattle.om_format.specs.Stream.{SpellAll, End, clean, refused, cut, IsTail}
 use Rattle.om_format.specs.Tree.{Tree, root, objects_of}
@@ -79,10 +80,6 @@ tells_refuses decimal file typed stop (Err s, reads, is) =
 
 -- ---- what is said of values
 
-both_true : (a b : Bool) → a && b ≡ true → (a ≡ true) × (b ≡ true)
-both_true true b e = (refl, e)
-both_true false b e = absurd (cc e)
-
 well_true : (b : Bool) → (if b then Well else No) ≡ Well → b ≡ true
 well_true true e = refl
 well_true false e = absurd (cc e)
@@ -111,7 +108,7 @@ module _ (t : TypeOver) (decimal : Bool) where
   all_said_well earlier [] (s ∷ said) h well = absurd h
   all_said_well earlier (tree ∷ trees) [] h well = absurd h
   all_said_well earlier (tree ∷ trees) (s ∷ said) ((text, of, is), h) well =
-      let w = both_true s.well (all_well (said ++ nothing_said ∷ [])) well in
+      let w = and_parts s.well (all_well (said ++ nothing_said ∷ [])) well in
       let one = said_well tree s text of is w.0 in
       let next = all_said_well (earlier ++ tree ∷ []) trees said h w.1 in (
         (one.0, next.0),

@@ -1,25 +1,10 @@
 -- What begins with a value is no front, and is not refused; what is refused is no front.
 use Rattle.std.proofs.Common.{◌≡◌, ℕ, ◌<◌, List, [], ◌∷◌, ◌++◌, length, take, drop, refl, sym, ap, ◌∙◌, subst, append_assoc, length-append, take-append-drop, arith}
 use Rattle.std.proofs.lemmas.List.{take-append-le}
-use Rattle.std.specs.List.{concat}
 use Rattle.om_format.specs.Front.{IsFront, IsRefused}
-use Rattle.om_format.specs.Spelled.{SpelledUnder}
-use Rattle.om_format.specs.Tree.{Tree}
-use Rattle.om_format.proofs.JudgementLaws.{Closed-spelled}
+use Rattle.om_format.proofs.JudgementLaws.{Closed-spelled, spelled_some}
 use Rattle.om_format.proofs.OneJudgement.{front_excludes_closed, closed_excludes_refused, front_or_refused}
-use Rattle.om_format.proofs.TokenStepLemmas.{header_length-from}
 use Rattle.om_sighting.specs.Parts.{Part, passed, sighted, bytes_of, part_bytes, BeginNoValue, AreRefused, AreParts, IsStretch}
-
--- a value has bytes
-pub spelled_some :
-    (limit : ℕ) (value : List ℕ) (tree : Tree) → SpelledUnder limit value tree → 0 < length value
-spelled_some limit value tree s =
-    omega (
-      arith,
-      header_length-from s.header,
-      s.spells.is_header.whole,
-      ap length s.bytes_are ∙ length-append s.header (concat s.pieces),
-    )
 
 module _ (limit : ℕ) (bytes : List ℕ) where
   pub front_no_value : IsFront limit bytes → BeginNoValue limit bytes

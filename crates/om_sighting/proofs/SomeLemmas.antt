@@ -12,7 +12,8 @@ use Rattle.om_format.proofs.SpellValues.{AreBytes-front, AreBytes-rest}
 use Rattle.om_format.proofs.StandLemmas.{Judges-some}
 use Rattle.om_sighting.specs.Parts.{Part, passed, sighted, part_bytes, bytes_of, BeginNoValue, AreRefused, AreParts, IsStretch}
 use Rattle.om_sighting.proofs.OnceLemmas.{nothing_front}
-use Rattle.om_sighting.proofs.FrontLemmas.{refused_no_value, refused_after, none_before, spelled_some}
+use Rattle.om_format.proofs.JudgementLaws.{spelled_some}
+use Rattle.om_sighting.proofs.FrontLemmas.{refused_no_value, refused_after, none_before}
 
 pub bytes_of-append : (xs ys : List Part) → bytes_of (xs ++ ys) ≡ bytes_of xs ++ bytes_of ys
 bytes_of-append [] ys = refl

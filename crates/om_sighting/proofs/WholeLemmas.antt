@@ -11,7 +11,8 @@ use Rattle.om_format.proofs.StandLemmas.{Judges-some}
 use Rattle.om_sighting.specs.Laws.{HasOneList, IsSpelledAt, AreInOrder, IsInside, ArePlacesOfAll}
 use Rattle.om_sighting.specs.Parts.{Part, passed, sighted, bytes_of, BeginNoValue, AreParts}
 use Rattle.om_sighting.specs.Places.{Place, place_of, places_of}
-use Rattle.om_sighting.proofs.FrontLemmas.{spelled_some, front_no_value, refused_no_value}
+use Rattle.om_format.proofs.JudgementLaws.{spelled_some}
+use Rattle.om_sighting.proofs.FrontLemmas.{front_no_value, refused_no_value}
 use Rattle.om_sighting.proofs.OnceLemmas.{parts_once}
 
 -- ---- there is a list

@@ -1,5 +1,5 @@
 -- What stands once in a set, and where.
-use Rattle.std.proofs.Common.{ℕ, ◌+◌, ◌<◌, ◌≡◌, ◌∙◌, ⊎_elim, ◌⊎◌, inl, inr, Bool, true, false, cond, List, [], ◌∷◌, ◌++◌, length, map, Some, refl, sym, ap, true≢false, arith, length-append}
+use Rattle.std.proofs.Common.{ℕ, ◌+◌, ◌<◌, ◌≡◌, ◌∙◌, ◌⊎◌, inl, inr, Bool, true, false, cond, List, [], ◌∷◌, ◌++◌, length, map, Some, refl, sym, ap, true≢false, arith, length-append}
 use Rattle.std.specs.Prelude.{slice_get, position, option_map, nat_eq}
 use Rattle.std.specs.Global.{Vec}
 use Rattle.std.specs.List.{IsDistinct, list_any}
@@ -7,8 +7,9 @@ use Rattle.std.specs.Cmp.Lexicographic.{pointwise, bytes_decides}
 use Rattle.std.proofs.lemmas.List.{map-append, append_assoc, append-nil, get_or_append_left}
 use Rattle.std.proofs.lemmas.List.Quantifiers.{position-Some}
 use Rattle.std.proofs.lemmas.Map.Keys.{apart_from_distinct}
-use Rattle.std.proofs.lemmas.Option.{none-some, same_Some, slice_get-map, slice_get_within, slice_get-get_or, get_or_from_slice_get}
-use Rattle.om_model.proofs.Options.{none_or_some, slice_get_there}
+use Rattle.std.proofs.lemmas.Option.{slice_get-map, slice_get_within, slice_get-get_or, get_or_from_slice_get}
+use Rattle.om_model.proofs.Options.{slice_get_there}
+use Rattle.om_model.proofs.Lists.{map-slice_get}
 use Rattle.indexmap.specs.IndexSet.{insert_key}
 use Rattle.om_store.specs.Held.{AreDistinct, Adds, Holds, Grows}
 use Rattle.om_store.specs.Texts.{texts_of}
@@ -36,15 +37,6 @@ module _ {K : Type 0} (eq : K → K → Bool) (ks : List K) (distinct : IsDistin
   pub AreDistinct-keys : ((a : K) → eq a a ≡ true) → AreDistinct ks
   AreDistinct-keys itself i j a at_i at_j = one_place i j a a at_i at_j (itself a) (itself a)
 
--- an element of a list whose elements are all replaced
-pub get-mapped :
-    {A B : Type 0} (f : A → B) (xs : List A) (i : ℕ) (y : B) → slice_get (map f xs) i ≡ Some y
-    → (x : A) × (slice_get xs i ≡ Some x) × (f x ≡ y)
-get-mapped f xs i y is = ⊎_elim
-    (λ none. absurd (none-some y (sym (slice_get-map f xs i ∙ ap (option_map f) none) ∙ is)))
-    (λ some. (some.0, some.1, same_Some (f some.0) y (sym (slice_get-map f xs i ∙ ap (option_map f) some.1) ∙ is)))
-    (none_or_some (slice_get xs i))
-
 pub get-map :
     {A B : Type 0} (f : A → B) (xs : List A) (i : ℕ) (x : A) → slice_get xs i ≡ Some x
     → slice_get (map f xs) i ≡ Some (f x)
@@ -57,8 +49,8 @@ pub AreDistinct-texts :
     (eq : Vec ℕ → Vec ℕ → Bool) → ((a b : Vec ℕ) → a.items ≡ b.items → eq a b ≡ true)
     → (ks : List (Vec ℕ)) → IsDistinct eq ks → AreDistinct (texts_of ks)
 AreDistinct-texts eq alike ks distinct i j x at_i at_j =
-    let a = get-mapped (λ (v : Vec ℕ). v.items) ks i x at_i in
-    let b = get-mapped (λ (v : Vec ℕ). v.items) ks j x at_j in
+    let a = map-slice_get (λ (v : Vec ℕ). v.items) ks i x at_i in
+    let b = map-slice_get (λ (v : Vec ℕ). v.items) ks j x at_j in
     one_place eq ks distinct i j a.0 b.0 a.1 b.1 (alike a.0 b.0 (a.2 ∙ sym b.2)) (alike b.0 a.0 (b.2 ∙ sym a.2))
 
 pub alike_texts : (a b : Vec ℕ) → a.items ≡ b.items → pointwise nat_eq a.items b.items ≡ true

@@ -1,6 +1,6 @@
 -- What a reader tells of bytes is the next part.
 use Rattle.std.proofs.Common.{◌≡◌, ◌⊎◌, ℕ, ◌<◌, ◌≤◌, List, [], ◌∷◌, ◌++◌, length, map, take, drop, inl, inr, refl, sym, ap, ◌∙◌, subst, append-nil, take-append-drop, take_all, arith}
-use Rattle.std.specs.Prelude.{Bool, true, false, not, Result, Ok, Err}
+use Rattle.std.specs.Prelude.{false, Result, Ok, Err}
 use Rattle.std.proofs.lemmas.List.{length-take-le}
 use Rattle.om_model.specs.declared.refusal.ReadRefusal.{ReadRefusal}
 use Rattle.om_model.specs.declared.refusal.ReadRefusal.TheVariants as refusals
@@ -19,7 +19,7 @@ use Rattle.om_read.proofs.ReadingLemmas.{unless_memory}
 use Rattle.om_types.specs.VerdictText.{kind_text}
 use Rattle.om_sighting.specs.Parts.{passed, sighted, bytes_of, AreRefused}
 use Rattle.om_sighting.specs.Places.{place_of, line_of}
-use Rattle.om_sighting.proofs.FrontLemmas.{spelled_some}
+use Rattle.om_format.proofs.JudgementLaws.{spelled_some}
 use Rattle.om_sweep.specs.declared.next.Next.{Next}
 use Rattle.om_sweep.specs.Swept.{place_read, PassesOne, Takes, AreWaiting, IsNext}
 use Rattle.om_sweep.proofs.ClaimLemmas.{same_head}
@@ -54,10 +54,6 @@ place_is limit at size taken value f long = (
       f.words
       ∙ (ap (λ h. h.w64) (sym (same_head limit taken taken [] f.tree (sym (append-nil taken)) s))
       ∙ s.spells.states.w64)
-
-pub not_true : (b : Bool) → not b ≡ true → b ≡ false
-not_true true e = let never : false ≡ true = e in cc never
-not_true false e = refl
 
 module _ (limit at : ℕ) (bytes old new : List ℕ) where
   -- a value

@@ -18,7 +18,7 @@ use Rattle.om_types.specs.Fault.{IsFault}
 use Rattle.om_types.specs.Fitting.{or_none, fields_of, is_mutable}
 use Rattle.om_types.specs.Table.{Table, table_shapes, node_or_none, IsTableOf}
 use Rattle.om_types.specs.Typing.{field_at, IsListed, IsHeld, IsTyping, IsTyped, HasType}
-use Rattle.om_model.proofs.Options.{Contains-first, Contains-later, Contains-none, same_or_not, true_or_not, slice_get-Contains}
+use Rattle.om_model.proofs.Options.{Contains-first, Contains-later, Contains-none, same_or_not, true_or_not, slice_get-Contains, IsSomeAnd-weaker}
 use Rattle.om_types.proofs.AskedLemmas.{asked_is}
 use Rattle.om_types.proofs.FaultLemmas.{fault_excludes_type}
 use Rattle.om_typing.specs.Decidable.{AreDecidable, ReachesFew}
@@ -49,7 +49,7 @@ some_or_none None = inr never where
   never is = cc
 some_or_none (Some x) = inl refl
 
-numbers_same_or_not : (a b : Option ℕ) → (a ≡ b) ⊎ (a ≡ b → ⊥)
+pub numbers_same_or_not : (a b : Option ℕ) → (a ≡ b) ⊎ (a ≡ b → ⊥)
 numbers_same_or_not None None = inl refl
 numbers_same_or_not None (Some n) = inr (λ same. none-some n same)
 numbers_same_or_not (Some m) None = inr (λ same. none-some m (sym same))
@@ -101,12 +101,6 @@ below_has (suc n) i less = ⊎_elim
     (same_or_not i n) where
       lesser : (i ≡ n → ⊥) → i < n
       lesser different = omega arith
-
-IsSomeAnd-more :
-    {A : Type 0} (P Q : A → Type 0) (o : Option A) → ((x : A) → P x → Q x) → IsSomeAnd o P
-    → IsSomeAnd o Q
-IsSomeAnd-more P Q None more holds = absurd holds
-IsSomeAnd-more P Q (Some x) more holds = more x holds
 
 -- ---- typings by numbers and by types
 
@@ -173,7 +167,7 @@ module _ (decls : List Decl) (types : List Ty) (table : Table) (made : IsTableOf
         let source = typed_is pairs o u among in
         let number = need_back decls types table made graph (vals.Ref o) source.0 u k a source.2
         need in
-        IsSomeAnd-more (λ v. IsHeld (table_shapes table) graph pairs v number.0)
+        IsSomeAnd-weaker (λ v. IsHeld (table_shapes table) graph pairs v number.0)
         (λ v. IsHeld (declared_shapes decls) graph (all_typed pairs) v a) (field_at graph o k)
         (λ v held. held_too v number.0 a number.2 held) (typing.held o source.0 k number.0 source.1
         number.1)

@@ -6,7 +6,7 @@ use Rattle.om_model.specs.declared.value.Obj.{Obj}
 use Rattle.om_lex.specs.declared.lexeme.Lexeme.{Lexeme}
 use Rattle.om_lex.specs.declared.lexeme.LexFault.{LexFault}
 use Rattle.om_lex.specs.LexText.{Lexes, Faults, Outcome}
-use Rattle.om_lex.proofs.PartLaws.{has_one_outcome}
+use Rattle.om_lex.proofs.PartLaws.{has_one_outcome, one_fault}
 use Rattle.om_literal.specs.LiteralAnswers.{IsAnswer, IsAnswered}
 use Rattle.om_literal.specs.declared.fault.LiteralFault.{LiteralFault}
 use Rattle.om_literal.specs.declared.fault.LiteralFault.TheVariants as literal
@@ -30,9 +30,6 @@ lexed_same line l m one other = let o = has_one_outcome line in let e = o.2 (Ok 
 lexed_or_fault : {A : Type 0} (line : List ℕ) (l : List Lexeme) (f : LexFault) → Lexes line l → Faults line f → A
 lexed_or_fault line l f one other = let o = has_one_outcome line in let g : Ok l ≡ Err f = o.2 (Ok l) one ∙ sym (o.2 (Err f) other) in absurd cc
 
-faults_same : (line : List ℕ) (f g : LexFault) → Faults line f → Faults line g → f ≡ g
-faults_same line f g one other = let o = has_one_outcome line in let e : Err f ≡ Err g = o.2 (Err f) one ∙ sym (o.2 (Err g) other) in cc
-
 -- two answers of lexemes of one line are one
 literals_same : (table : Tabled) (line : List ℕ) (l m : List Lexeme) (x y : Result (List Obj × Val) LiteralFault) → Lexes line l → Lexes line m
     → IsAnswer table 0 l (length line) [] x → IsAnswer table 0 m (length line) [] y → x ≡ y
@@ -55,7 +52,7 @@ same_answer table line (Ok (Some a)) (Err (faults.Literal f)) one other =
 same_answer table line (Ok (Some a)) (Err faults.Memory) one other = absurd other
 same_answer table line (Err (faults.Lex f)) (Ok None) one other = lexed_or_fault line [] f other one
 same_answer table line (Err (faults.Lex f)) (Ok (Some b)) one other = lexed_or_fault line other.0 f other.1 one
-same_answer table line (Err (faults.Lex f)) (Err (faults.Lex g)) one other = ap (λ h. Err (faults.Lex h)) (faults_same line f g one other)
+same_answer table line (Err (faults.Lex f)) (Err (faults.Lex g)) one other = ap (λ h. Err (faults.Lex h)) (one_fault line f g one other)
 same_answer table line (Err (faults.Lex f)) (Err (faults.Literal g)) one other = lexed_or_fault line other.0 f other.1 one
 same_answer table line (Err (faults.Lex f)) (Err faults.Memory) one other = absurd other
 same_answer table line (Err (faults.Literal f)) (Ok None) one other = absurd (one.2 (lexed_same line one.0 [] one.1 other))

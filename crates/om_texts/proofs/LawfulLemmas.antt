@@ -1,16 +1,18 @@
 -- The command on texts is lawful, where the language is and a line is read in one way.
-use Rattle.std.proofs.Common.{◌≡◌, ◌⊎◌, ◌<◌, ◌+◌, ℕ, List, [], ◌∷◌, ◌++◌, Some, Result, Ok, Err, inl, inr, refl, sym, ap, ◌∙◌, subst, arith}
+use Rattle.std.proofs.Common.{◌≡◌, ◌⊎◌, ◌+◌, ℕ, List, [], ◌∷◌, ◌++◌, Some, Result, Ok, Err, inl, inr, refl, sym, ap, ◌∙◌, subst}
 use Rattle.om_outcome.specs.Outcome.{opened, whole, Request, AskedType, Said, says, stops, Language, ReadsFile, ReadsTypeOf}
 use Rattle.om_outcome.specs.declared.stop.Stop.{Stop}
 use Rattle.om_outcome.specs.declared.stop.Stop.TheVariants.{Untyped as untyped_value}
 use Rattle.om_promises.specs.Commands.{Item, value, text, Fetches}
 use Rattle.om_promises.specs.Lawful.{IsOnce, IsInner, FailsAtFile, AreLawfulAt, AreLawful, AreInTurns}
 use Rattle.om_promises.specs.LawfulLanguage.{IsGiven, IsLawful}
+use Rattle.om_promises.proofs.ExampleLemmas.{none_later}
 use Rattle.om_commands.specs.Tasks.{by_turns}
 use Rattle.om_commands.proofs.FindLemmas.{whole_or, type_once, type_by, type_read, ComesOf, type_inside}
 use Rattle.om_commands.proofs.GivenLemmas.{type_given}
 use Rattle.om_texts.specs.Texts.{Built, blank, made, refused, untyped, counted, IsFirstLine, IsSaidOf, AreTexts, StopsBy, SaysLine, StopsAtLine, IsReplyTo, EndsWithLine, built_by, Wants, Finds, building, IsReadOnce}
-use Rattle.om_texts.proofs.LineLemmas.{line_once, line_front, some_line, line_stays, same_text}
+use Rattle.om_promises.proofs.LengthLemmas.{some_line}
+use Rattle.om_texts.proofs.LineLemmas.{line_once, line_front, line_stays, same_text}
 
 -- ---- what is said of a line
 
@@ -202,9 +204,6 @@ module _ {D T E : Type 0} (language : Language D T E) (TextOf : T → List ℕ �
       finds_inside = found_inside;
       at = λ type found. lawful_at type (once type (given found.0 found.1 type found.2));
     }
-
-    none_later : (turn later : ℕ) → turn < later → later ≡ 0 → ⊥
-    none_later turn later less e = omega arith
 
     pub building_turns : AreInTurns (building language TextOf)
     building_turns = record {

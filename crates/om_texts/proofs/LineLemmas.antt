@@ -1,27 +1,8 @@
 -- The bytes are a line, its line feed and a rest in one way.
-use Rattle.std.proofs.Common.{◌≡◌, ℕ, ◌<◌, List, [], ◌∷◌, ◌++◌, length, refl, sym, ap, ◌∙◌, subst, append_assoc, length-append, arith}
+use Rattle.std.proofs.Common.{◌≡◌, ℕ, List, [], ◌∷◌, ◌++◌, sym, ap, ◌∙◌, subst, append_assoc}
 use Rattle.om_promises.specs.Commands.{Item, text}
+use Rattle.om_promises.proofs.LineLemmas.{broken, same_line}
 use Rattle.om_texts.specs.Texts.{IsUnbroken, IsLine}
-
--- a line feed among bytes breaks them
-pub broken : (line more : List ℕ) → IsUnbroken (line ++ 10 ∷ more) → ⊥
-broken [] more (other, rest) = other refl
-broken (b ∷ line) more (other, rest) = broken line more rest
-
--- where bytes come before a line feed, they are the line
-same_line :
-    (line other more rest : List ℕ) → IsUnbroken line → IsUnbroken other
-    → line ++ 10 ∷ more ≡ other ++ 10 ∷ rest → (line ≡ other) × (more ≡ rest)
-same_line [] [] more rest one two e = (refl, cc e)
-same_line [] (b ∷ other) more rest one two e =
-    let is : b ≡ 10 = cc e in absurd (two.0 is)
-same_line (b ∷ line) [] more rest one two e =
-    let is : b ≡ 10 = cc e in absurd (one.0 is)
-same_line (b ∷ line) (c ∷ other) more rest one two e =
-    let first : b ≡ c = cc e in
-    let after : line ++ 10 ∷ more ≡ other ++ 10 ∷ rest = cc e in
-    let next = same_line line other more rest one.1 two.1 after in
-    (ap (λ b. b ∷ line) first ∙ ap (λ line. c ∷ line) next.0, next.1)
 
 pub line_once :
     (bytes line other more rest : List ℕ) → IsLine bytes line more → IsLine bytes other rest
@@ -32,9 +13,6 @@ line_once bytes line other more rest h k =
 pub line_front :
     (bytes line more : List ℕ) → IsLine bytes line more → bytes ≡ (line ++ 10 ∷ []) ++ more
 line_front bytes line more h = h.bytes_are ∙ sym (append_assoc line (10 ∷ []) more)
-
-pub some_line : (line : List ℕ) → 0 < length (line ++ 10 ∷ [])
-some_line line = let size = length-append line (10 ∷ []) in omega (arith, size)
 
 pub line_stays :
     (bytes line more later : List ℕ) → IsLine bytes line more

@@ -1,21 +1,24 @@
 -- The pairs of a check at types of sets and maps are the nodes, and what is said of their objects
 -- is the verdict, where that asks for no path but the root's.
-use Rattle.std.proofs.Common.{ℕ, zero, suc, ◌<◌, ◌≡◌, ◌∙◌, ◌⊎◌, inl, inr, ⊎_elim, ◌++◌, Bool, true, false, ◌+◌, List, [], ◌∷◌, cond, get_or, length, map, take, Option, Some, refl, sym, ap, subst, arith}
+use Rattle.std.proofs.Common.{ℕ, zero, suc, ◌<◌, ◌≡◌, ◌∙◌, ◌⊎◌, inl, ⊎_elim, ◌++◌, Bool, true, false, ◌+◌, List, [], ◌∷◌, cond, get_or, length, map, take, Option, Some, refl, sym, ap, subst}
 use Rattle.std.specs.Prelude.{slice_get, slice_index_or, Contains, filter, option_map}
 use Rattle.std.proofs.lemmas.List.Elements.{filter_more}
 use Rattle.std.proofs.lemmas.List.{length-map, map-append}
 use Rattle.std.proofs.lemmas.Option.{same_Some, none-some, slice_get_within, slice_get-map}
-use Rattle.om_model.proofs.Options.{Contains-none, Contains-first, Contains-later, Contains-cases, Contains-map, map-Contains, IsSomeAnd-at, IsSomeAnd-some, slice_get-Contains}
+use Rattle.om_model.proofs.Options.{Contains-map, map-Contains, IsSomeAnd-at, IsSomeAnd-some, slice_get-Contains}
 use Rattle.om_model.specs.declared.value.Val.{Val}
 use Rattle.om_model.specs.declared.value.Val.TheVariants as vals
 use Rattle.om_model.specs.declared.value.Obj.{Obj}
 use Rattle.om_model.proofs.Lists.{Contains-place, Contains-filter}
-use Rattle.om_types.specs.Fault.{IsBefore, value_at}
+use Rattle.om_types.specs.Fault.{value_at}
 use Rattle.om_types.specs.Lawful.{Everything}
 use Rattle.om_types.specs.Table.{table_shapes}
 use Rattle.om_types.specs.Typing.{IsHeld, HasType}
 use Rattle.om_types.proofs.FaultLemmas.{place_is_held}
+use Rattle.om_types.proofs.ListLemmas.{filtered-Contains}
 use Rattle.om_typing.specs.StepLaws.{AreApart, key_of}
+use Rattle.om_typing.proofs.SearchedLemmas.{never_before_root}
+use Rattle.om_typing.proofs.StepLemmas.{Distinct, distinct}
 use Rattle.om_type_table.specs.declared.tabled.Tabled.{Tabled}
 use Rattle.om_type_table.specs.Made.{table_of, IsLawful}
 use Rattle.om_scan.specs.Paths.{HasPath}
@@ -37,38 +40,7 @@ use Rattle.om_tree_check.proofs.AmongLemmas.{all_are}
 
 -- ---- what a filter keeps
 
--- it is of the list, and passes
-kept : {X : Type 0} (p : X → Bool) (xs : List X) (x : X) → Contains (filter p xs) x
-    → Contains xs x × (p x ≡ true)
-kept p [] x among = absurd (Contains-none x among)
-kept {X} p (z ∷ xs) x among = by_test (p z) refl (kept p xs x) among where
-  by_test : (b : Bool) → p z ≡ b → (Contains (filter p xs) x → Contains xs x × (p x ≡ true))
-      → Contains (cond b (z ∷ filter p xs) (filter p xs)) x
-      → Contains (z ∷ xs) x × (p x ≡ true)
-  by_test true passed rest there = ⊎_elim
-      (λ here. (subst (Contains (z ∷ xs)) here (Contains-first z xs), ap p (sym here) ∙ passed))
-      (λ later. let k = rest later in (Contains-later z xs x k.0, k.1))
-      (Contains-cases z (filter p xs) x there)
-  by_test false failed rest there = let k = rest there in (Contains-later z xs x k.0, k.1)
-
 -- ---- elements that are apart
-
--- no element is among those after it
-abbrev Distinct : {X : Type 0} → List X → Type 0
-Distinct [] = Unit {0}
-Distinct (x ∷ xs) = (¬ Contains xs x) × Distinct xs
-
-distinct : {X : Type 0} (xs : List X) → AreApart xs → Distinct xs
-distinct [] apart = tt
-distinct (x ∷ xs) apart = (
-  λ among.
-      let p = Contains-place xs x among in
-      let e : 0 ≡ suc p.0 = apart 0 (suc p.0) x refl p.1 in
-      omega (arith, e),
-  distinct xs (λ j k y at_j at_k.
-      let e : suc j ≡ suc k = apart (suc j) (suc k) y at_j at_k in
-      omega (arith, e)),
-)
 
 apart_again : {X : Type 0} (xs : List X) → Distinct xs → AreApart xs
 apart_again [] distinct j k y at_j at_k = absurd (none-some y at_j)
@@ -92,18 +64,10 @@ distinct_kept {X} {Y} f p (z ∷ xs) apart = by_test (p z) (distinct_kept f p xs
     λ among.
         let m = map-Contains f (filter p xs) (f z) among in
         apart.0 (subst (Contains (map f xs)) m.2
-        (Contains-map f xs m.0 (kept p xs m.0 m.1).0)),
+        (Contains-map f xs m.0 (filtered-Contains p xs m.0 m.1).0)),
     rest,
   )
   by_test false rest = rest
-
--- ---- no path is before the root's
-
-never_before_root : (path : List ℕ) → ¬ IsBefore path []
-never_before_root [] (inl less) = omega (arith, less)
-never_before_root [] (inr same) = same.1
-never_before_root (i ∷ path) (inl less) = omega (arith, less)
-never_before_root (i ∷ path) (inr same) = same.1
 
 module _ (table : Tabled) (graph : List Obj) (root : Val)
     (lawful : IsLawful (table_of table)) (its : IsTreeTable table)
@@ -132,7 +96,7 @@ module _ (table : Tabled) (graph : List Obj) (root : Val)
         (filter (is_node_pair found) typing)
     pairs_are_nodes = record {
       led = λ o u among.
-          let k = kept (is_node_pair found) typing (o, u) among in
+          let k = filtered-Contains (is_node_pair found) typing (o, u) among in
           let p = paths o u k.0 in
           (p.0, record { leads = p.1; tree = (marked u).0 k.1 });
       all = λ path o u node.

@@ -2,7 +2,7 @@
 use Rattle.std.proofs.Common.{ℕ, ◌≡◌, ◌<◌, ◌==◌, ◌∙◌, ◌⊎◌, ⊎_elim, inl, inr, Bool, true, false, List, [], ◌∷◌, ◌++◌, refl, sym, subst, arith, zero, suc, length, drop, min, ap}
 use Rattle.std.specs.Prelude.{Contains, IsTrue, ℤ, ◌<ℤ◌, ◌≤ℤ◌, int_lt, nat_lt, ◌&&◌}
 use Rattle.std.proofs.lemmas.Int.{ints, by_lt_z}
-use Rattle.std.proofs.lemmas.Bool.{false≢true, or_cases, or_left, or_right, and_parts, ltb-true, lt-ltb, cases_lt}
+use Rattle.std.proofs.lemmas.Bool.{false≢true, or_cases, or_left, or_right, and_parts, ltb-true, lt-ltb, cases_lt, and_from}
 use Rattle.std.proofs.lemmas.Bool.Decides.{Decides-eqb, nat_tests}
 use Rattle.std.proofs.lemmas.List.Elements.{Contains-append_cases, Contains-append_right}
 use Rattle.om_model.proofs.Options.{Contains-first, Contains-later, Contains-cases, Contains-none}
@@ -23,16 +23,11 @@ first_before a b bytes others is = ⊎_elim
     (λ same. let parts = and_parts (a == b) (are_before bytes others) same in inr ((Decides-eqb a b).0 parts.0, parts.1))
     (or_cases (nat_lt a b) ((a == b) && are_before bytes others) is)
 
-both_true : (x y : Bool) → x ≡ true → y ≡ true → (x && y) ≡ true
-both_true true true one two = refl
-both_true true false one two = two
-both_true false y one two = one
-
 before_first : (a b : ℕ) (bytes others : List ℕ) → FirstBefore a b bytes others → IsTrue (are_before (a ∷ bytes) (b ∷ others))
 before_first a b bytes others (inl less) = or_left (nat_lt a b) ((a == b) && are_before bytes others) (lt-ltb a b less)
 before_first a b bytes others (inr same) =
     or_right (nat_lt a b) ((a == b) && are_before bytes others)
-    (both_true (a == b) (are_before bytes others) ((Decides-eqb a b).1 same.0) same.1)
+    (and_from (a == b) (are_before bytes others) ((Decides-eqb a b).1 same.0) same.1)
 
 before_transitive : (one two three : List ℕ) → IsTrue (are_before one two) → IsTrue (are_before two three) → IsTrue (are_before one three)
 before_transitive one [] three first second = absurd (false≢true first)

@@ -10,6 +10,7 @@ use Rattle.om_model.specs.declared.value.Val.{Val}
 use Rattle.om_model.specs.declared.value.Val.TheVariants as vals
 use Rattle.om_model.specs.declared.value.Obj.{Obj}
 use Rattle.om_model.specs.declared.value.Obj.TheVariants as objects
+use Rattle.om_model.proofs.Lists.{Contains-filter}
 use Rattle.om_types.specs.declared.shape.ShapeOf.{ShapeOf}
 use Rattle.om_types.specs.declared.shape.ShapeOf.TheVariants as shapes
 use Rattle.om_types.specs.Fault.{type_of_field}
@@ -17,7 +18,7 @@ use Rattle.om_types.specs.Fitting.{fields_of, is_asked, asked_of, shaped}
 use Rattle.om_types.specs.Lawful.{AreLawful}
 use Rattle.om_types.specs.Table.{Table, node_or_none, table_shapes, typed_fields, is_asked_in}
 use Rattle.om_types.proofs.FaultLemmas.{named_is_needed}
-use Rattle.om_types.proofs.ListLemmas.{Contains-filtered, filtered-Contains}
+use Rattle.om_types.proofs.ListLemmas.{filtered-Contains}
 
 -- no number has two types
 abbrev pub AreOnce : {T : Type 0} → List (ℕ × T) → Type 0
@@ -36,7 +37,7 @@ module _ {T : Type 0} (shape : T → ShapeOf T) where
   pub is_needed : (fields : List (ℕ × T)) (i : ℕ) (a : T)
       → Contains fields (i, a) → Asked a → Contains (asked_of shape fields) (i, a)
   is_needed fields i a among asked =
-      Contains-filtered (λ (field : ℕ × T). is_asked (shape field.1)) fields (i, a) among asked
+      Contains-filter (λ (field : ℕ × T). is_asked (shape field.1)) fields (i, a) among asked
 
   -- not more is needed than there is
   pub few_asked : (fields : List (ℕ × T)) → length (asked_of shape fields) ≤ length fields

@@ -3,7 +3,6 @@ use Rattle.std.proofs.Common.{◌≡◌, ◌⊎◌, ⊎_elim, inl, inr, List, []
 use Rattle.std.proofs.Common.{Option, Some, None, refl, ap, subst, ◌∙◌}
 use Rattle.std.specs.Prelude.{Contains, filter, cond}
 use Rattle.std.specs.List.{filter_map, cons_option}
-use Rattle.std.proofs.lemmas.Bool.{false≢true}
 use Rattle.std.proofs.lemmas.Option.{same_Some, none-some}
 use Rattle.om_model.proofs.Options.{Contains-first, Contains-later, Contains-none, Contains-cases}
 
@@ -45,31 +44,11 @@ module _ {X Y : Type 0} where
 
 -- ---- a filtered list, by a test
 
-kept_here : {X : Type 0} (test : Bool) (x : X) (xs : List X) → test ≡ true
-    → Contains (cond test (x ∷ xs) xs) x
-kept_here true x xs passes = Contains-first x xs
-kept_here false x xs passes = absurd (false≢true passes)
-
-kept_later : {X : Type 0} (test : Bool) (x : X) (xs : List X) (y : X) → Contains xs y
-    → Contains (cond test (x ∷ xs) xs) y
-kept_later true x xs y among = Contains-later x xs y among
-kept_later false x xs y among = among
-
 kept_is : {X : Type 0} (test : Bool) (x : X) (xs : List X) (y : X)
     → Contains (cond test (x ∷ xs) xs) y → ((test ≡ true) × (x ≡ y)) ⊎ Contains xs y
 kept_is true x xs y among =
     ⊎_elim (λ here. inl (refl, here)) (λ later. inr later) (Contains-cases x xs y among)
 kept_is false x xs y among = inr among
-
-pub Contains-filtered :
-    {X : Type 0} (p : X → Bool) (xs : List X) (x : X) → Contains xs x → p x ≡ true
-    → Contains (filter p xs) x
-Contains-filtered p [] x among passes = absurd (Contains-none x among)
-Contains-filtered p (y ∷ xs) x among passes = ⊎_elim
-    (λ here. subst (λ z. Contains (filter p (y ∷ xs)) z) here
-    (kept_here (p y) y (filter p xs) (ap p here ∙ passes)))
-    (λ later. kept_later (p y) y (filter p xs) x (Contains-filtered p xs x later passes))
-    (Contains-cases y xs x among)
 
 pub filtered-Contains :
     {X : Type 0} (p : X → Bool) (xs : List X) (x : X) → Contains (filter p xs) x → Contains xs x

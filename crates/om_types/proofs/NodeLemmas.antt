@@ -3,7 +3,7 @@ use Rattle.std.proofs.Common.{ℕ, zero, suc, ◌+◌, ◌-◌, ◌<◌, ◌≡�
 use Rattle.std.proofs.Common.{length, Some, ◌≤◌, take, drop}
 use Rattle.std.proofs.Common.{refl, sym, ap, subst, arith}
 use Rattle.std.specs.Prelude.{fold, slice_get}
-use Rattle.std.proofs.lemmas.List.{append_assoc, take-append-drop, length-take, length-take-le}
+use Rattle.std.proofs.lemmas.List.{append_assoc, take-append-drop, length-take, length-take-le, length_push}
 use Rattle.std.proofs.Math.Seq.{take-append_seam}
 use Rattle.std.proofs.lemmas.Option.{none-some, same_Some, slice_get_within}
 use Rattle.om_model.proofs.Lists.{slice_get-last}
@@ -27,10 +27,6 @@ pub types_of-push :
 unfolding types_of
 types_of-push all node = grown_append [] all (node ∷ [])
 
-length-push : (types : List Ty) (t : Ty) → length (types ++ t ∷ []) ≡ suc (length types)
-length-push [] t = refl
-length-push (u ∷ types) t = ap suc (length-push types t)
-
 grown_length : (types : List Ty) (all : List Node) → length (grown types all) ≡ length types +
     length all
 grown_length types [] = omega arith
@@ -38,7 +34,7 @@ grown_length types (node ∷ all) =
     omega (
       arith,
       grown_length (types ++ type_of_node types node ∷ []) all,
-      length-push types
+      length_push types
           (type_of_node types node),
     )
 
@@ -117,7 +113,7 @@ grown_at types (first ∷ all) zero node is below =
     ∙ ap (type_of_node (grown types (first ∷ all))) same)
 grown_at types (first ∷ all) (suc i) node is below =
     let here : length (types ++ type_of_node types first ∷ []) + i ≡ length types + suc i =
-    omega (arith, length-push types (type_of_node types first)) in
+    omega (arith, length_push types (type_of_node types first)) in
     ap (slice_get (grown types (first ∷ all))) (sym here)
     ∙ grown_at (types ++ type_of_node types first ∷ []) all i node is
     (subst (λ n. IsBelow n node) (sym here) below)

@@ -16,24 +16,31 @@ use Rattle.om_model.proofs.Options.{IsSomeAnd-some}
 use Rattle.om_typing.proofs.PathLemmas.{paths_compare}
 use Rattle.om_typing.proofs.SearchedLemmas.{seen_is_known, before_transitive}
 
+-- a misfit before which no misfit is
+pub least_misfit : {T : Type 0} (shapes : Shapes T) (graph : List Obj) (root : Val) (t : T)
+    (path : List ℕ) → IsMisfit shapes graph root t path
+    → ((other : List ℕ) → IsMisfit shapes graph root t other → IsBefore other path → ⊥)
+    → IsLeastFault shapes graph root t (Misfit path)
+least_misfit shapes graph root t path misfit first =
+    record { is_fault = misfit; least = none } where
+      none : (other : Fault) → IsFault shapes graph root t other → IsToldBefore other (Misfit path)
+          → ⊥
+      none (Misfit other) is told = first other is told
+      none (Clash one two) is told = told
+
 module _ {T : Type 0} (shapes : Shapes T) (lawful : AreLawful shapes Everything) (graph : List Obj)
     (root : Val) (t : T) (entries : List (Entry T)) where
   -- a search that has seen all paths before a misfit
   pub misfit_is_least :
       (path : List ℕ) → IsSearched shapes graph root t entries (λ other. IsBefore other path)
       → IsMisfit shapes graph root t path → IsLeastFault shapes graph root t (Misfit path)
-  misfit_is_least path searched misfit = record { is_fault = misfit; least = none } where
+  misfit_is_least path searched misfit = least_misfit shapes graph root t path misfit no_misfit where
     no_misfit : (other : List ℕ) → IsMisfit shapes graph root t other → IsBefore other path → ⊥
     no_misfit other is before =
         let found = IsSomeAnd-some (value_at shapes graph root t other)
         (λ place. shapes.fits graph place.0 place.1 → ⊥) is in
         found.2 (seen_is_known shapes lawful graph root t entries (λ o. IsBefore o path) searched
         other found.0.0 found.0.1 before found.1).0
-
-    none : (other : Fault) → IsFault shapes graph root t other → IsToldBefore other (Misfit path)
-        → ⊥
-    none (Misfit other) is told = no_misfit other is told
-    none (Clash first second) is told = told
 
   module _ (searched : IsSearched shapes graph root t entries (λ path. Unit {0})) where
     Known : List ℕ → ℕ → T → Type 0

@@ -1,7 +1,7 @@
 -- Each path that was looked at leads to a value that fits and is entered, with a path that is not after it. So the first misfit that
 -- is met is the least, over infinitely many paths.
 use Rattle.std.proofs.Common.{ℕ, zero, suc, ◌≡◌, ◌∙◌, ⊎_elim, inl, inr, List, [], ◌∷◌, ◌++◌, length}
-use Rattle.std.proofs.Common.{Option, Some, None, refl, sym, ap, subst, arith}
+use Rattle.std.proofs.Common.{Some, refl, sym, ap, subst, arith}
 use Rattle.std.specs.Prelude.{Contains, option_and_then, option_map}
 use Rattle.std.proofs.lemmas.Option.{option_and_then_some, same_Some, none-some}
 use Rattle.om_model.specs.declared.value.Val.{Val}
@@ -12,7 +12,7 @@ use Rattle.om_types.specs.Lawful.{Everything, AreLawful}
 use Rattle.om_types.specs.Typing.{field_at}
 use Rattle.om_types.specs.Fault.{IsLexicallyBefore, IsBefore, type_of_field, step, value_at}
 use Rattle.om_types.specs.Searched.{Entry, IsEntered, IsSearched}
-use Rattle.om_types.proofs.FaultLemmas.{named_is_needed}
+use Rattle.om_types.proofs.FaultLemmas.{named_is_needed, paired}
 use Rattle.om_typing.proofs.PathLemmas.{paths_compare}
 
 -- ---- the order of paths
@@ -68,6 +68,11 @@ pub never_before_itself : (p : List ℕ) → IsBefore p p → ⊥
 never_before_itself p (inl less) = omega arith
 never_before_itself p (inr equal) = lexically_never p equal.1
 
+pub never_before_root : (p : List ℕ) → IsBefore p [] → ⊥
+never_before_root [] before = never_before_itself [] before
+never_before_root (i ∷ p) (inl less) = omega (arith, less)
+never_before_root (i ∷ p) (inr equal) = equal.1
+
 -- where q is not before p, and p with a step more not before r, q with this step is not before r
 pub not_before_through :
     (p q r : List ℕ) (i : ℕ) → (IsBefore q p → ⊥) → (IsBefore (p ++ i ∷ []) r → ⊥)
@@ -121,13 +126,6 @@ module _ {T : Type 0} (shapes : Shapes T) (graph : List Obj) where
 
 -- ---- what is seen is entered
 
-paired' : {T : Type 0} (w : Val) (named : Option T) (next : Val × T)
-    → option_map (λ u. (w, u)) named ≡ Some next → (named ≡ Some next.1) × (w ≡ next.0)
-paired' w None next same = absurd (none-some next same)
-paired' w (Some u) next same =
-    let pair = same_Some (w, u) next same in
-    (ap (λ p. Some p.1) pair, ap (λ p. p.0) pair)
-
 module _ {T : Type 0} (shapes : Shapes T) (lawful : AreLawful shapes Everything) (graph : List Obj)
     (root : Val) (t : T) (entries : List (Entry T)) (Seen : List ℕ → Type 0)
     (searched : IsSearched shapes graph root t entries Seen) where
@@ -177,7 +175,7 @@ module _ {T : Type 0} (shapes : Shapes T) (lawful : AreLawful shapes Everything)
       option_and_then_some
       (λ x. option_map (λ b. (x, b)) (type_of_field (shapes.needs graph (vals.Ref o) u) i))
       (field_at graph o i) (w, a) stepped (λ x field typed.
-      let parts = paired' x (type_of_field (shapes.needs graph (vals.Ref o) u) i) (w, a) typed in
+      let parts = paired x (type_of_field (shapes.needs graph (vals.Ref o) u) i) (w, a) typed in
       from_entry front i o u w a known.1 seen (subst (λ y. field_at graph o i ≡ Some y) parts.1
       field) (named_is_needed (shapes.needs graph (vals.Ref o) u) i a parts.0))
 

@@ -25,11 +25,11 @@ use Rattle.om_typing.specs.StepLaws.{AreApart, key_of, AreEntries, steps_of}
 -- ---- sums over lists whose elements are apart
 
 -- no element is among those after it
-abbrev Distinct : {X : Type 0} → List X → Type 0
+abbrev pub Distinct : {X : Type 0} → List X → Type 0
 Distinct [] = Unit {0}
 Distinct (x ∷ xs) = (¬ Contains xs x) × Distinct xs
 
-distinct : {X : Type 0} (xs : List X) → AreApart xs → Distinct xs
+pub distinct : {X : Type 0} (xs : List X) → AreApart xs → Distinct xs
 distinct [] apart = tt
 distinct (x ∷ xs) apart = (
   λ among. let p = Contains-place xs x among in let e : 0 ≡ suc p.0 = apart 0 (suc p.0) x refl p.1 in omega arith,

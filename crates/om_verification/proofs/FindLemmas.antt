@@ -8,12 +8,12 @@ use Rattle.om_outcome.specs.declared.stop.Stop.TheVariants.{Certificate as certi
 use Rattle.om_promises.specs.Commands.{Fetches}
 use Rattle.om_promises.specs.Lawful.{IsOnce, IsInner, FailsAtFile, AreInTurns}
 use Rattle.om_promises.specs.LawfulLanguage.{IsGiven, IsLawful}
-use Rattle.om_promises.proofs.ExampleLemmas.{reads_once}
+use Rattle.om_promises.proofs.ExampleLemmas.{reads_once, none_later}
 use Rattle.om_promises.proofs.OnceLemmas.{Then_once}
 use Rattle.om_commands.specs.Tasks.{by_turns}
 use Rattle.om_commands.proofs.FindLemmas.{refusal_once, IsRead, file_read, then_read, type_once, type_by, type_read, ComesOf, type_inside}
 use Rattle.om_commands.proofs.GivenLemmas.{type_given}
-use Rattle.om_commands.proofs.TurnLemmas.{not_after, not_between, is_before, file_whole}
+use Rattle.om_commands.proofs.TurnLemmas.{not_between, is_before, file_whole}
 use Rattle.om_verification.specs.Verification.{Shown, Verification, Asked, typed_of, verified_by, ReadsSections, ReadsCertificateOf, WantedIn, VerifiesBy, Wants, Finds, verifying}
 
 -- the words ask for one verification
@@ -253,7 +253,7 @@ module _ {D T E S : Type 0} (language : Language D T E) (Reads : ReadsSections S
       → Wants language Reads ShownBy request files later other
       → (bytes : List ℕ) × (files turn name ≡ opened (whole bytes))
   after_read request files turn later name other less (asked, is, h) (asked', is', inl (now, e)) =
-      absurd (not_after turn later less now)
+      absurd (none_later turn later less now)
   after_read request files turn later name other less (asked, is, inr (now, e, type, reads)) (asked', is', inr (now', e', type', reads')) =
       absurd (not_between turn later less now now')
   after_read request files turn later name other less (asked, is, inl (now, e)) (asked', is', inr (now', e', type, reads)) =

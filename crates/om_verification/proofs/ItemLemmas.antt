@@ -41,12 +41,6 @@ module _ {T S : Type 0} (ShownBy : T → S → Tree → Shown → Type 0) (a : V
       inr (refused_stays a.limit (length items) bytes later stop h)
 
   module _ {D E : Type 0} (language : Language D T E) (Reads : ReadsSections S) where
-    pub item_stays :
-        (bytes : List ℕ) (item : Item) (more later : List ℕ)
-        → IsFirstValue language a.limit bytes item more
-        → IsFirstValue language a.limit (bytes ++ later) item (more ++ later)
-    item_stays bytes item more later h = first_stays language a.limit bytes item more later h
-
     module _ (items : List Item) (rest : List ℕ) (are_bytes : AreBytes rest) (end : End)
         (tail : IsTail a.limit rest end)
         (fine : (refusal : ReadRefusal) → end ≡ refused refusal → ⊥) where

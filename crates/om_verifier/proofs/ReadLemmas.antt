@@ -27,7 +27,8 @@ use Rattle.om_declared.specs.declared.requested.Prepared.{Prepared}
 use Rattle.om_declared.specs.Language.{TypeOver, declared_types}
 use Rattle.om_declared.specs.Types.{type_over}
 use Rattle.om_verification.specs.Verification.{Shown, shows, rejects, Verification, SaysOf, IsShown, IsUncertified, StopsHere}
-use Rattle.om_verification.proofs.ItemLemmas.{item_stays, stop_stays, goes_on}
+use Rattle.om_commands.proofs.ItemLemmas.{first_stays}
+use Rattle.om_verification.proofs.ItemLemmas.{stop_stays, goes_on}
 use Rattle.om_verifier.specs.Shown.{IsShownAt, reads_sections, declared_sections}
 use Rattle.om_verifier.specs.Judged.{IsShownBy, IsUncertifiedBy, PutsShown}
 use Rattle.om_verifier.specs.Reading.{on_certificates, certified, HasRead, IsValueRead, StopsNext, PutsNext}
@@ -40,7 +41,7 @@ has_values r all limit =
     let a = certified r all limit in record {
       value_first = λ items bytes item more h. h;
       first_value = λ items bytes item more h. h;
-      stay = λ items. item_stays declared_sections a declared_types reads_sections;
+      stay = λ items. first_stays declared_types limit;
       goes_on = goes_on declared_sections a declared_types reads_sections;
       refuses = λ items bytes stop h. inr h;
       cuts = λ items bytes n tail. (cut n, tail, refl);

@@ -1,8 +1,9 @@
 -- What is said of items, gathered and put at once: where out fails, it fails in the text of one item.
-use Rattle.std.proofs.Common.{◌≡◌, ◌⊎◌, ℕ, zero, suc, ◌+◌, ◌-◌, ◌<◌, ◌≤◌, List, [], ◌∷◌, ◌++◌, length, take, drop, Option, Some, None, Result, Ok, Err, inl, inr, refl, sym, ap, ◌∙◌, subst, append_assoc, append-nil, length-append, arith}
+use Rattle.std.proofs.Common.{◌≡◌, ◌⊎◌, ℕ, ◌+◌, ◌-◌, ◌<◌, ◌≤◌, List, [], ◌∷◌, ◌++◌, length, take, drop, Option, Some, None, Result, Ok, Err, inl, inr, refl, sym, ap, ◌∙◌, subst, append_assoc, append-nil, length-append, arith}
 use Rattle.std.proofs.Math.Seq.{take-add, take-append-add}
 use Rattle.std.proofs.lemmas.List.{take-append-drop, take-append-le}
 use Rattle.std.specs.Prelude.{IsErrAnd, true, false, is_some}
+use Rattle.std.proofs.lemmas.Bool.{cases_lt}
 use Rattle.om_outcome.specs.Outcome.{Said, texts_of}
 use Rattle.om_outcome.specs.declared.stop.Stop.{Stop}
 use Rattle.om_outcome.specs.declared.stop.Stop.TheVariants.{Memory as out_of_memory}
@@ -40,14 +41,6 @@ pub record FailsIn (out : Change ByteState) (more : List Said) : Type 0 where
   pub between : ByteState
   pub put : Puts (change out.before between) (texts_of first)
   pub part : PutsPart (change between out.after) next.text
-
-less_or : (m n : ℕ) → (m < n) ⊎ (n ≤ m)
-less_or m zero = inr (omega arith)
-less_or zero (suc n) = inl (omega arith)
-less_or (suc m) (suc n) = elim (less_or m n) [
-  | inl less ↦ inl (omega (arith, less))
-  | inr more ↦ inr (omega (arith, more))
-]
 
 module _ (q : ByteState) (faults : ℕ) (cause : HasCause faults q.faults true) where
   abbrev from : Option (List ℕ) → Change ByteState
@@ -134,7 +127,7 @@ module _ (q : ByteState) (faults : ℕ) (cause : HasCause faults q.faults true) 
         → Came before more n → FailsIn (from (Some before)) more
     fails_told before [] n few is = absurd (omega (arith, few))
     fails_told before (said ∷ more) n few is =
-        elim (less_or n (length said.text)) [
+        elim (cases_lt n (length said.text)) [
           | inl less ↦ told_here before said more n less is
           | inr all ↦
               told_there before said more n all few is

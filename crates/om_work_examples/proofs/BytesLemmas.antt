@@ -1,5 +1,5 @@
 -- The command that takes bytes.
-use Rattle.std.proofs.Common.{◌≡◌, ◌≢◌, ℕ, ◌+◌, ◌<◌, ◌≤◌, true, List, [], ◌∷◌, ◌++◌, length, get_or, take, Ok, inl, inr, refl, sym, ap, ◌∙◌, subst, length-append, arith}
+use Rattle.std.proofs.Common.{◌≡◌, ◌≢◌, ℕ, ◌+◌, ◌<◌, ◌≤◌, true, List, [], ◌∷◌, ◌++◌, length, get_or, Ok, inl, inr, refl, sym, ap, ◌∙◌, subst, length-append, arith}
 use Rattle.std.specs.Prelude.{◌&&◌}
 use Rattle.om_model.specs.declared.refusal.ReadRefusal.TheVariants.{Compressed}
 use Rattle.om_outcome.specs.Outcome.{Said, nothing_said, all_well}
@@ -12,6 +12,7 @@ use Rattle.om_stops.specs.declared.stop.Halt.TheVariants as halts
 use Rattle.om_stops.specs.Stops.{IsStopOf}
 use Rattle.om_promises.specs.Account.{HoldNoStop}
 use Rattle.om_promises.specs.Commands.{Item, text, Cut, SaysFirst}
+use Rattle.om_promises.proofs.LengthLemmas.{front_byte}
 use Rattle.om_promises.proofs.PutLemmas.{puts_nothing}
 use Rattle.om_promises.proofs.ValueLemmas.{all_well-snoc}
 use Rattle.om_work.specs.Works.{ItemsStay, HaltsIn, Feeds, PutsLast}
@@ -110,13 +111,6 @@ module _ (refused count : ℕ) (bytes : List ℕ) (said : List Said)
       puts_nothing o,
     ),
   )
-
--- bytes begin with their first
-pub front_byte :
-    (bytes : List ℕ) → 0 < length bytes
-    → (more : List ℕ) × (bytes ≡ get_or bytes 0 0 ∷ more) × (take 1 bytes ≡ get_or bytes 0 0 ∷ [])
-front_byte [] some = absurd (omega arith)
-front_byte (b ∷ more) some = (more, refl, refl)
 
 pub byte_feeds :
     (refused count : ℕ) (in_hand : List ℕ) (o q : ByteState) → 0 < length in_hand

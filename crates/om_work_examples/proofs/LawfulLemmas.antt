@@ -1,8 +1,9 @@
 -- The small commands are lawful, whatever they are to do.
-use Rattle.std.proofs.Common.{◌≡◌, ℕ, List, [], ◌∷◌, ◌++◌, refl, sym, ap, ◌∙◌, subst, append_assoc, length-append, arith}
+use Rattle.std.proofs.Common.{◌≡◌, ℕ, List, [], ◌∷◌, ◌++◌, sym, ap, ◌∙◌, subst, append_assoc, length-append, arith}
 use Rattle.om_promises.specs.Commands.{text}
 use Rattle.om_promises.specs.Lawful.{IsInner, AreLawfulAt}
-use Rattle.om_work_examples.specs.Small.{IsUnbroken, fine, telling, lines, bytes_but}
+use Rattle.om_promises.proofs.LineLemmas.{same_line}
+use Rattle.om_work_examples.specs.Small.{fine, telling, lines, bytes_but}
 use Rattle.om_work_examples.proofs.BytesLemmas.{bytes_stay}
 use Rattle.om_work_examples.proofs.LinesLemmas.{lines_stay}
 
@@ -44,25 +45,10 @@ bytes_lawful a = record {
       let byte : h.0 ≡ a = cc (is, same) in h.1 byte;
 }
 
--- the first line feed ends the line
-line_once :
-    (line other more rest : List ℕ) → IsUnbroken line → IsUnbroken other
-    → line ++ 10 ∷ more ≡ other ++ 10 ∷ rest → (line ≡ other) × (more ≡ rest)
-line_once [] [] more rest one two same = (refl, cc same)
-line_once [] (b ∷ other) more rest one (is, two) same =
-    let feed : b ≡ 10 = cc same in absurd (is feed)
-line_once (b ∷ line) [] more rest (is, one) two same =
-    let feed : b ≡ 10 = cc same in absurd (is feed)
-line_once (b ∷ line) (d ∷ other) more rest (is, one) (is', two) same =
-    let byte : b ≡ d = cc same in
-    let tail : line ++ 10 ∷ more ≡ other ++ 10 ∷ rest = cc same in
-    let next = line_once line other more rest one two tail in
-    (ap (λ b. b ∷ line) byte ∙ ap (λ l. d ∷ l) next.0, next.1)
-
 pub lines_lawful : (a : Unit {0}) → AreLawfulAt lines a
 lines_lawful a = record {
   first_once = λ items bytes are_bytes item other more rest h k.
-      let one = line_once h.line k.line more rest h.unbroken k.unbroken
+      let one = same_line h.line k.line more rest h.unbroken k.unbroken
       (sym h.bytes_are ∙ k.bytes_are) in
       (h.is ∙ (ap (λ l. text l) one.0 ∙ sym k.is), one.1);
   says_once = λ items item said other h k.

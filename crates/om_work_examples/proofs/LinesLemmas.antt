@@ -8,18 +8,14 @@ use Rattle.om_edge.specs.State.{ByteState, change}
 use Rattle.om_stops.specs.declared.stop.Halt.TheVariants as halts
 use Rattle.om_promises.specs.Account.{HoldNoStop}
 use Rattle.om_promises.specs.Commands.{text, SaysFirst}
+use Rattle.om_promises.proofs.LengthLemmas.{front_byte}
+use Rattle.om_promises.proofs.LineLemmas.{broken}
 use Rattle.om_promises.proofs.PutLemmas.{puts_nothing}
 use Rattle.om_promises.proofs.ValueLemmas.{texts_of-one, all_well-snoc}
 use Rattle.om_work.specs.Works.{ItemsStay, HaltsIn, Feeds, PutsLast}
 use Rattle.om_work.proofs.FirstLemmas.{first_stays, first_next}
-use Rattle.om_work_examples.proofs.BytesLemmas.{front_byte}
 use Rattle.om_work_examples.specs.Small.{IsUnbroken, fine, last_line, lines}
 use Rattle.om_work_examples.specs.Taken.{HasLines}
-
--- a line feed among bytes breaks them
-pub broken : (line more : List ℕ) → IsUnbroken (line ++ 10 ∷ more) → ⊥
-broken [] more (other, rest) = other refl
-broken (b ∷ line) more (other, rest) = broken line more rest
 
 unbroken_next : (line : List ℕ) (b : ℕ) → IsUnbroken line → b ≢ 10 → IsUnbroken (line ++ b ∷ [])
 unbroken_next [] b all other = (other, tt)

@@ -1,6 +1,6 @@
 -- Two lists of trees one after the other.
 use Rattle.std.proofs.Common.{ℕ, ◌≡◌, ◌+◌, ◌∙◌, ◌∷◌, ◌++◌, refl, sym, ap, arith, append_assoc, add-zero}
-use Rattle.om_format.specs.Tree.{Forest, none, more, tokens, forest_tokens, trees_in, AreTrees, made, all_made, AllReferBack, root, roots, objects_of, all_objects}
+use Rattle.om_format.specs.Tree.{Forest, none, more, tokens, forest_tokens, AreTrees, made, all_made, AllReferBack, root, roots, objects_of, all_objects}
 
 abbrev pub join : Forest → Forest → Forest
 join none g = g
@@ -33,8 +33,3 @@ objects-join (more t f) g c =
     rw place
     (ap (λ os. objects_of t c ++ os) (objects-join f g (c + made t))
     ∙ sym (append_assoc (objects_of t c) (all_objects f (c + made t)) (all_objects g (c + made t + all_made f))))
-
--- no trees
-pub none_from_count : (f : Forest) → trees_in f ≡ 0 → f ≡ none
-none_from_count none e = refl
-none_from_count (more t f) e = absurd (omega arith)

@@ -17,6 +17,7 @@ use Rattle.om_heap.specs.declared.Kind.TheVariants as kinds
 use Rattle.om_heap.proofs.ReadLemmas.{word_of-inj}
 use Rattle.om_write.specs.Step.{object_token}
 use Rattle.om_write.specs.Walking.{IsFrame, IsOuter, Takes, fields_left, left_in}
+use Rattle.om_write.proofs.EndLemmas.{no_list}
 use Rattle.om_write.proofs.WalkLemmas.{drop_next}
 use Rattle.om_write.specs.declared.walk.Frame.{Frame}
 
@@ -32,9 +33,6 @@ pub record IsTaken (g : List Obj) (frame new : Frame) (word : ℕ) : Type 0 wher
   pub valid : IsValue (length g) value
   pub word_is : word ≡ word_of g value
   pub is_frame : IsFrame g new
-
-no_list : {X : Type 0} (x : X) (xs : List X) → x ∷ xs ≡ [] → ⊥
-no_list x xs is = cc
 
 first_same : {X : Type 0} (x y : X) (xs ys : List X) → x ∷ xs ≡ y ∷ ys → (x ≡ y) × (xs ≡ ys)
 first_same x y xs ys is = (cc, cc)

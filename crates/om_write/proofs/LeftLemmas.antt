@@ -17,12 +17,12 @@ use Rattle.om_format.specs.Iso.{AreAlike, AreAlikeObjects}
 use Rattle.om_format.proofs.Counts.{leaf_fields, length-object_of, length-roots}
 use Rattle.om_canonical.specs.Numbering.{numbered, Shows, IsNumbering}
 use Rattle.om_canonical.proofs.ListLemmas.{AllZip-append, AllZip-at}
-use Rattle.om_canonical.proofs.SameTree.{made_by_leaf}
+use Rattle.om_canonical.proofs.SameTree.{made_by_leaf, no_block_is_alike_leaf, none_from_count}
 use Rattle.om_canonical.proofs.Walk.{at_numbered}
 use Rattle.om_heap.specs.Heap.{object_at, fields_of}
 use Rattle.om_write.specs.Step.{object_token}
 use Rattle.om_write.specs.Walking.{AreMarked, AreLeft}
-use Rattle.om_write.proofs.ForestLemmas.{join, tokens-join, AreTrees-join, back-join, roots-join, objects-join, none_from_count}
+use Rattle.om_write.proofs.ForestLemmas.{join, tokens-join, AreTrees-join, back-join, roots-join, objects-join}
 
 -- ---- into the first tree
 
@@ -134,12 +134,8 @@ record IsLeafOf (a o : Obj) : Type 0 where
   token : object_token a ≡ leaf o
   fields : fields_of a ≡ []
 
-no_block : (pairs : List (ℕ × ℕ)) (tag : ℕ) (values : List Val) (o : Obj) → IsLeaf o → AreAlikeObjects pairs (objects.Block tag values) o → ⊥
-no_block pairs tag values (objects.Block tag' values') h alike = h
-no_block pairs tag values o h alike = alike
-
 alike_leaf : (pairs : List (ℕ × ℕ)) (a o : Obj) → IsLeaf o → AreAlikeObjects pairs a o → IsLeafOf a o
-alike_leaf pairs (objects.Block tag values) o h alike = absurd (no_block pairs tag values o h alike)
+alike_leaf pairs (objects.Block tag values) o h alike = absurd (no_block_is_alike_leaf pairs tag values o h alike)
 alike_leaf pairs (objects.Bytes bytes) o h alike = record { token = ap leaf alike; fields = refl }
 alike_leaf pairs (objects.Double bits) o h alike = record { token = ap leaf alike; fields = refl }
 alike_leaf pairs (objects.Doubles all) o h alike = record { token = ap leaf alike; fields = refl }

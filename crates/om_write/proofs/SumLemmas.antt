@@ -1,9 +1,10 @@
 -- The numbers of a header, token by token.
-use Rattle.std.proofs.Common.{ℕ, zero, suc, ◌≡◌, ◌+◌, ◌*◌, ◌-◌, ◌<◌, ◌≤◌, ◌^◌, ◌∙◌, Bool, true, false, ◌||◌, leb, leb-false, List, [], ◌∷◌, ◌++◌, length, map, take, drop, Some, refl, sym, ap, subst, arith, length-append, append-nil}
+use Rattle.std.proofs.Common.{ℕ, zero, suc, ◌≡◌, ◌+◌, ◌*◌, ◌-◌, ◌<◌, ◌≤◌, ◌^◌, ◌∙◌, ◌||◌, leb, leb-false, List, [], ◌∷◌, ◌++◌, length, map, take, drop, Some, refl, sym, ap, subst, arith, length-append, append-nil}
 use Rattle.std.specs.Prelude.{slice_get, sum_by, flat_map}
 use Rattle.std.proofs.lemmas.List.{map-append, take-append-drop}
 use Rattle.std.proofs.Math.Seq.{take-length}
 use Rattle.std.proofs.lemmas.List.Sums.{sum_by-append, sum_by-cons}
+use Rattle.std.proofs.lemmas.Bool.{or_parts}
 use Rattle.om_model.specs.declared.code.Measure.{Measure}
 use Rattle.om_model.specs.declared.code.Measure.TheVariants as measures
 use Rattle.om_model.specs.declared.value.Obj.{Obj}
@@ -132,18 +133,14 @@ doubles_totals o all front n is many first =
 
 -- ---- the header
 
-or_false : (a b : Bool) → (a || b) ≡ false → (a ≡ false) × (b ≡ false)
-or_false true b e = absurd (cc)
-or_false false b e = (refl, e)
-
 -- each number of a header that is not big has four bytes
 pub canonical_fits : (ts : List Token) → FitsSmall (canonical_head ts)
 canonical_fits ts small =
     let n = length (data_spelling ts) in
     let w32 = all_words32 (map measure_of ts) in
     let w64 = all_words64 (map measure_of ts) in
-    let parts = or_false (leb (2 ^ 32) n) (leb (2 ^ 32) w32 || leb (2 ^ 32) w64) small in
-    let words = or_false (leb (2 ^ 32) w32) (leb (2 ^ 32) w64) parts.1 in
+    let parts = or_parts (leb (2 ^ 32) n) (leb (2 ^ 32) w32 || leb (2 ^ 32) w64) small in
+    let words = or_parts (leb (2 ^ 32) w32) (leb (2 ^ 32) w64) parts.1 in
     let few : w64 < 2 ^ 32 = leb-false (2 ^ 32) w64 words.1 in record {
       length = leb-false (2 ^ 32) n parts.0;
       objects = omega (arith, few_objects ts);

@@ -1,7 +1,8 @@
 -- A text that goes to a sink through a buffer.
-use Rattle.std.proofs.Common.{ℕ, zero, suc, drop, get_or, ◌≡◌, ◌+◌, ◌<◌, ◌≤◌, ◌∙◌, true, false, List, [], ◌∷◌, ◌++◌, length, take, Option, Some, None, Ok, Err, Result, refl, sym, ap, subst, arith, append_assoc, append-nil, length-append}
+use Rattle.std.proofs.Common.{ℕ, drop, get_or, ◌≡◌, ◌+◌, ◌<◌, ◌∙◌, List, [], ◌∷◌, ◌++◌, length, take, Option, Some, None, Ok, Err, Result, refl, sym, ap, subst, arith, append_assoc, append-nil}
 use Rattle.std.specs.Prelude.{IfSome, IsErr, OnOk, MatchResult, flat_map, slice_get}
-use Rattle.std.proofs.lemmas.List.{take-append-le, take-append-drop}
+use Rattle.std.proofs.lemmas.List.{take-append-drop, take_more}
+use Rattle.std.proofs.Math.Seq.{take-append-add}
 use Rattle.std.proofs.lemmas.List.Concat.{flat_map-append}
 use Rattle.std.proofs.lemmas.Result.{MatchResult-from_err}
 use Rattle.om_model.specs.declared.value.Obj.{Obj}
@@ -11,54 +12,10 @@ use Rattle.om_format.specs.Tree.{Tree, tokens}
 use Rattle.om_format.specs.Token.{Token}
 use Rattle.om_heap.specs.Heap.{doubles_of}
 use Rattle.om_edge.specs.State.{ByteState, change}
-use Rattle.om_edge.specs.Faults.{HasCause}
-use Rattle.om_edge.specs.Sink.{Puts, PutsPart, AppendsPart}
+use Rattle.om_edge.specs.Sink.{Puts, PutsPart}
+use Rattle.om_edge.proofs.PutsLemmas.{puts_puts, puts_part, part_more}
 use Rattle.om_write.proofs.SumLemmas.{take_one}
 use Rattle.om_write.specs.Text.{Carries, AddsAll, AddsPart, Adds}
-
--- ---- puts one after another
-
-appended_twice : (x y z : Option (List ℕ)) (p q : List ℕ) → IfSome x (λ b. y ≡ Some (b ++ p)) → IfSome y (λ b. z ≡ Some (b ++ q)) → IfSome x (λ b. z ≡ Some (b ++ (p ++ q)))
-appended_twice None y z p q first second = tt
-appended_twice (Some b) y z p q first second =
-    let r : z ≡ Some ((b ++ p) ++ q) = subst (λ o. IfSome o (λ b. z ≡ Some (b ++ q))) first second in
-    r ∙ ap Some (append_assoc b p q)
-
-take_over : (p q : List ℕ) (n : ℕ) → take (length p + n) (p ++ q) ≡ p ++ take n q
-take_over [] q n = ap (λ m. take m q) (omega arith)
-take_over (x ∷ p) q n = let place : suc (length p) + n ≡ suc (length p + n) = omega arith in rw place (ap (λ t. x ∷ t) (take_over p q n))
-
-part_after : (x y z : Option (List ℕ)) (p q : List ℕ) → IfSome x (λ b. y ≡ Some (b ++ p)) → IfSome y (λ b. AppendsPart b q z) → IfSome x (λ b. AppendsPart b (p ++ q) z)
-part_after None y z p q first second = tt
-part_after (Some b) y z p q first second =
-    let r : AppendsPart (b ++ p) q z = subst (λ o. IfSome o (λ b. AppendsPart b q z)) first second in
-    let front : take (length p + r.0) (p ++ q) ≡ p ++ take r.0 q = take_over p q r.0 in
-    (length p + r.0, omega (arith, length-append p q, r.1), r.2 ∙ ap Some (append_assoc b p (take r.0 q) ∙ ap (λ t. b ++ t) (sym front)))
-
-part_longer : (x z : Option (List ℕ)) (p q : List ℕ) → IfSome x (λ b. AppendsPart b p z) → IfSome x (λ b. AppendsPart b (p ++ q) z)
-part_longer None z p q part = tt
-part_longer (Some b) z p q part =
-    let few : part.0 ≤ length p = omega (arith, part.1) in
-    let front : take part.0 (p ++ q) ≡ take part.0 p = take-append-le part.0 p q few in
-    (part.0, omega (arith, length-append p q, part.1), part.2 ∙ ap (λ t. Some (b ++ t)) (sym front))
-
-puts_puts : (a b c : ByteState) (p q : List ℕ) → Puts (change a b) p → Puts (change b c) q → Puts (change a c) (p ++ q)
-puts_puts a b c p q first second = record {
-  appended = appended_twice a.bytes b.bytes c.bytes p q first.appended second.appended;
-  told = second.told ∙ first.told;
-  cause = subst (λ n. HasCause n c.faults false) first.cause.kept second.cause;
-}
-
-puts_part : (a b c : ByteState) (p q : List ℕ) → Puts (change a b) p → PutsPart (change b c) q → PutsPart (change a c) (p ++ q)
-puts_part a b c p q first second = record {
-  appended = part_after a.bytes b.bytes c.bytes p q first.appended second.appended;
-  told = second.told ∙ first.told;
-  cause = subst (λ n. HasCause n c.faults true) first.cause.kept second.cause;
-}
-
--- a part of a text is a part of each longer one
-pub part_more : (a c : ByteState) (p q : List ℕ) → PutsPart (change a c) p → PutsPart (change a c) (p ++ q)
-part_more a c p q part = record { appended = part_longer a.bytes c.bytes p q part.appended; told = part.told; cause = part.cause }
 
 -- ---- the text
 
@@ -92,7 +49,7 @@ flush_failed old new buffer part before text carries =
 pub adds_first : (a b : ByteState) (x y z piece : List ℕ) (n : ℕ) → AddsAll a b x y [] → z ≡ take (length y + n) (y ++ piece) → AddsAll a b x z (take n piece)
 adds_first a b x y z piece n first is before text carries =
     let r = first before text carries in
-    let end : z ≡ y ++ take n piece = is ∙ take_over y piece n in record {
+    let end : z ≡ y ++ take n piece = is ∙ take-append-add y piece n in record {
       front = r.front;
       whole = ap (λ t. r.front ++ t) end ∙ sym (append_assoc r.front y (take n piece)) ∙ ap (λ t. t ++ take n piece) (r.whole ∙ append-nil text);
       puts = r.puts;
@@ -122,15 +79,10 @@ adds_then a b c x y z p q (Err failed) first second = adds_then_part a b c x y p
 
 -- ---- a content, element by element
 
-take_more : (xs : List ℕ) (i : ℕ) → i < length xs → take (i + 1) xs ≡ take i xs ++ get_or xs i 0 ∷ []
-take_more [] i inside = absurd (omega arith)
-take_more (x ∷ xs) zero inside = refl
-take_more (x ∷ xs) (suc i) inside = let place : suc i + 1 ≡ suc (i + 1) = omega arith in rw place (ap (λ ys. x ∷ ys) (take_more xs i (omega arith)))
-
 -- what an element adds to the text of the elements before it
 text_more : (f : ℕ → List ℕ) (xs : List ℕ) (i : ℕ) → i < length xs → flat_map f (take (i + 1) xs) ≡ flat_map f (take i xs) ++ f (get_or xs i 0)
 text_more f xs i inside =
-    ap (flat_map f) (take_more xs i inside) ∙ flat_map-append f (take i xs) (get_or xs i 0 ∷ [])
+    ap (flat_map f) (take_more xs i 0 inside) ∙ flat_map-append f (take i xs) (get_or xs i 0 ∷ [])
     ∙ ap (λ t. flat_map f (take i xs) ++ t) (append-nil (f (get_or xs i 0)))
 
 text_split : (f : ℕ → List ℕ) (xs : List ℕ) (i : ℕ) → flat_map f (take i xs) ++ flat_map f (drop i xs) ≡ flat_map f xs

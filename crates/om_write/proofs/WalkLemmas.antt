@@ -6,6 +6,7 @@ use Rattle.std.proofs.lemmas.List.{length-replicate, drop_all}
 use Rattle.std.proofs.lemmas.List.Elements.{All-nil}
 use Rattle.std.proofs.lemmas.Option.{same_Some, slice_get_within}
 use Rattle.std.proofs.lemmas.Slice.Zip.{AllZip-long}
+use Rattle.om_model.proofs.Lists.{slice_index-zeros}
 use Rattle.om_model.proofs.Options.{same_or_not}
 use Rattle.om_model.specs.declared.value.Val.{Val}
 use Rattle.om_model.specs.declared.value.Val.TheVariants as vals
@@ -55,16 +56,11 @@ mark_more g ks c k marks distinct at_c inside marked =
       ];
     }
 
-zero_at : (n k : ℕ) → slice_index (replicate n 0) k ≡ 0
-zero_at zero k = refl
-zero_at (suc n) zero = refl
-zero_at (suc n) (suc k) = zero_at n k
-
 no_marks : (g : List Obj) (ks : List ℕ) → AreMarked g ks 0 (replicate (length g) 0)
 no_marks g ks = record {
   size = length-replicate (length g) 0;
   found = λ i k less is. absurd (omega arith);
-  named = λ i k is. absurd (omega (arith, zero_at (length g) k));
+  named = λ i k is. absurd (omega (arith, slice_index-zeros (length g) k));
 }
 
 -- a mark tells an earlier object

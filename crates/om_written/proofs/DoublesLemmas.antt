@@ -12,12 +12,9 @@ use Rattle.om_format.specs.Token.{leaf}
 use Rattle.om_format.specs.Canonical.{double_bytes, doubles_front}
 use Rattle.om_written.specs.Written.{BeginsWritten}
 use Rattle.om_written.proofs.WrittenLemmas.{take_two}
+use Rattle.om_canonical.proofs.ByteLemmas.{byte_at-is}
 
 -- ---- one
-
-byte_is : (i n : ℕ) → byte_at i n ≡ n / 256 ^ i % 256
-byte_is zero n = let e : n / 1 ≡ n = omega arith in sym (ap (λ m. m % 256) e)
-byte_is (suc i) n = refl
 
 -- a digit, and then the others
 next_low : (i b n : ℕ) → b < 256 → byte_at (suc i) (b + 256 * n) ≡ byte_at i n
@@ -25,7 +22,7 @@ next_low i b n small =
     let one : (b + 256 * n) / 256 ≡ n = omega arith in
     ap (λ m. (b + 256 * n) / m % 256) (pow-suc 256 i ∙ mul_comm (256 ^ i) 256)
     ∙ ap (λ q. q % 256) (sym (div-div-eq-div-mul (b + 256 * n) 256 (256 ^ i)) ∙ ap (λ q. q / 256 ^ i) one)
-    ∙ sym (byte_is i n)
+    ∙ sym (byte_at-is i n)
 
 lows_next : (i k b n : ℕ) → b < 256 → bytes_low_first (suc i) k (b + 256 * n) ≡ bytes_low_first i k n
 lows_next i zero b n small = refl

@@ -21,6 +21,7 @@ use Rattle.om_format.proofs.SpellLemmas.{IsRaw-spelled, Spells-same}
 use Rattle.om_format.proofs.SpellValues.{some_bytes}
 use Rattle.om_format.proofs.TokenStepLemmas.{header_length-from}
 use Rattle.om_canonical.proofs.SpellingLemmas.{spelling_spells_lem}
+use Rattle.om_canonical.proofs.CanonLemmas.{concat-spellings}
 use Rattle.om_headers.specs.Spelling.{HasSmallNumbers}
 use Rattle.om_written.specs.Written.{CanBeSpelled, StandsFirst, BeginsWritten, AreSpelled, AreWritten, AreBare, IsOwnHeader, IsAsWritten}
 
@@ -54,10 +55,6 @@ spelled_each [] each = tt
 spelled_each (t ∷ ts) each =
     let first : CanBeSpelled t = All-head CanBeSpelled t ts each in
     (spelling_spells_lem t first.0 first.1, spelled_each ts (All-tail CanBeSpelled t ts each))
-
-concat_spellings : (ts : List Token) → concat (map spelling ts) ≡ data_spelling ts
-concat_spellings [] = refl
-concat_spellings (t ∷ ts) = ap (λ rest. spelling t ++ rest) (concat_spellings ts)
 
 -- ---- one token more
 
@@ -222,7 +219,7 @@ as_written bytes header data' stated ts are long own spelled count limit tree s 
     let twenty : header_length s.header ≡ 20 = ap (λ m. cond (m == big_magic) 32 20) same_magic in
     let same : header ≡ s.header = same_front header s.header data' (concat s.pieces) (omega (arith, long, twenty, whole)) both in
     let rest : data' ≡ concat s.pieces = append_cancel_left header data' (concat s.pieces) (both ∙ ap (λ h. h ++ concat s.pieces) (sym same)) in
-    let tokens_are : ts ≡ all = same_tokens ts all (map spelling ts) s.pieces (spelled_each ts spelled.spellable) s.spells.spells (concat_spellings ts ∙ spelled.spelled ∙ rest) in
+    let tokens_are : ts ≡ all = same_tokens ts all (map spelling ts) s.pieces (spelled_each ts spelled.spellable) s.spells.spells (concat-spellings ts ∙ spelled.spelled ∙ rest) in
     let data_is : data_spelling all ≡ data' = ap data_spelling (sym tokens_are) ∙ spelled.spelled in
     let heads : head_of s.header ≡ head_of header = ap head_of (sym same) in
     let states : States (head_of header) all = subst (λ h. States h all) heads s.spells.states in

@@ -1,5 +1,6 @@
 use Rattle.std.proofs.Common.{◌<◌, ◌≡◌, ◌∙◌, length, Some, sym, ap, subst, arith}
 use Rattle.std.proofs.lemmas.Option.{same_Some}
+use Rattle.std.proofs.lemmas.Bool.{OnTrue_from}
 use Rattle.om_model.specs.declared.value.Val.TheVariants as vals
 use Rattle.om_type_table.specs.Made.{table_of}
 use Rattle.om_heap.specs.Heap.{field_at, word_of}
@@ -9,7 +10,7 @@ use Rattle.om_scan.proofs.NeedLemmas.{need_field, need_node}
 use Rattle.om_scan.proofs.PathLemmas.{need_path}
 use Rattle.om_scan.proofs.PlaceLemmas.{read_at}
 use Rattle.om_check.specs.Settled.{Finds}
-use Rattle.om_check.proofs.SettleLemmas.{when_true, even_word, finds_value, finds_first, finds_noted}
+use Rattle.om_check.proofs.SettleLemmas.{even_word, finds_value, finds_first, finds_noted}
 use Rattle.om_check.proofs.settle.settle_need.Goals as goal
 
 pub fits_type-requires-clause-word : goal.fits_type-requires-clause-word
@@ -36,7 +37,7 @@ returns-then-word-ne0 c =
     let short = need_field t graph c.args._object c.args._ty c.args._place c.args._field c.args.needed c.requires.object c.requires.need in
     let valid = field_valid graph c.args._object c.args._field c.requires.object short c.count-count.ensures.heap.is_graph in
     record {
-      finds = when_true c.fits_type.result _ (λ fits. finds_value t graph c.args.types.now c.args.seconds.now v c.args.needed c.requires.over
+      finds = OnTrue_from c.fits_type.result _ (λ fits. finds_value t graph c.args.types.now c.args.seconds.now v c.args.needed c.requires.over
           (λ o is. even_word graph c.args.word o c.if-word-ne0.true (c.requires.word ∙ ap (word_of graph) is))
           ((c.fits_type.ensures v valid c.requires.word).0 fits));
     }

@@ -1,14 +1,15 @@
 use Rattle.std.proofs.Common.{◌≡◌, ◌==◌, ◌<◌, ◌∷◌, [], take, sym, subst, arith}
 use Rattle.std.proofs.lemmas.List.{get_or-take, length-take}
+use Rattle.std.proofs.lemmas.Bool.{OnTrue_from}
 use Rattle.om_leaves.specs.Leaves.{escaped}
-use Rattle.om_leaves.proofs.EscapeLemmas.{all_plain, on_true, eq_zero}
+use Rattle.om_leaves.proofs.EscapeLemmas.{all_plain, eq_zero}
 use Rattle.om_leaves.proofs.escape.are_plain.Goals as goal
 
 pub returns : goal.returns
 returns c =
     let bytes = c.args.bytes.now in
     let k = c.args.k in
-    on_true (c.loop-i.others == 0) _
+    OnTrue_from (c.loop-i.others == 0) _
     (λ none. all_plain (escaped 34) (take k bytes) (λ j inside.
     let less : j < k = omega (arith, inside, length-take k bytes) in
     subst (λ b. escaped 34 b ≡ b ∷ []) (sym (get_or-take k bytes j 0 less))

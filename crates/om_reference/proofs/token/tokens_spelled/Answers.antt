@@ -3,7 +3,7 @@ use Rattle.std.proofs.lemmas.List.{take_more, map-append}
 use Rattle.std.specs.List.{AllZip}
 use Rattle.om_format.specs.Token.{Spells}
 use Rattle.om_reference.specs.Token.{token_of}
-use Rattle.om_format.proofs.ReadingLemmas.{AllZip-push}
+use Rattle.om_model.proofs.Lists.{AllZip-push}
 use Rattle.om_reference.proofs.TokenLemmas.{spelled_at}
 use Rattle.om_reference.proofs.token.tokens_spelled.Goals as goal
 

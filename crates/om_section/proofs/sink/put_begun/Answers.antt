@@ -2,8 +2,9 @@ use Rattle.std.proofs.Common.{ℕ, List, subst}
 use Rattle.std.specs.Prelude.{codes}
 use Rattle.om_edge.specs.State.{change}
 use Rattle.om_edge.specs.Sink.{PutsPart}
+use Rattle.om_edge.proofs.PutsLemmas.{part_more}
 use Rattle.om_section.specs.Putting.{PutsAll}
-use Rattle.om_section.proofs.SinkLemmas.{leaves_then, leaves_more, part_then, part_more, all_fails, all_then, whole_text}
+use Rattle.om_section.proofs.SinkLemmas.{leaves_then, leaves_more, part_then, all_fails, all_then, whole_text}
 use Rattle.om_section.proofs.sink.put_begun.Goals as goal
 
 pub returns-in_err-put_body : goal.returns-in_err-put_body

@@ -1,12 +1,13 @@
 use Rattle.std.proofs.Common.{[], refl, take}
-use Rattle.om_sweep.proofs.NextLemmas.{value_next, waits_next, refused_next, not_true}
+use Rattle.std.proofs.lemmas.Bool.{not-true}
+use Rattle.om_sweep.proofs.NextLemmas.{value_next, waits_next, refused_next}
 use Rattle.om_sweep.proofs.next.next_part.Goals as goal
 
 pub returns-then-not-fed : goal.returns-then-not-fed
 returns-then-not-fed c =
     waits_next c.args.limit c.args.at c.args.bytes.now c.args.text.now.items c.args.text.now.items
     c.feed.new.self c.in-Ok.fed (c.in-Ok.ensures.feeds c.args.limit [] c.new-reader.ensures.leads)
-    (not_true c.in-Ok.fed.done c.if-not-fed.true) refl
+    (not-true c.in-Ok.fed.done c.if-not-fed.true) refl
 
 pub returns-in-Err : goal.returns-in-Err
 returns-in-Err c =

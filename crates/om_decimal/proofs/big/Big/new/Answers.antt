@@ -1,10 +1,11 @@
 use Rattle.std.proofs.Common.{replicate}
 use native.Mathlib.Omega.{arith}
-use Rattle.om_decimal.proofs.LimbsLemmas.{number_below-zero, word_fits, zero_limbs}
+use Rattle.om_decimal.proofs.LimbsLemmas.{number_below-zero, word_fits}
 use Rattle.om_decimal.proofs.big.Big.new.Goals as goal
+use Rattle.om_model.proofs.Lists.{slice_index-zeros}
 
 pub invariant_of-big : goal.invariant_of-big
-invariant_of-big c = (omega arith, λ i h. zero_limbs 74 i)
+invariant_of-big c = (omega arith, λ i h. slice_index-zeros 74 i)
 
 pub mul_add-requires : goal.mul_add-requires
 mul_add-requires c = omega (arith, word_fits c.args.n c.ranges.n.fits, number_below-zero (replicate 74 0))

@@ -4,7 +4,8 @@ use Rattle.om_edge.specs.State.{change}
 use Rattle.om_promises.specs.Commands.{text as text_item}
 use Rattle.om_passing.specs.Skipping.{passed_said, skipping}
 use Rattle.om_passer.specs.Passing.{passed_of, HasPassed}
-use Rattle.om_passer.proofs.PassingLemmas.{front_byte, some_left, fed_at, stepped, step_fault, feeds_fault, puts_byte, puts_none}
+use Rattle.om_promises.proofs.LengthLemmas.{front_byte}
+use Rattle.om_passer.proofs.PassingLemmas.{some_left, fed_at, stepped, step_fault, feeds_fault, puts_byte, puts_none}
 use Rattle.om_passer.proofs.passing.PassingWork.feed.Goals.{then-self+in_ok-put_all, else-self}
 use Rattle.om_passer.proofs.passing.PassingWork.feed.Goals as goal
 

@@ -1,10 +1,11 @@
 use Rattle.std.proofs.Common.{take, ◌++◌, length-append, arith}
 use Rattle.std.proofs.lemmas.List.{length-take-le}
+use Rattle.std.proofs.lemmas.Bool.{not-true, not-false}
 use Rattle.om_edge.specs.State.{change}
 use Rattle.om_work.proofs.PieceLemmas.{feeds_halt}
 use Rattle.om_searching.specs.Searching.{searching}
 use Rattle.om_searcher.specs.Searched.{HasSearched}
-use Rattle.om_searcher.proofs.FeedLemmas.{is_true, is_false, fed_front, stretch_limit, err_limit, fed_stretch}
+use Rattle.om_searcher.proofs.FeedLemmas.{fed_front, stretch_limit, err_limit, fed_stretch}
 use Rattle.om_searcher.proofs.SearchLemmas.{memory_halts, next_halts}
 use Rattle.om_searcher.proofs.search.SearchingWork.feed.Goals as goal
 
@@ -31,7 +32,7 @@ returns-then-not-taken-clause-feeds g c = λ reads.
     let q = c.requires.has in
     fed_front g.S.Searches.limit_by w.limit w.held.items w.reader w.at c.args.in_hand.now
     c.in_ok-taken.taken n.limit n.held.items n.reader n.at (g.K.Sink.state c.args.out.now)
-    c.take_some.ensures.limit (is_false c.in_ok-taken.taken.decided c.if-not-taken.true)
+    c.take_some.ensures.limit (not-true c.in_ok-taken.taken.decided c.if-not-taken.true)
     c.in_ok-taken.ensures.takes (q.0, q.1, q.2)
 
 pub put_stretch-requires : goal.put_stretch-requires
@@ -46,7 +47,7 @@ put_stretch-requires g c =
       q.1,
       stretch_limit g.S.Searches.limit_by w.limit w.held.items w.reader w.at c.args.in_hand.now t
           n.limit n.held.items n.at all q.1 c.take_some.ensures.limit
-          (taken.3 (is_true t.decided c.if-not-taken.false)),
+          (taken.3 (not-false t.decided c.if-not-taken.false)),
       omega (
         arith,
         q.3,
@@ -71,7 +72,7 @@ returns-in_err-put_stretch-clause-feeds g c = λ reads.
     c.from_residual-in_err-put_stretch.result c.from_residual-in_err-put_stretch.ensures.1
     (λ bytes said h.
     let all = bytes ++ take t.bytes in_hand in
-    let stretch = (c.in_ok-taken.ensures.takes bytes said h).3 (is_true t.decided c.if-not-taken.false) in
+    let stretch = (c.in_ok-taken.ensures.takes bytes said h).3 (not-false t.decided c.if-not-taken.false) in
     next_halts g.S.Searches.limit_by w.limit w.held.items w.reader w.at bytes said h in_hand t.bytes
     out m.held.items m.reader m.at halt
     (err_limit g.S.Searches.limit_by w.limit w.held.items w.reader w.at in_hand t n.limit m.held.items
@@ -90,5 +91,5 @@ returns-clause-feeds g c = λ reads.
     c.in_ok-taken.taken n.limit n.held.items n.reader n.at m.limit m.held.items m.reader m.at
     (change (g.K.Sink.state c.args.out.now) (g.K.Sink.state c.put_stretch.new.out))
     c.take_some.ensures.limit c.put_stretch.ensures.limit
-    (is_true c.in_ok-taken.taken.decided c.if-not-taken.false) c.in_ok-taken.ensures.takes
+    (not-false c.in_ok-taken.taken.decided c.if-not-taken.false) c.in_ok-taken.ensures.takes
     (q.0, q.1, q.2) c.in_ok-put_stretch.ensures.puts

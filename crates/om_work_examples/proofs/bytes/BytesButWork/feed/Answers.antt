@@ -4,7 +4,8 @@ use Rattle.om_stops.specs.declared.stop.Halt.TheVariants as halts
 use Rattle.om_work.proofs.PieceLemmas.{feeds_halt}
 use Rattle.om_work_examples.specs.Small.{bytes_but}
 use Rattle.om_work_examples.specs.Taken.{HasBytes}
-use Rattle.om_work_examples.proofs.BytesLemmas.{front_byte, count_few, byte_refused, byte_fault, byte_feeds}
+use Rattle.om_promises.proofs.LengthLemmas.{front_byte}
+use Rattle.om_work_examples.proofs.BytesLemmas.{count_few, byte_refused, byte_fault, byte_feeds}
 use Rattle.om_work_examples.proofs.bytes.BytesButWork.feed.Goals as goal
 
 pub returns-then-byte-self-clause-feeds : goal.returns-then-byte-self-clause-feeds
