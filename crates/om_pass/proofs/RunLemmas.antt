@@ -13,6 +13,7 @@ use Rattle.om_format.specs.Words.{of_object, words32, words64, all_words32, all_
 use Rattle.om_format.specs.Header.{magic, small_magic, big_magic, header_length, head_of, big_head, small_head}
 use Rattle.om_format.specs.Token.{Token, shared, measure_of}
 use Rattle.om_format.specs.Spelled.{StatesWords32}
+use Rattle.om_format.proofs.SpellValues.{some_bytes}
 use Rattle.om_format.proofs.TokenStepLemmas.{magic-take, header_length-take, header_length-from, head_of-take}
 use Rattle.om_pass_law.specs.Asked.{Need, of_type, type_in, IsBackAt}
 use Rattle.om_pass_law.specs.Noted.{IsFlatNoted}
@@ -25,7 +26,7 @@ use Rattle.om_pass.proofs.AgainLemmas.{marks_more, marks_push, no_marks}
 use Rattle.om_pass.specs.Again.{AreMarks, IsReference, IsKnown}
 use Rattle.om_pass.specs.declared.words.Words.{Words}
 use Rattle.om_pass.specs.declared.state.State.{State}
-use Rattle.om_pass.specs.State.{types_in, needs_in, stated32, TookFront, TookTurn, BeginsAs, AreNoted, Leads, IsMarked, IsSpent}
+use Rattle.om_pass.specs.State.{types_in, needs_in, stated32, TookFront, TookFirst, TookTurn, BeginsAs, AreNoted, Leads, IsMarked, IsSpent}
 
 pub words32_push : (tokens : List Token) (token : Token) → all_words32 (map measure_of (tokens ++ token ∷ [])) ≡ all_words32 (map measure_of tokens) + of_object words32 (measure_of token)
 words32_push tokens token = ap all_words32 (map-append measure_of tokens (token ∷ [])) ∙ sum_by_push (of_object words32) (map measure_of tokens) (measure_of token)
@@ -117,6 +118,47 @@ leads_further table limit bytes head start n m marks notes first middle last nee
       are_marks = subst (λ front'. AreMarks front' marks (l.tokens ++ token ∷ [])) (sym (take-add n m bytes)) (marks_more (take n bytes) (take m (drop n bytes)) marks l.tokens token front.spells l.are_marks);
       are_known = l.are_known;
     }
+
+pub leads_first :
+    (table : Table) (limit : ℕ) (bytes : List ℕ) (head : Head) (start n m : ℕ) (marks : List ℕ) (notes : List (ℕ × ℕ)) (first last : State) → Leads table limit bytes head start n marks notes first
+    → TookFirst table head.objects first last (drop n bytes) m → Leads table limit bytes head start (n + m) marks notes last
+leads_first table limit bytes head start n m marks notes first last l t =
+    leads_further table limit bytes head start n m marks notes first t.middle last t.need l t.types t.needs t.words t.took
+
+-- where the same is open
+pub leads_same :
+    (table : Table) (limit : ℕ) (bytes : List ℕ) (head : Head) (start n : ℕ) (marks : List ℕ) (notes : List (ℕ × ℕ)) (first last : State) → Leads table limit bytes head start n marks notes first
+    → types_in last ≡ types_in first → needs_in last ≡ needs_in first → last.words ≡ first.words → Leads table limit bytes head start n marks notes last
+leads_same table limit bytes head start n marks notes first last l types needs words =
+    record {
+      tokens = l.tokens;
+      noted = l.noted;
+      passing = subst₂ (IsPassing l.noted table limit bytes head start n l.tokens) (sym types) (sym needs) l.passing;
+      w32 = subst (λ (w : Words). w.w32 + all_words32 (map measure_of l.tokens) ≡ stated32 head) (sym words) l.w32;
+      w64 = subst (λ (w : Words). w.w64 + all_words64 (map measure_of l.tokens) ≡ head.w64) (sym words) l.w64;
+      are_noted = subst (λ ts. AreNoted table ts l.noted l.tokens) (sym types) l.are_noted;
+      are_marks = l.are_marks;
+      are_known = l.are_known;
+    }
+
+-- what is left of the bytes is less after a token
+pub front_less : (table : Table) (stated : ℕ) (old new : State) (need : Need) (bytes : List ℕ) (at n : ℕ) → TookFront table stated old new need (drop at bytes) n → length bytes - (at + n) < length bytes - at
+front_less table stated old new need bytes at n front =
+    let within' = front.within in
+    let left = length-drop at bytes in
+    let long = length-take-le n (drop at bytes) within' in
+    let some = some_bytes front.token (take n (drop at bytes)) front.spells in
+    omega (arith, within', left, long, some)
+
+pub turn_less :
+    (table : Table) (stated : ℕ) (old new : State) (need : Need) (bytes marks : List ℕ) (notes after : List (ℕ × ℕ)) (at n : ℕ) → TookTurn table stated old new need bytes marks notes after at n
+    → length bytes - (at + n) < length bytes - at
+turn_less table stated old new need bytes marks notes after at n (inl front) = front_less table stated old new need bytes at n front.1
+turn_less table stated old new need bytes marks notes after at n (inr back) =
+    let some = back.1.reference.some in
+    let within' = back.1.reference.within in
+    let left = length-drop at bytes in
+    omega (arith, some, within', left)
 
 -- ---- a reference more
 

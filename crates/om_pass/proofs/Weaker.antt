@@ -1,6 +1,6 @@
 -- Clauses on an answer that may be an error, or no.
-use Rattle.std.proofs.Common.{◌≡◌, Bool, true, false, Result, Ok, Err}
-use Rattle.std.specs.Prelude.{IfOk, IsTrue}
+use Rattle.std.proofs.Common.{◌≡◌, Bool, true, false, Result, Ok, Err, Some}
+use Rattle.std.specs.Prelude.{IfOk, IsTrue, MatchOption, Option, None}
 use Rattle.std.specs.Bool.{OnTrue}
 
 pub on_true_weaker : {P Q : Type 0} (b : Bool) → (P → Q) → OnTrue b P → OnTrue b Q
@@ -20,3 +20,7 @@ pub not_true : (b c : Bool) → b ≡ c → b ≡ false → IsTrue c → ⊥
 not_true true c same none is = absurd (cc)
 not_true false true same none is = absurd (cc)
 not_true false false same none is = absurd (cc)
+
+pub match_option_weaker : {X N M : Type 0} {P Q : X → Type 0} (r : Option X) → (N → M) → ((x : X) → P x → Q x) → MatchOption r N P → MatchOption r M Q
+match_option_weaker None f g h = f h
+match_option_weaker (Some x) f g h = g x h

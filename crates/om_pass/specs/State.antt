@@ -96,6 +96,16 @@ pub record TookFront
   pub there : IsThere token (length (types_in old)) stated
   pub took : Took table old new need token
 
+-- the same in the first open place
+pub record TookFirst
+    (table : Table) (stated : ℕ) (old new : State) (rest : List ℕ) (n : ℕ) : Type 0 where
+  pub middle : State
+  pub need : Need
+  pub types : types_in middle ≡ types_in old
+  pub needs : needs_in old ≡ need ∷ needs_in middle
+  pub words : middle.words ≡ old.words
+  pub took : TookFront table stated middle new need rest n
+
 -- what an answer says of the token that begins the bytes
 abbrev pub IsAnswer : Table → ℕ → State → State → Need → List ℕ → Answer → Type 0
 IsAnswer table stated old new need rest (answers.Took n) =

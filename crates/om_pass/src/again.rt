@@ -10,8 +10,9 @@ ghost use Rattle.om_format.specs.Tree.{made_by};
 ghost use Rattle.om_pass.specs.Again.{IsSeen, Looks, IsBlockSeen, IsBlockIn, IsReference};
 
 use crate::piece::piece_len;
+use crate::words::signed_few;
 use om_codes::code_kind;
-use om_model::bytes::{big_endian, signed};
+use om_model::bytes::big_endian;
 use om_model::code::CodeKind;
 
 /// What a token says.
@@ -55,7 +56,7 @@ fn seen_of(kind: CodeKind, piece: &[u8]) -> Seen
     match kind {
         CodeKind::SmallBlock(tag, size) => seen_block(tag, u64::from(size)),
         CodeKind::SmallInt(value) => Seen::Integer(i64::from(value)),
-        CodeKind::Int(_) => Seen::Integer(signed(piece)),
+        CodeKind::Int(_) => Seen::Integer(signed_few(piece)),
         CodeKind::Shared(_) => Seen::Shared(big_endian(piece)),
         CodeKind::Block(_) => seen_word(big_endian(piece)),
         CodeKind::SmallString(_) => Seen::Leaf,
@@ -93,6 +94,22 @@ fn look_rare(bytes: &[u8]) -> Option<(Seen, usize)>
     }
 }
 
+/// The same of the codes below 0x20.
+#[tactic(auto, unfolding(om_format::specs::Code::kind_of))]
+#[inline(always)]
+fn look_large(code: u8, bytes: &[u8]) -> Option<(Seen, usize)>
+    requires some { 0 < length bytes.now }
+    requires code { slice_index bytes.now 0 ≡ code }
+    ensures { IfSome result (λ look. Looks bytes.now look.0 look.1) }
+{
+    match code {
+        0x00 => look_kind(CodeKind::Int(1), bytes),
+        0x01 => look_kind(CodeKind::Int(2), bytes),
+        0x02 => look_kind(CodeKind::Int(4), bytes),
+        _ => look_rare(bytes),
+    }
+}
+
 /// What the first token of the bytes says, and how many bytes it has.
 #[tactic(auto, unfolding(om_format::specs::Code::kind_of))]
 #[inline(always)]
@@ -103,12 +120,15 @@ pub fn look(bytes: &[u8]) -> Option<(Seen, usize)>
         return None;
     }
     let code = bytes[0];
-    // The common codes get code of their own.
-    match code {
-        0x80.. => look_kind(CodeKind::SmallBlock(code % 16, code / 16 % 8), bytes),
-        0x40.. => look_kind(CodeKind::SmallInt(code % 64), bytes),
-        0x20.. => look_kind(CodeKind::SmallString(code % 32), bytes),
-        _ => look_rare(bytes),
+    // The common codes get code of their own, and blocks come first.
+    if code >= 0x80 {
+        look_kind(CodeKind::SmallBlock(code % 16, code / 16 % 8), bytes)
+    } else if code >= 0x40 {
+        look_kind(CodeKind::SmallInt(code % 64), bytes)
+    } else if code >= 0x20 {
+        look_kind(CodeKind::SmallString(code % 32), bytes)
+    } else {
+        look_large(code, bytes)
     }
 }
 

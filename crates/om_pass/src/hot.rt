@@ -2,7 +2,8 @@
 //! for.
 
 ghost use Rattle.std.specs.Prelude.{◌≡◌, ◌<◌, ◌≤◌, ◌+◌, ◌++◌, [], ◌^◌, ℕ, List, length, Ok};
-ghost use Rattle.std.specs.Prelude.{IsTrue, MatchOption, slice_index, vec_len, vec_capacity};
+ghost use Rattle.std.specs.Prelude.{◌∷◌, map, IfSome, IsTrue, MatchOption, slice_index};
+ghost use Rattle.std.specs.Prelude.{vec_len, vec_capacity};
 ghost use Rattle.std.specs.Bool.{OnTrue};
 ghost use Rattle.om_model.specs.declared.value.Obj.TheVariants as objects;
 ghost use Rattle.om_types.specs.Fitting as fitting;
@@ -12,7 +13,7 @@ ghost use Rattle.om_format.specs.Token.{block, leaf};
 ghost use Rattle.om_headers.specs.Counting.{IsCountable};
 ghost use Rattle.om_type_table.specs.Made.{table_of};
 ghost use Rattle.om_pass_law.specs.Asked.{of_type, shape_at, IsBackAt};
-ghost use Rattle.om_pass.specs.State.{Took, TookPiece, TookFront};
+ghost use Rattle.om_pass.specs.State.{Took, TookPiece, TookFront, TookFirst};
 ghost use Rattle.std.specs.Global.{Vec};
 ghost use Rattle.om_pass.specs.declared.places.Open.{Open};
 ghost use Rattle.om_pass.specs.Hot.{held, IsLeafAdded};
@@ -31,7 +32,10 @@ use om_types::shape::ShapeOf;
 fn has_room(types: &Vec<u16>, ty: usize) -> bool
     ensures { OnTrue result ((ty < 2 ^ 16) × (vec_len types.now < vec_capacity types.now)) }
 {
-    ty < 1 << 16 && types.len() < types.capacity() && types.len() % 64 != 0
+    if ty >= 1 << 16 || types.len() % 64 == 0 {
+        return false;
+    }
+    types.len() < types.capacity()
 }
 
 /// The open places wait, if there are any; or there is no room for them.
@@ -365,10 +369,11 @@ fn hot_large<'a>(
     }
 }
 
-/// The first token of the bytes comes, if it is a common one and has the type.
+/// The first token of the bytes comes, if it is a common one and has the type. Whether the places
+/// are listed says who calls: as it is large, it is put in line only where it has one caller.
 #[tactic(auto, unfolding(om_format::specs::Code::kind_of))]
 #[inline(always)]
-fn hot_typed<'a>(
+fn hot_typed<'a, const LISTED: bool>(
     table: &'a TypeTable,
     stated: u64,
     ty: usize,
@@ -389,21 +394,18 @@ fn hot_typed<'a>(
         return None;
     }
     let code = rest[0];
-    // Each of these codes gets code of its own.
-    match code {
-        0x80.. => {
-            let kind = CodeKind::SmallBlock(code % 16, code / 16 % 8);
-            hot_kind(table, stated, ty, others, kind, rest, types, waiting, words)
-        }
-        0x40.. => {
-            let kind = CodeKind::SmallInt(code % 64);
-            hot_kind(table, stated, ty, others, kind, rest, types, waiting, words)
-        }
-        0x20.. => {
-            let kind = CodeKind::SmallString(code % 32);
-            hot_kind(table, stated, ty, others, kind, rest, types, waiting, words)
-        }
-        _ => hot_large(table, stated, ty, others, code, rest, types, waiting, words),
+    // Each of these codes gets code of its own, and blocks come first.
+    if code >= 0x80 {
+        let kind = CodeKind::SmallBlock(code % 16, code / 16 % 8);
+        hot_kind(table, stated, ty, others, kind, rest, types, waiting, words)
+    } else if code >= 0x40 {
+        let kind = CodeKind::SmallInt(code % 64);
+        hot_kind(table, stated, ty, others, kind, rest, types, waiting, words)
+    } else if code >= 0x20 {
+        let kind = CodeKind::SmallString(code % 32);
+        hot_kind(table, stated, ty, others, kind, rest, types, waiting, words)
+    } else {
+        hot_large(table, stated, ty, others, code, rest, types, waiting, words)
     }
 }
 
@@ -429,5 +431,45 @@ pub fn hot<'a>(
     let Asked::Type(ty) = asked else {
         return None;
     };
-    hot_typed(table, stated, ty, others, rest, types, waiting, words)
+    hot_typed::<false>(table, stated, ty, others, rest, types, waiting, words)
+}
+
+/// The type of the first of these places, and the others.
+#[inline(always)]
+fn split_listed<'a>(places: &'a [usize]) -> Option<(usize, Open<'a>)>
+    ensures { IfSome result
+        (λ first. map of_type places.now ≡ of_type first.0 ∷ open_needs first.1) }
+{
+    if places.is_empty() {
+        return None;
+    }
+    Some((places[0], Open::Listed(&places[1..])))
+}
+
+/// The first token of the bytes comes, if it is a common one and the innermost block has places by
+/// a list of their types. This gets code of its own.
+#[inline(always)]
+pub fn hot_listed<'a>(
+    table: &'a TypeTable,
+    stated: u64,
+    now: Open<'a>,
+    rest: &[u8],
+    types: &mut Vec<u16>,
+    waiting: &mut Vec<Open<'a>>,
+    words: &mut Words,
+) -> Option<(usize, Open<'a>)>
+    ensures { MatchOption result
+        (held now.entry waiting.new types.new words.new
+        ≡ held now.entry waiting.old types.old words.old)
+        (λ took. TookFirst (table_of table.now) stated
+        (held now.entry waiting.old types.old words.old)
+        (held took.1 waiting.new types.new words.new) rest.now took.0) }
+{
+    let Open::Listed(places) = now else {
+        return None;
+    };
+    let Some((ty, others)) = split_listed(places) else {
+        return None;
+    };
+    hot_typed::<true>(table, stated, ty, others, rest, types, waiting, words)
 }

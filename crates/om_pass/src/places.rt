@@ -147,6 +147,22 @@ impl<'a> Places<'a> {
     }
 }
 
+/// The open places of the innermost block that has any, if one has.
+#[tactic(auto, using(crate::proofs::PlaceLemmas::waiting_needs_push))]
+#[inline(always)]
+pub fn innermost<'a>(now: Open<'a>, waiting: &mut Vec<Open<'a>>) -> Open<'a>
+    ensures { open_needs result ++ waiting_needs waiting.new.items
+        ≡ open_needs now.entry ++ waiting_needs waiting.old.items }
+{
+    if !is_done(now) {
+        return now;
+    }
+    match waiting.pop() {
+        Some(block) => block,
+        None => now,
+    }
+}
+
 /// What the first open place asks for, and what is then open in its block.
 #[inline(always)]
 pub fn first_place<'a>(now: Open<'a>, waiting: &mut Vec<Open<'a>>) -> Option<(Asked<'a>, Open<'a>)>

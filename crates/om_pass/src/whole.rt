@@ -7,9 +7,9 @@ ghost use Rattle.om_pass.specs.Places.{need_of, open_needs};
 ghost use Rattle.om_pass.specs.State.{Leads, IsSpent, BeginsAs, StopsAt};
 
 use crate::back::{mark, turn};
-use crate::hot::hot;
+use crate::hot::{hot, hot_listed};
 use crate::piece::piece_len;
-use crate::places::{Asked, Open, first_place};
+use crate::places::{Asked, Open, first_place, innermost};
 use crate::state::State;
 use om_codes::code_kind;
 use om_headers::{HeaderStep, parse};
@@ -95,8 +95,21 @@ pub fn run<'a>(
     let mut at = first;
     let mut now = state.places.now;
     let mut words = state.words;
-    // Each turn takes a byte, so this ends long before.
-    'tokens: for _turn in 0..u64::MAX {
+    'tokens: loop {
+        now = innermost(now, &mut state.places.waiting);
+        if let Some((n, next)) = hot_listed(
+            table,
+            head.objects,
+            now,
+            &bytes[at..],
+            &mut state.types,
+            &mut state.places.waiting,
+            &mut words,
+        ) {
+            at += n;
+            now = next;
+            continue;
+        }
         let Some((asked, others)) = first_place(now, &mut state.places.waiting) else {
             state.words = words;
             if is_spent(head, start, at, state) {
@@ -143,5 +156,4 @@ pub fn run<'a>(
         now = state.places.now;
         words = state.words;
     }
-    Ok(Stop::Untold)
 }

@@ -1,3 +1,4 @@
+use Rattle.std.proofs.Common.{◌-◌, length}
 use Rattle.om_type_table.specs.Made.{table_of}
 use Rattle.om_pass.specs.Hot.{held}
 use Rattle.om_pass.specs.State.{Leads}
@@ -8,3 +9,6 @@ abbrev pub invariant-tokens : goal.invariant-tokens
 invariant-tokens l =
     Leads (table_of l.table) l.limit l.bytes l.head l.start l.at l.marks.items l.notes.items
     (held l.now l.state.places.waiting l.state.types l.words)
+
+abbrev pub decreases-tokens : goal.decreases-tokens
+decreases-tokens l = length l.bytes - l.at
