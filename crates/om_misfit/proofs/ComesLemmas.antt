@@ -1,11 +1,12 @@
 -- What one token more leads to, by what it changes.
-use Rattle.std.proofs.Common.{ℕ, zero, suc, ◌-◌, ◌<◌, ◌≤◌, ◌≡◌, ◌∙◌, ◌⊎◌, ⊎_elim, inl, inr, List, [], ◌∷◌, ◌++◌, length, map, set, Bool, true, false, Option, Some, None, refl, sym, ap, subst, arith}
+use Rattle.std.proofs.Common.{ℕ, zero, suc, ◌+◌, ◌-◌, ◌<◌, ◌≤◌, ◌≡◌, ◌∙◌, ◌⊎◌, ⊎_elim, inl, inr, List, [], ◌∷◌, ◌++◌, length, map, set, Bool, true, false, Option, Some, None, refl, sym, ap, subst, arith}
 use Rattle.std.specs.Prelude.{slice_get, replicate, Contains, ℤ, is_some}
 use Rattle.std.specs.Global.{Vec}
 use Rattle.std.specs.Borrow.{Bor}
 use Rattle.std.proofs.lemmas.List.{append-nil, length-append, length-replicate, length-set, map-append}
 use Rattle.std.proofs.lemmas.List.Elements.{Contains-append_right, Contains-append_cases}
 use Rattle.std.proofs.lemmas.Option.{same_Some, none-some, slice_get_within}
+use Rattle.std.proofs.lemmas.Bool.{cases_lt}
 use Rattle.om_model.proofs.Lists.{slice_get-append_left}
 use Rattle.om_model.proofs.Options.{Contains-first, Contains-none, Contains-cases}
 use Rattle.om_model.specs.declared.code.Measure.{Measure}
@@ -19,7 +20,7 @@ use Rattle.om_format.specs.Spelled.{IsNoReference}
 use Rattle.om_pass_law.specs.Asked.{of_type, hash_of, IsHidden}
 use Rattle.om_pass_law.proofs.PassLemmas.{leaf_made}
 use Rattle.om_misfit_law.specs.PassedBut.{Place, Made, Missed, field_after, unasked, made_in, IsPlain, HasFirst, IsLedBack, IsTaggedBut, Takes, Misses, PassedBut, fitting, missing, below}
-use Rattle.om_misfit_law.proofs.UnaskedLemmas.{before_or_not, made_long, made_there}
+use Rattle.om_misfit_law.proofs.UnaskedLemmas.{made_long, made_there}
 use Rattle.om_misfit_law.proofs.StatedLemmas.{back_more}
 use Rattle.om_pass.specs.declared.words.Words.{Words}
 use Rattle.om_pass.specs.State.{Spends}
@@ -35,7 +36,7 @@ use Rattle.om_misfit.specs.declared.way.Left.TheVariants as lefts
 use Rattle.om_misfit.specs.declared.way.Way.{Way}
 use Rattle.om_misfit.specs.Judge.{IsSaid, IsNoBack, said_fields}
 use Rattle.om_misfit.specs.Way.{trail_of, trail_in, place_of, left_values, way_places, opened_places, unasked_place, IsWay}
-use Rattle.om_misfit.specs.Find.{no_type, type_or_none, AreTypes, AreMarked, IsMissedAt, AreMissedAt, IsHeld, HasRoom, Adds, LeadsTo, Comes, unasked_in}
+use Rattle.om_misfit.specs.Find.{no_type, type_or_none, AreTypes, AreMarked, IsMissedAt, AreMissedAt, IsHeld, HasRoom, Passes, Adds, LeadsTo, Comes, unasked_in}
 use Rattle.om_misfit.specs.Second.{Knows, Shows}
 use Rattle.om_misfit.proofs.WayLemmas.{none_opened}
 use Rattle.om_misfit.proofs.SaidLemmas.{some_token}
@@ -63,7 +64,7 @@ module _ (made : List Made) (type : Option ℕ) (trail : List (ℕ × ℕ)) (tok
       let short = slice_get_within after o object at in
       let long = made_long type trail made token is in
       inr (same_Some object record { type = type; trail = trail } (sym at ∙ made_there type trail made token is o later (omega (arith, short, long)))))
-      (before_or_not o (length made)) where
+      (cases_lt o (length made)) where
         kept : (o : ℕ) (object : Made) → o < length made → slice_get (made ++ made_in type trail token) o ≡ Some object → slice_get made o ≡ Some object
         kept o object short at = by made o short at where
           by : (xs : List Made) (o : ℕ) → o < length xs → slice_get (xs ++ made_in type trail token) o ≡ Some object → slice_get xs o ≡ Some object
@@ -387,6 +388,36 @@ comes_hash table stated front old new tags said z tag t same has_hash has_argume
             held = held_kept back made missed old new held is types again found;
             known = subst (Knows table front tokens) (sym seconds) known;
           }
+
+-- an integer in a place to which no link leads
+module _ (table : Table) (old new : Finding) (said : Said) (token : Token) (its : IsSaid said token) (p : Passes table old said new) where
+  is_integer : token ≡ integer p.z
+  is_integer = subst (λ s. IsSaid s token) p.its its
+
+  pub passes_leads :
+      (back : List ℕ) (tokens : List Token) (made : List Made) (missed : List Missed) (front : List ℕ) → IsHeld back made missed old → Knows table front tokens old.seconds → PassedBut back table tokens made (way_places old.way) missed
+      → LeadsTo back table front tokens made token new
+  passes_leads back tokens made missed front held known passed =
+      let before = subst (λ ps. PassedBut back table tokens made ps missed) p.places passed in
+      let further = fitting tokens made (of_type p.type) p.trail (way_places new.way) [] missed (integer p.z) before (p.fits, refl) in
+      subst (λ u. LeadsTo back table front tokens made u new) (sym is_integer) record {
+        more = [];
+        type = None;
+        trail = [];
+        missed = missed;
+        passed = subst (λ bs. PassedBut bs table (tokens ++ integer p.z ∷ []) (made ++ []) (way_places new.way) missed) (sym (append-nil back)) further;
+        held = held_kept back made missed old new held p.is_way p.types p.again p.found;
+        known = subst (Knows table front tokens) (sym p.seconds) known;
+      }
+
+  pub passes_refers : (n stated : ℕ) → May n stated token
+  passes_refers n stated = subst (May n stated) (sym is_integer) (tt, λ _. tt)
+
+  pub passes_w32 : new.words.w32 + of_object words32 (measure_of token) ≡ old.words.w32
+  passes_w32 = let none : of_object words32 (measure_of token) ≡ 0 = ap (λ u. of_object words32 (measure_of u)) is_integer in let kept = ap (λ (w : Words). w.w32) p.words in omega (arith, none, kept)
+
+  pub passes_w64 : new.words.w64 + of_object words64 (measure_of token) ≡ old.words.w64
+  passes_w64 = let none : of_object words64 (measure_of token) ≡ 0 = ap (λ u. of_object words64 (measure_of u)) is_integer in let kept = ap (λ (w : Words). w.w64) p.words in omega (arith, none, kept)
 
 -- ---- a reference
 

@@ -10,10 +10,11 @@ use Rattle.om_model.proofs.Options.{Contains-none}
 use Rattle.om_model.specs.declared.header.Head.{Head}
 use Rattle.om_types.specs.Table.{Table, table_shapes}
 use Rattle.om_types.specs.Lawful.{AreLawful, Everything}
-use Rattle.om_format.specs.Words.{all_words32, all_words64}
+use Rattle.om_format.specs.Words.{of_object, words32, words64, all_words32, all_words64}
 use Rattle.om_format.specs.Header.{magic, small_magic, big_magic, header_length, head_of}
 use Rattle.om_format.specs.Token.{measure_of}
 use Rattle.om_format.specs.Tree.{RefersBack}
+use Rattle.om_format.specs.Spelled.{IsNoReference}
 use Rattle.om_format.proofs.TokenStepLemmas.{magic-take, header_length-take, header_length-from, head_of-take}
 use Rattle.om_misfit_law.specs.PassedBut.{Place, Made, Missed, made_in, values_at}
 use Rattle.om_misfit_law.specs.MissedFront.{IsPassingBut}
@@ -34,9 +35,9 @@ use Rattle.om_misfit.specs.declared.way.Link.{Link}
 use Rattle.om_misfit.specs.Judge.{IsSaidBy}
 use Rattle.om_misfit.specs.declared.way.Way.{Way}
 use Rattle.om_misfit.specs.Way.{trail_of, trail_in, place_of, way_places, left_values, IsWay}
-use Rattle.om_misfit.specs.Find.{AreTypes, AreMarked, IsAlone, IsMissedAt, AreMissedAt, Finds, Begins, Comes, Ends, IsFound}
+use Rattle.om_misfit.specs.Find.{AreTypes, AreMarked, IsAlone, IsMissedAt, AreMissedAt, Finds, Begins, Passes, LeadsTo, Comes, Ends, IsFound}
 use Rattle.om_misfit.specs.Second.{Knows, Marks}
-use Rattle.om_misfit.proofs.ComesLemmas.{many_held}
+use Rattle.om_misfit.proofs.ComesLemmas.{many_held, passes_leads, passes_refers, passes_w32, passes_w64}
 use Rattle.om_misfit.proofs.WayLemmas.{way_many}
 
 -- ---- the header
@@ -190,29 +191,43 @@ finds_marked table limit bytes head start n made finding seconds f many m = reco
 
 -- ---- one token more
 
-pub finds_further :
-    (table : Table) (limit : ℕ) (bytes : List ℕ) (head : Head) (start n m : ℕ) (old new : Finding) (asked : Asked) (said : Said) → Finds table limit bytes head start n (place_of asked (trail_in old.way) ∷ []) old → IsSaidBy (drop n bytes) said m
-    → Comes table head.objects (take n bytes) old asked said new → Finds table limit bytes head start (n + m) [] new
-finds_further table limit bytes head start n m old new asked said f by c =
-    let l = c.leads f.back f.tokens f.made f.missed by.token by.is_token by.is_said f.held f.known f.passing.passed in
+-- by what it leads to
+finds_led :
+    (table : Table) (limit : ℕ) (bytes : List ℕ) (head : Head) (start n m : ℕ) (taken : List Place) (old new : Finding) (said : Said) → (f : Finds table limit bytes head start n taken old) → (by : IsSaidBy (drop n bytes) said m)
+    → LeadsTo f.back table (take n bytes) f.tokens f.made by.token new → RefersBack by.token (length old.types.items) × (head.objects ≡ 0 → IsNoReference by.token)
+    → new.words.w32 + of_object words32 (measure_of by.token) ≡ old.words.w32 → new.words.w64 + of_object words64 (measure_of by.token) ≡ old.words.w64 → Finds table limit bytes head start (n + m) [] new
+finds_led table limit bytes head start n m taken old new said f by l refers one32 one64 =
     let within' : n + m ≤ length bytes = let here = f.passing.within in let there = by.within in let left = length-drop n bytes in omega (arith, here, there, left) in
-    let refers = c.refers by.token by.is_said in
     let many : length old.types.items ≡ length f.made = many_held old.types.items f.made f.held.types in
     record {
       tokens = f.tokens ++ by.token ∷ [];
       back = f.back ++ l.more;
       made = f.made ++ made_in l.type l.trail by.token;
       missed = l.missed;
-      passing = but_further f.back l.more table limit bytes head start n f.tokens f.made (place_of asked (trail_in old.way) ∷ way_places old.way) f.missed f.passing by.token m within' by.spells
+      passing = but_further f.back l.more table limit bytes head start n f.tokens f.made (taken ++ way_places old.way) f.missed f.passing by.token m within' by.spells
           (subst (RefersBack by.token) many refers.0) refers.1 l.type l.trail (way_places new.way) l.missed l.passed;
       held = l.held;
       known = record {
         marks = subst (λ front. AreMarks front new.seconds.marks.items (f.tokens ++ by.token ∷ [])) (sym (take-add n m bytes)) (marks_more (take n bytes) (take m (drop n bytes)) new.seconds.marks.items f.tokens by.token by.spells l.known.marks);
         notes = λ o t among. plain_more table f.tokens (by.token ∷ []) o t (l.known.notes o t among);
       };
-      w32 = let one = c.w32 by.token by.is_said in let before = f.w32 in let both = words32_push f.tokens by.token in omega (arith, one, before, both);
-      w64 = let one = c.w64 by.token by.is_said in let before = f.w64 in let both = words64_push f.tokens by.token in omega (arith, one, before, both);
+      w32 = let before = f.w32 in let both = words32_push f.tokens by.token in omega (arith, one32, before, both);
+      w64 = let before = f.w64 in let both = words64_push f.tokens by.token in omega (arith, one64, before, both);
     }
+
+pub finds_further :
+    (table : Table) (limit : ℕ) (bytes : List ℕ) (head : Head) (start n m : ℕ) (old new : Finding) (asked : Asked) (said : Said) → Finds table limit bytes head start n (place_of asked (trail_in old.way) ∷ []) old → IsSaidBy (drop n bytes) said m
+    → Comes table head.objects (take n bytes) old asked said new → Finds table limit bytes head start (n + m) [] new
+finds_further table limit bytes head start n m old new asked said f by c =
+    finds_led table limit bytes head start n m (place_of asked (trail_in old.way) ∷ []) old new said f by (c.leads f.back f.tokens f.made f.missed by.token by.is_token by.is_said f.held f.known f.passing.passed)
+    (c.refers by.token by.is_said) (c.w32 by.token by.is_said) (c.w64 by.token by.is_said)
+
+-- an integer
+pub finds_passed :
+    (table : Table) (limit : ℕ) (bytes : List ℕ) (head : Head) (start n m : ℕ) (old new : Finding) (said : Said) → Finds table limit bytes head start n [] old → IsSaidBy (drop n bytes) said m → Passes table old said new → Finds table limit bytes head start (n + m) [] new
+finds_passed table limit bytes head start n m old new said f by p =
+    finds_led table limit bytes head start n m [] old new said f by (passes_leads table old new said by.token by.is_said p f.back f.tokens f.made f.missed (take n bytes) f.held f.known f.passing.passed)
+    (passes_refers table old new said by.token by.is_said p (length old.types.items) head.objects) (passes_w32 table old new said by.token by.is_said p) (passes_w64 table old new said by.token by.is_said p)
 
 -- ---- the end
 

@@ -11,6 +11,7 @@ use Rattle.om_types.specs.Table.{Table}
 use Rattle.om_format.specs.Token.{Token, integer, atom, block, leaf}
 use Rattle.om_format.specs.Tree.{made_by}
 use Rattle.om_pass_law.specs.Asked.{of_type, shape_at, shape_asks, fields_ask}
+use Rattle.om_pass_law.proofs.BlockLemmas.{fields_many}
 use Rattle.om_misfit_law.specs.PassedBut.{places_of, IsPlain, Takes}
 use Rattle.om_pass.specs.declared.places.Open.{Open}
 use Rattle.om_pass.specs.Places.{open_needs}
@@ -91,7 +92,7 @@ module _ (table : Table) (t : ℕ) where
       → AreJudged table t said (judged.Opens open')
   judged_opens said shape tag size places open' is own asks some =
       let its : fields_ask table t tag size ≡ Some (open_needs open') = ap (λ s. shape_asks s t tag size) (sym own) ∙ sym asks ∙ ap (option_map open_needs) some in (
-        (tag, size, is),
+        (tag, size, is, fields_many table t tag size (open_needs open') its),
         λ token said' back tokens made trail.
             subst (λ u. Takes back table (IsPlain table tokens) made trail (of_type t) u (places_of (length made) trail 0 (open_needs open'))) (sym (subst (λ s. IsSaid s token) is said'))
             (open_needs open', its, refl),

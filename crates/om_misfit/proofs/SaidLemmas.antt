@@ -17,15 +17,10 @@ use Rattle.om_format.specs.Token.{Token, integer, atom, shared, block, leaf, blo
 use Rattle.om_format.proofs.SpellFields.{AreSoundFields, IsKnownData, spelled_of}
 use Rattle.om_format.proofs.ContentLemmas.{SpellsData, data_at}
 use Rattle.om_pass.specs.State.{custom_leaf}
+use Rattle.om_pass.proofs.PieceLemmas.{known_data}
 use Rattle.om_misfit.specs.declared.said.Said.{Said}
 use Rattle.om_misfit.specs.declared.said.Said.TheVariants as sayings
 use Rattle.om_misfit.specs.Judge.{IsSaid, IsSaidAfter, IsSaidBy, custom_measure, said_measure}
-
--- a number of a `Nativeint` has bytes
-known_data : (kind : CustomKind) (size b : ℕ) → 5 ≤ size → size ≡ 3 + custom_bytes (Some kind) b → IsKnownData (Some kind) b
-known_data customs.Int32 size b some whole = tt
-known_data customs.Int64 size b some whole = tt
-known_data customs.Native size b some whole = omega (arith, some, whole)
 
 data_said : (kind : CustomKind) (piece : List ℕ) (t : Token) → SpellsData (Some kind) piece t → IsSaid (sayings.Custom kind) t
 data_said customs.Int32 piece t data' = (signed (drop 3 piece), data'.1)

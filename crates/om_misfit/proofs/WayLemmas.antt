@@ -366,6 +366,19 @@ module _ (old pointed : Way) (asked : Asked) (others : Left) (values : ℕ) (is 
   pub taken_first : IsTaken old asked new
   taken_first = record { is_way = taken_is_way; places = taken_places; hash = on_hash asked split.hash }
 
+-- the same, and the links stay
+pub passed_first : (old : Way) (asked : Asked) (others : Left) (values : ℕ) → IsWay old → IsSplit old.now.left asked others values
+    → IsWay (taken_way old (old.now.next + values) others) × (way_places old ≡ place_of asked (place_trail old.links.items old.now.depth old.now.next) ∷ way_places (taken_way old (old.now.next + values) others))
+passed_first old asked others values is split = (
+  record {
+    deep = is.deep;
+    small = let room = is.small in let sum = split.values in omega (arith, room, sum);
+    around = is.around;
+    all_small = is.all_small;
+  },
+  ap (λ ps. ps ++ waiting_places old.links.items old.waiting.items) (split.places old.links.items old.now.depth old.now.next),
+)
+
 -- ---- a block is done
 
 abbrev pub popped_way : Way → Wait → Vec Wait → Way

@@ -1,13 +1,15 @@
 -- What is known on the way to the one misfit of a value, and what is found.
 use Rattle.std.specs.Prelude.{ℕ, ◌+◌, ◌-◌, ◌^◌, ◌<◌, ◌≡◌, ◌⊎◌, List, [], ◌∷◌, ◌++◌, length}
 use Rattle.std.specs.Prelude.{map, take, slice_get, Option, Some, None, All, Contains, Bool}
-use Rattle.std.specs.Prelude.{true, false, replicate}
+use Rattle.std.specs.Prelude.{true, false, replicate, ℤ, IsTrue}
 use Rattle.om_model.specs.declared.header.Head.{Head}
+use Rattle.om_types.specs.Fitting.{fits_int}
 use Rattle.om_types.specs.Table.{Table, table_shapes}
 use Rattle.om_format.specs.Words.{of_object, words32, words64, all_words32, all_words64}
 use Rattle.om_format.specs.Token.{Token, IsToken, measure_of}
 use Rattle.om_format.specs.Tree.{RefersBack, made_by}
 use Rattle.om_format.specs.Spelled.{IsNoReference}
+use Rattle.om_pass_law.specs.Asked.{shape_at}
 use Rattle.om_misfit_law.specs.PassedBut.{Place, Made, Missed, PassedBut, made_in, unasked}
 use Rattle.om_misfit_law.specs.PassedBut.{values_at}
 use Rattle.om_misfit_law.specs.MissedFront.{IsPassingBut, IsMissedFront}
@@ -18,7 +20,9 @@ use Rattle.om_misfit.specs.declared.misfit.Found.{Found}
 use Rattle.om_misfit.specs.declared.misfit.Finding.{Finding}
 use Rattle.om_misfit.specs.declared.misfit.Seeking.{Seeking}
 use Rattle.om_misfit.specs.declared.said.Said.{Said}
+use Rattle.om_misfit.specs.declared.said.Said.TheVariants as sayings
 use Rattle.om_misfit.specs.declared.way.Asked.{Asked}
+use Rattle.om_misfit.specs.declared.way.Asked.TheVariants as asks
 use Rattle.om_misfit.specs.declared.way.Link.{Link}
 use Rattle.om_misfit.specs.Judge.{IsSaid}
 use Rattle.om_misfit.specs.Second.{IsFresh, Knows}
@@ -110,6 +114,21 @@ pub record IsFirst (table : Table) (types : List ℕ) (object type : ℕ) : Type
   pub equal : (table_shapes table).equal own type
 
 -- ---- one token
+
+-- what was said is an integer that has the type of the first open place, which is taken
+pub record Passes (table : Table) (old : Finding) (said : Said) (new : Finding) : Type 0 where
+  pub z : ℤ
+  pub its : said ≡ sayings.Integer z
+  pub type : ℕ
+  pub trail : List (ℕ × ℕ)
+  pub fits : IsTrue (fits_int (shape_at table type) z)
+  pub is_way : IsWay new.way
+  pub places : way_places old.way ≡ place_of (asks.Type type) trail ∷ way_places new.way
+  pub types : new.types ≡ old.types
+  pub again : new.again ≡ old.again
+  pub seconds : new.seconds ≡ old.seconds
+  pub words : new.words ≡ old.words
+  pub found : new.found ≡ old.found
 
 -- the places are those of the token's fields, of which nothing is asked
 abbrev pub unasked_in : Left → Token → Type 0

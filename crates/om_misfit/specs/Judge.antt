@@ -13,7 +13,7 @@ use Rattle.om_types.specs.Fitting.{is_int32, is_int64, is_native}
 use Rattle.om_types.specs.Table.{Table}
 use Rattle.om_format.specs.Token.{Token, integer, atom, shared, block, leaf, IsToken, Spells}
 use Rattle.om_format.specs.Token.{SpellsAfter}
-use Rattle.om_pass_law.specs.Asked.{of_type}
+use Rattle.om_pass_law.specs.Asked.{of_type, values_in}
 use Rattle.om_misfit_law.specs.PassedBut.{Made, places_of, IsPlain, Takes, Misses}
 use Rattle.om_pass.specs.Places.{open_needs}
 use Rattle.om_pass.specs.State.{custom_leaf}
@@ -114,7 +114,9 @@ IsNoBack said = Unit {0}
 -- what of this may come: only a block has places
 abbrev pub IsApt : Said → Judged → Type 0
 IsApt said judged.Fits = IsNoBack said
-IsApt said (judged.Opens open') = (tag : ℕ) × (size : ℕ) × (said ≡ sayings.Block tag size)
+IsApt said (judged.Opens open') =
+    (tag : ℕ) × (size : ℕ) × (said ≡ sayings.Block tag size)
+    × (values_in (open_needs open') ≡ size)
 IsApt said (judged.Back offset) = said ≡ sayings.Shared offset
 IsApt said judged.Misses = Unit {0}
 IsApt said judged.Unknown = Unit {0}

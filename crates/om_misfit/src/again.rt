@@ -4,6 +4,7 @@ ghost use Rattle.std.specs.Prelude.{◌≡◌, ◌<◌, ◌++◌, ◌∷◌, [],
 ghost use Rattle.std.specs.Bool.{OnTrue};
 ghost use Rattle.om_misfit.specs.Find.{IsAlone};
 
+use crate::push::push;
 use crate::way::Link;
 use om_model::Memory;
 use std::alloc::Global;
@@ -32,10 +33,11 @@ impl Again {
     }
 
     /// An object is made.
+    #[inline(always)]
     pub fn make(&mut self) -> Result<(), Memory>
         ensures { OnOk result (self.new.marks.items ≡ self.old.marks.items ++ false ∷ []) }
     {
-        self.marks.push(false)?;
+        push(&mut self.marks, false)?;
         Ok(())
     }
 

@@ -102,6 +102,7 @@ fn by<'a>(fits: bool) -> Judged<'a>
 }
 
 /// What comes of a token in a place of the type.
+#[inline(always)]
 pub fn judge<'a>(table: &'a TypeTable, ty: usize, said: Said) -> Judged<'a>
     ensures apt { IsApt said result }
     ensures judged { (token : Token) → IsSaid said token

@@ -6,6 +6,7 @@ mod again;
 mod judge;
 mod laws;
 mod misfit;
+mod push;
 mod said;
 mod second;
 mod way;

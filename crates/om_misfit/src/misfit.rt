@@ -1,6 +1,6 @@
 //! The one misfit of a value: token after token, to its end.
 
-ghost use Rattle.std.specs.Prelude.{◌≡◌, ◌<◌, ◌≤◌, ℕ, List, length, IfOk};
+ghost use Rattle.std.specs.Prelude.{◌≡◌, ◌<◌, ◌≤◌, ℕ, List, length, IfOk, IsTrue};
 ghost use Rattle.std.specs.Bool.{OnTrue};
 ghost use Rattle.om_type_table.specs.Made.{table_of};
 ghost use Rattle.om_types.specs.Table.{Table};
@@ -8,20 +8,21 @@ ghost use Rattle.om_format.specs.Token.{Token};
 ghost use Rattle.om_misfit_law.specs.PassedBut.{Misses, values_at};
 ghost use Rattle.om_misfit.specs.declared.said.Said.TheVariants as sayings;
 ghost use Rattle.om_misfit.specs.declared.way.Asked.TheVariants as asks;
-ghost use Rattle.om_misfit.specs.Judge.{IsSaid, IsFair};
-ghost use Rattle.om_misfit.specs.Way.{IsWay, IsAfterHash, OnHash, way_places};
-ghost use Rattle.om_misfit.specs.Find.{Begins, HasRoom, Adds, Comes, IsSpent, Ends};
+ghost use Rattle.om_misfit.specs.Judge.{IsSaid, IsFair, said_fields};
+ghost use Rattle.om_misfit.specs.Way.{IsWay, IsAfterHash, OnHash, left_values, way_places};
+ghost use Rattle.om_misfit.specs.Find.{Begins, HasRoom, Passes, Adds, Comes, IsSpent, Ends};
 ghost use Rattle.om_misfit.specs.Find.{unasked_in, IsFirst, IsSought, Seeks};
 
 use crate::again::Again;
 use crate::judge::{Judged, judge};
+use crate::push::push;
 use crate::said::{Said, fields_of, first_token, measure_of};
 use crate::second::Seconds;
-use crate::way::{Asked, Left, Link, Way, copy_of, values_left};
+use crate::way::{Asked, Left, Link, Way, copy_of, first_type};
 use om_model::Memory;
 use om_model::header::Head;
 use om_pass::Words;
-use om_pass::fits::{is_equal, is_hidden, tag_of_hash, type_at};
+use om_pass::fits::{fits_int, is_equal, is_hidden, shape_of, tag_of_hash, type_at};
 use om_pass::whole::head_of;
 use om_type_table::TypeTable;
 use om_types::shape::PolyTag;
@@ -52,9 +53,11 @@ pub struct Finding<'a> {
 }
 
 /// The fields of a token of which nothing is asked.
+#[inline(always)]
 fn unasked<'a>(said: Said) -> Left<'a>
     ensures fields { (token : Token) → IsSaid said token → unasked_in result token }
     ensures none { HasRoom said result }
+    ensures many { left_values result ≡ said_fields said }
 {
     Left::Unasked(fields_of(said))
 }
@@ -86,10 +89,38 @@ impl<'a> Finding<'a> {
         self.found = None;
     }
 
-    /// The object that the token makes, if it makes one, has this type, and its places are open.
-    fn add(&mut self, ty: usize, said: Said, left: Left<'a>) -> Result<bool, Memory>
+    /// An integer comes, if it has the type that the first open place asks for. The place is taken,
+    /// but the links do not lead to it.
+    #[inline(always)]
+    fn pass(&mut self, table: &TypeTable, said: Said) -> bool
+        requires { IsWay self.old.way }
+        ensures passed { IsTrue result → Passes (table_of table.now) self.old said self.new }
+        ensures kept { (IsTrue result → ⊥) → self.new ≡ self.old }
+    {
+        let Said::Integer(z) = said else {
+            return false;
+        };
+        let Some((ty, others, values)) = first_type(self.way.now.left) else {
+            return false;
+        };
+        let Some(shape) = shape_of(table, ty) else {
+            return false;
+        };
+        if !fits_int(shape, z) {
+            return false;
+        }
+        self.way.now.next += values;
+        self.way.now.left = others;
+        true
+    }
+
+    /// The object that the token makes, if it makes one, has this type, and its places are open, in
+    /// which so many values are to come.
+    #[inline(always)]
+    fn add(&mut self, ty: usize, said: Said, left: Left<'a>, values: u64) -> Result<bool, Memory>
         requires is_way { IsWay self.old.way }
         requires room { HasRoom said left }
+        requires many { left_values left ≡ values }
         requires fair { IsFair said }
         ensures { IfOk result
             (λ added. OnTrue added (Adds self.old ty said left.entry self.new)) }
@@ -103,13 +134,15 @@ impl<'a> Finding<'a> {
         if !self.words.spend(measure) {
             return Ok(false);
         }
+        // The places come first: what was taken last is still at hand.
         let object = self.types.len();
-        self.types.push(ty as u16)?;
-        self.again.make()?;
-        if values_left(left) == 0 {
-            return Ok(true);
+        let opened = self.way.open(object, left, values)?;
+        if !opened {
+            return Ok(false);
         }
-        self.way.open(object, left)
+        push(&mut self.types, ty as u16)?;
+        self.again.make()?;
+        Ok(true)
     }
 
     /// Whether the type that the object's place asked for is equal.
@@ -126,6 +159,7 @@ impl<'a> Finding<'a> {
     }
 
     /// A reference comes where the type is asked for.
+    #[inline(never)]
     fn back(
         &mut self,
         table: &TypeTable,
@@ -157,6 +191,7 @@ impl<'a> Finding<'a> {
     }
 
     /// A token comes of which nothing is asked.
+    #[inline(always)]
     fn below(&mut self, stated: u64, said: Said) -> Result<bool, Memory>
         requires is_way { IsWay self.old.way }
         requires fair { IsFair said }
@@ -172,10 +207,11 @@ impl<'a> Finding<'a> {
             }
             return Ok(true);
         }
-        self.add(NO_TYPE, said, unasked(said))
+        self.add(NO_TYPE, said, unasked(said), fields_of(said))
     }
 
     /// The token does not have the type that is asked for. It is the misfit, if it is the first.
+    #[inline(always)]
     fn miss(&mut self, alloc: Global, ty: usize, said: Said) -> Result<bool, Memory>
         requires is_way { IsWay self.old.way }
         requires fair { IsFair said }
@@ -190,7 +226,7 @@ impl<'a> Finding<'a> {
         }
         let links = copy_of(alloc, self.way.links.as_slice())?;
         self.found = Some(Found { links, ty, said });
-        self.add(NO_TYPE, said, unasked(said))
+        self.add(NO_TYPE, said, unasked(said), fields_of(said))
     }
 
     /// The hash of a tag comes, after which its argument is asked for.
@@ -215,6 +251,7 @@ impl<'a> Finding<'a> {
     }
 
     /// The token comes where the type is asked for.
+    #[inline(always)]
     fn typed(
         &mut self,
         alloc: Global,
@@ -235,8 +272,8 @@ impl<'a> Finding<'a> {
             return Ok(false);
         }
         match judge(table, ty, said) {
-            Judged::Fits => self.add(ty, said, Left::Unasked(0)),
-            Judged::Opens(places) => self.add(ty, said, Left::Asked(places)),
+            Judged::Fits => self.add(ty, said, Left::Unasked(0), 0),
+            Judged::Opens(places) => { self.add(ty, said, Left::Asked(places), fields_of(said)) }
             Judged::Back(offset) => self.back(table, stated, front, ty, offset),
             Judged::Misses => self.miss(alloc, ty, said),
             Judged::Unknown => Ok(false),
@@ -244,6 +281,7 @@ impl<'a> Finding<'a> {
     }
 
     /// The token comes in the place that was taken last, if what it is there is known.
+    #[inline(always)]
     fn come(
         &mut self,
         alloc: Global,
@@ -262,7 +300,14 @@ impl<'a> Finding<'a> {
             (Comes (table_of table.now) stated front.now self.old asked.entry said self.new)) }
     {
         match asked {
-            Asked::Type(ty) => self.typed(alloc, table, stated, front, ty, said),
+            Asked::Type(ty) => match said {
+                // Blocks get code of their own.
+                Said::Block(tag, size) => {
+                    let block = Said::Block(tag, size);
+                    self.typed(alloc, table, stated, front, ty, block)
+                }
+                _ => self.typed(alloc, table, stated, front, ty, said),
+            },
             Asked::Hash(tags) => Ok(self.hash(tags, said)),
             Asked::Nothing => self.below(stated, said),
         }
@@ -376,8 +421,7 @@ impl<'a> Seeking<'a> {
         self.left = self.left.saturating_add(more);
         self.finding.seconds.left = self.finding.seconds.left.saturating_add(more);
         self.seen = bytes.len();
-        // Each turn takes a byte, so this ends long before.
-        'tokens: for _turn in 0..u64::MAX {
+        'tokens: loop {
             if !self.finding.way.ready() {
                 if self.finding.end(&self.head, self.start, self.at) {
                     return Ok(End::Found(self.at));
@@ -387,6 +431,10 @@ impl<'a> Seeking<'a> {
             let Some((first, len)) = first_token(&bytes[self.at..]) else {
                 return Ok(End::Cut);
             };
+            if self.finding.pass(table, first) {
+                self.at += len;
+                continue;
+            }
             let made = self.finding.types.len();
             self.finding.seconds.mark(self.at, made)?;
             let asked = self.finding.way.take();
@@ -399,7 +447,6 @@ impl<'a> Seeking<'a> {
             }
             self.at += len;
         }
-        Ok(End::Untold)
     }
 
     /// Whether no more values are to come than so many. It gives up where more blocks would be

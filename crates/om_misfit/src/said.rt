@@ -107,6 +107,7 @@ fn said_custom(piece: &[u8]) -> Option<Said>
 }
 
 /// What the token of this kind says, after whose code stands the piece.
+#[inline(always)]
 fn said_of(kind: Known, piece: &[u8]) -> Option<Said>
     requires { length piece.now ≡ fixed_bytes kind.kind + variable_bytes kind.kind piece.now }
     ensures { IfSome result (λ said. IsSaidAfter kind.kind piece.now said × IsFair said) }
@@ -127,12 +128,32 @@ fn said_of(kind: Known, piece: &[u8]) -> Option<Said>
 
 /// What the first token of the bytes says, and how many bytes it has; nothing where it is not
 /// whole, or is none that may stand there.
+#[tactic(auto, unfolding(om_format::specs::Code::kind_of))]
+#[inline(always)]
 pub fn first_token(bytes: &[u8]) -> Option<(Said, usize)>
     ensures { IfSome result (λ first. IsSaidBy bytes.now first.0 first.1 × IsFair first.0) }
 {
     if bytes.is_empty() {
         return None;
     }
+    let code = bytes[0];
+    // The common codes get code of their own.
+    match code {
+        0x80.. => said_kind(CodeKind::SmallBlock(code % 16, code / 16 % 8), bytes),
+        0x40.. => said_kind(CodeKind::SmallInt(code % 64), bytes),
+        0x20.. => said_kind(CodeKind::SmallString(code % 32), bytes),
+        0x00 => said_kind(CodeKind::Int(1), bytes),
+        0x01 => said_kind(CodeKind::Int(2), bytes),
+        _ => said_rare(bytes),
+    }
+}
+
+/// The same of any code.
+#[inline(never)]
+fn said_rare(bytes: &[u8]) -> Option<(Said, usize)>
+    requires { 0 < length bytes.now }
+    ensures { IfSome result (λ first. IsSaidBy bytes.now first.0 first.1 × IsFair first.0) }
+{
     match code_kind(bytes[0]) {
         Ok(kind) => said_kind(kind, bytes),
         Err(_) => None,
@@ -140,6 +161,7 @@ pub fn first_token(bytes: &[u8]) -> Option<(Said, usize)>
 }
 
 /// The same of a known kind.
+#[inline(always)]
 fn said_kind(kind: CodeKind, bytes: &[u8]) -> Option<(Said, usize)>
     requires some { 0 < length bytes.now }
     requires kind { kind_of (slice_index bytes.now 0) ≡ Ok kind }
@@ -157,6 +179,7 @@ fn said_kind(kind: CodeKind, bytes: &[u8]) -> Option<(Said, usize)>
 }
 
 /// How many fields the token has.
+#[inline(always)]
 pub fn fields_of(said: Said) -> u64
     ensures { result ≡ said_fields said }
 {
@@ -179,6 +202,7 @@ fn custom_measure(kind: CustomKind) -> Measure
 }
 
 /// How large the object is that the token makes, if it makes one.
+#[inline(always)]
 pub fn measure_of(said: Said) -> Option<Measure>
     requires { IsFair said }
     ensures measured { result ≡ said_measure said }

@@ -1,6 +1,7 @@
 //! The open places of a value, and the way to each.
 
 ghost use Rattle.std.specs.Prelude.{◌≡◌, ◌<◌, ◌≤◌, ◌∷◌, [], MatchBool, MatchOption, IfOk, OnOk};
+ghost use Rattle.std.specs.Prelude.{IfSome};
 ghost use Rattle.std.specs.Bool.{OnTrue};
 ghost use Rattle.om_pass_law.specs.Asked.{values_in};
 ghost use Rattle.om_pass.specs.Places.{open_needs};
@@ -11,6 +12,7 @@ ghost use Rattle.om_misfit.specs.Way.{place_of, left_values, root_place, way_pla
 ghost use Rattle.om_misfit.specs.Way.{IsWay, IsSplit, PointsTo, IsAfterHash, OpensAt, Keeps};
 ghost use Rattle.om_misfit.specs.Way.{OnHash};
 
+use crate::push::push;
 use om_model::Memory;
 use om_pass::Open;
 use om_types::shape::PolyTag;
@@ -100,6 +102,18 @@ fn split_asked<'a>(places: Open<'a>) -> Option<(Asked<'a>, Left<'a>, u32)>
     }
 }
 
+/// The type that the first of the places that are left asks for, if it asks for one, the others,
+/// and how many values they come after.
+#[inline(always)]
+pub fn first_type<'a>(left: Left<'a>) -> Option<(usize, Left<'a>, u32)>
+    ensures { IfSome result (λ first. IsSplit left.entry (asks.Type first.0) first.1 first.2) }
+{
+    match split(left) {
+        Some((Asked::Type(ty), others, values)) => Some((ty, others, values)),
+        _ => None,
+    }
+}
+
 /// How many values are to come in the places that are left.
 pub fn values_left(left: Left<'_>) -> u64
     ensures { result ≡ left_values left.entry }
@@ -150,6 +164,7 @@ impl<'a> Way<'a> {
     }
 
     /// The links lead to the place of this number in the innermost block.
+    #[inline(always)]
     fn point(&mut self, field: u32)
         requires { IsWay self.old }
         ensures { PointsTo self.old field self.new }
@@ -159,8 +174,7 @@ impl<'a> Way<'a> {
         if depth == 0 {
             return;
         }
-        let object = self.links[depth - 1].object;
-        self.links[depth - 1] = Link { object, field };
+        self.links[depth - 1].field = field;
     }
 
     /// The place of another value, in the same memory.
@@ -178,6 +192,7 @@ impl<'a> Way<'a> {
     }
 
     /// Whether a place is open. Blocks that have none any more are left behind.
+    #[inline(always)]
     pub fn ready(&mut self) -> bool
         requires { IsWay self.old }
         ensures is_way { IsWay self.new }
@@ -198,6 +213,7 @@ impl<'a> Way<'a> {
     }
 
     /// What the first open place asks for. It is taken, and the links lead to it.
+    #[inline(always)]
     pub fn take(&mut self) -> Asked<'a>
         requires is_way { IsWay self.old }
         requires some { 0 < left_values self.old.now.left }
@@ -242,6 +258,7 @@ impl<'a> Way<'a> {
     }
 
     /// The open places of the innermost block wait, if it has any.
+    #[inline(always)]
     fn keep(&mut self) -> Result<(), Memory>
         requires { IsWay self.old }
         ensures { OnOk result (Keeps self.old self.new) }
@@ -250,26 +267,45 @@ impl<'a> Way<'a> {
         if left == 0 {
             return Ok(());
         }
+        if self.waiting.len() < self.waiting.capacity() {
+            self.waiting.push_reserved(self.now);
+            return Ok(());
+        }
+        self.keep_more()
+    }
+
+    /// The same, where no room is left for it.
+    #[inline(never)]
+    fn keep_more(&mut self) -> Result<(), Memory>
+        requires { IsWay self.old }
+        ensures { OnOk result (Keeps self.old self.new) }
+    {
         self.waiting.push(self.now)?;
         Ok(())
     }
 
-    /// The object of this number comes in the place that was taken last, and its places come before
-    /// all others, if the numbers have room.
-    pub fn open(&mut self, object: usize, left: Left<'a>) -> Result<bool, Memory>
-        requires { IsWay self.old }
+    /// The object of this number comes in the place that was taken last, and its places, in which
+    /// so many values are to come, come before all others, if the numbers have room.
+    #[inline(always)]
+    pub fn open(&mut self, object: usize, left: Left<'a>, values: u64) -> Result<bool, Memory>
+        requires is_way { IsWay self.old }
+        requires many { left_values left ≡ values }
         ensures { IfOk result
             (λ opened. OnTrue opened
             (IsWay self.new × OpensAt self.old object left.entry self.new)) }
     {
-        if object >= 1 << 32 || values_left(left) >= 1 << 32 {
+        if values == 0 {
+            return Ok(true);
+        }
+        if object >= 1 << 32 || values >= 1 << 32 {
             return Ok(false);
         }
         self.keep()?;
-        self.links.push(Link {
+        let link = Link {
             object: object as u32,
             field: 0,
-        })?;
+        };
+        push(&mut self.links, link)?;
         self.now = Wait {
             depth: self.links.len(),
             next: 0,

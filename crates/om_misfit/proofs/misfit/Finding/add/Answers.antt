@@ -1,7 +1,6 @@
-use Rattle.std.proofs.Common.{rules, ◌≡◌, ◌∙◌, ◌++◌, length, refl, sym, ap}
-use Rattle.om_pass.proofs.Weaker.{taken_weaker, if_true}
-use Rattle.om_misfit.specs.Way.{trail_in, way_places, opened_places, left_values}
-use Rattle.om_misfit.proofs.WayLemmas.{none_opened}
+use Rattle.std.proofs.Common.{rules, ◌≡◌, ◌∙◌, ◌++◌, length, refl, ap}
+use Rattle.om_pass.proofs.Weaker.{if_true}
+use Rattle.om_misfit.specs.Way.{trail_in, way_places, opened_places}
 use Rattle.om_misfit.proofs.SaidLemmas.{measured}
 use Rattle.om_misfit.proofs.ComesLemmas.{adds_none, adds_one}
 use Rattle.om_misfit.proofs.misfit.Finding.add.Goals as goal
@@ -9,20 +8,11 @@ use Rattle.om_misfit.proofs.misfit.Finding.add.Goals as goal
 pub returns-in_default : goal.returns-in_default
 returns-in_default c = adds_none c.args.self.now c.args.ty c.args.said c.args.left c.requires.is_way c.requires.room (measured c.args.said _ c.in_default.ensures.measured)
 
-pub returns-then-values_left-eq0 : goal.returns-then-values_left-eq0
-returns-then-values_left-eq0 c =
-    let old = c.args.self.now in
-    let none : left_values c.args.left ≡ 0 = sym c.values_left.ensures ∙ c.if-values_left-eq0.true in
-    adds_one old _ c.args.ty c.args.said c.args.left c.in-Some.measure (measured c.args.said _ c.in-Some.ensures.measured) c.requires.is_way
-    (sym (ap (λ ps. ps ++ way_places old.way) (none_opened (length old.types.items) (trail_in old.way) c.args.left none)))
-    refl refl c.in_ok-push.ensures.items c.in_ok-make.ensures (if_true c.spend.result c.if-not-spend.false c.spend.ensures)
-
 pub returns : goal.returns
 returns c =
     let old = c.args.self.now in
     let many : c.len-object.result ≡ length old.types.items = search rules in
-    taken_weaker c.open.result
-    (λ opened. adds_one old _ c.args.ty c.args.said c.args.left c.in-Some.measure (measured c.args.said _ c.in-Some.ensures.measured) opened.0
+    let opened = if_true c.in_ok-opened.opened c.if-not-opened.false c.in_ok-opened.ensures in
+    adds_one old _ c.args.ty c.args.said c.args.left c.in-Some.measure (measured c.args.said _ c.in-Some.ensures.measured) opened.0
     (opened.1 ∙ ap (λ n. opened_places n (trail_in old.way) c.args.left ++ way_places old.way) many)
-    refl refl c.in_ok-push.ensures.items c.in_ok-make.ensures (if_true c.spend.result c.if-not-spend.false c.spend.ensures))
-    c.open.ensures
+    refl refl c.in_ok-push.ensures c.in_ok-make.ensures (if_true c.spend.result c.if-not-spend.false c.spend.ensures)

@@ -1,4 +1,4 @@
-use Rattle.std.proofs.Common.{sym, subst}
+use Rattle.std.proofs.Common.{sym, subst, subst₂}
 use Rattle.om_type_table.specs.Made.{table_of}
 use Rattle.om_pass.proofs.Weaker.{taken_weaker, on_true_weaker}
 use Rattle.om_misfit.specs.Way.{IsAfterHash, OnHash}
@@ -8,11 +8,17 @@ use Rattle.om_misfit.proofs.misfit.Finding.come.Goals as goal
 pub hash-requires-clause-hash : goal.hash-requires-clause-hash
 hash-requires-clause-hash c = subst (λ asked. OnHash asked (IsAfterHash c.args.self.now.way)) c.in-Hash.is c.requires.hash
 
-pub returns-in-Type : goal.returns-in-Type
-returns-in-Type c =
+pub returns-in-Block : goal.returns-in-Block
+returns-in-Block c =
     taken_weaker c.typed.result
-    (λ comes. subst (λ asked. Comes (table_of c.args.table.now) c.args.stated c.args.front.now c.args.self.now asked c.args.said c.typed.new.self) (sym c.in-Type.is) comes)
+    (λ comes. subst₂ (λ asked said. Comes (table_of c.args.table.now) c.args.stated c.args.front.now c.args.self.now asked said c.typed.new.self) (sym c.in-Type.is) (sym c.in-Block.is) comes)
     c.typed.ensures
+
+pub returns-in_default : goal.returns-in_default
+returns-in_default c =
+    taken_weaker c.typed-in_default.result
+    (λ comes. subst (λ asked. Comes (table_of c.args.table.now) c.args.stated c.args.front.now c.args.self.now asked c.args.said c.typed-in_default.new.self) (sym c.in-Type.is) comes)
+    c.typed-in_default.ensures
 
 pub returns-in-Hash : goal.returns-in-Hash
 returns-in-Hash c =

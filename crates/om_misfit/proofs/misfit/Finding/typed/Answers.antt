@@ -1,8 +1,9 @@
-use Rattle.std.proofs.Common.{rules, ◌<◌, refl, sym, subst}
+use Rattle.std.proofs.Common.{rules, ◌<◌, ◌∙◌, refl, sym, ap, subst}
 use Rattle.om_type_table.specs.Made.{table_of}
 use Rattle.om_pass.proofs.Weaker.{taken_weaker}
 use Rattle.om_misfit.specs.declared.way.Asked.TheVariants as asks
 use Rattle.om_misfit.specs.declared.way.Left.TheVariants as lefts
+use Rattle.om_misfit.specs.Judge.{said_fields}
 use Rattle.om_misfit.specs.Find.{no_type, Comes}
 use Rattle.om_misfit.proofs.JudgeLemmas.{room_of_block, no_back_block}
 use Rattle.om_misfit.proofs.ComesLemmas.{comes_fits}
@@ -15,6 +16,11 @@ pub add-requires-in-Opens-clause-room : goal.add-requires-in-Opens-clause-room
 add-requires-in-Opens-clause-room c =
     let block = c.in-Opens.ensures.apt in
     room_of_block c.args.said (lefts.Asked c.in-Opens.places) block.0 block.1 block.2
+
+pub add-requires-in-Opens-clause-many : goal.add-requires-in-Opens-clause-many
+add-requires-in-Opens-clause-many c =
+    let block = c.in-Opens.ensures.apt in
+    block.3 ∙ sym (ap said_fields block.2) ∙ sym c.fields_of.ensures
 
 pub returns-in-Fits : goal.returns-in-Fits
 returns-in-Fits c =

@@ -5,7 +5,8 @@ use Rattle.om_pass.proofs.Weaker.{if_true}
 use Rattle.om_misfit.specs.declared.misfit.Finding.{Finding}
 use Rattle.om_misfit.specs.Judge.{IsSaidBy}
 use Rattle.om_misfit.specs.Way.{place_of, trail_in}
-use Rattle.om_misfit.proofs.FindLemmas.{finds_from, finds_moved, finds_marked, finds_further, found_end, some_open}
+use Rattle.om_misfit.specs.Find.{Finds}
+use Rattle.om_misfit.proofs.FindLemmas.{finds_from, finds_moved, finds_marked, finds_further, finds_passed, found_end, some_open}
 use Rattle.om_misfit.proofs.misfit.Seeking.go.Goals as goal
 
 pub tokens-init : goal.tokens-init
@@ -34,20 +35,35 @@ returns-in_default c =
     let here = finds_moved (table_of c.args.table.now) c.args.limit c.args.bytes.now s.head s.start s.at [] [] s.finding ready c.tokens.invariant c.ready.ensures.is_way (sym c.ready.ensures.same) refl refl refl refl refl refl in
     (here, some_open c.ready.new.self c.if-not-ready.ensures.ready)
 
+pub tokens-preserved-then-pass : goal.tokens-preserved-then-pass
+tokens-preserved-then-pass c =
+    let s = c.tokens.self in
+    let ready : Finding = record { way = c.ready.new.self; types = s.finding.types; again = s.finding.again; seconds = s.finding.seconds; words = s.finding.words; found = s.finding.found } in
+    let table = table_of c.args.table.now in
+    let bytes = c.args.bytes.now in
+    let said = c.in-Some.first in
+    let len = c.in-Some.len in
+    let here = finds_moved table c.args.limit bytes s.head s.start s.at [] [] s.finding ready c.tokens.invariant c.ready.ensures.is_way (sym c.ready.ensures.same) refl refl refl refl refl refl in
+    let by = subst (λ rest. IsSaidBy rest said len) (rest_from s.at bytes) c.in-Some.ensures.0 in
+    finds_passed table c.args.limit bytes s.head s.start s.at len ready c.pass.new.self said here by (c.pass.ensures.passed c.if-pass.true)
+
 pub tokens-preserved : goal.tokens-preserved
 tokens-preserved c =
     let s = c.tokens.self in
     let ready : Finding = record { way = c.ready.new.self; types = s.finding.types; again = s.finding.again; seconds = s.finding.seconds; words = s.finding.words; found = s.finding.found } in
-    let marked : Finding = record { way = c.ready.new.self; types = s.finding.types; again = s.finding.again; seconds = c.mark.new.self; words = s.finding.words; found = s.finding.found } in
-    let taken : Finding = record { way = c.take-asked.new.self; types = s.finding.types; again = s.finding.again; seconds = c.mark.new.self; words = s.finding.words; found = s.finding.found } in
-    let many : c.len-made.result ≡ length s.finding.types.items = search rules in
+    let kept = c.pass.new.self in
+    let marked : Finding = record { way = kept.way; types = kept.types; again = kept.again; seconds = c.mark.new.self; words = kept.words; found = kept.found } in
+    let taken : Finding = record { way = c.take-asked.new.self; types = kept.types; again = kept.again; seconds = c.mark.new.self; words = kept.words; found = kept.found } in
+    let same : kept ≡ ready = c.if-pass.ensures.kept (λ passed. absurd (cc)) in
+    let many : c.len-made.result ≡ length kept.types.items = search rules in
     let table = table_of c.args.table.now in
     let bytes = c.args.bytes.now in
     let asked = c.take-asked.result in
     let said = c.in-Some.first in
     let len = c.in-Some.len in
     let here = finds_moved table c.args.limit bytes s.head s.start s.at [] [] s.finding ready c.tokens.invariant c.ready.ensures.is_way (sym c.ready.ensures.same) refl refl refl refl refl refl in
-    let noted = finds_marked table c.args.limit bytes s.head s.start s.at c.len-made.result ready c.mark.new.self here many c.in_ok-mark.ensures in
+    let still = subst (Finds table c.args.limit bytes s.head s.start s.at []) (sym same) here in
+    let noted = finds_marked table c.args.limit bytes s.head s.start s.at c.len-made.result kept c.mark.new.self still many c.in_ok-mark.ensures in
     let first = finds_moved table c.args.limit bytes s.head s.start s.at [] (place_of asked (trail_in c.take-asked.new.self) ∷ []) marked taken noted c.take-asked.ensures.is_way c.take-asked.ensures.first refl refl refl refl refl refl in
     let by = subst (λ rest. IsSaidBy rest said len) (rest_from s.at bytes) c.in-Some.ensures.0 in
     finds_further table c.args.limit bytes s.head s.start s.at len taken c.come.new.self asked said first by (if_true c.in_ok-came.came c.if-not-came.false c.in_ok-came.ensures)

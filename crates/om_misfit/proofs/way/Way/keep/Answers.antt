@@ -5,5 +5,5 @@ use Rattle.om_misfit.proofs.way.Way.keep.Goals as goal
 pub returns-then-left-eq0 : goal.returns-then-left-eq0
 returns-then-left-eq0 c = kept_none c.args.self.now c.requires (sym c.values_left-left.ensures ∙ c.if-left-eq0.true)
 
-pub returns : goal.returns
-returns c = kept_some c.args.self.now _ c.requires refl c.in_ok-push.ensures.items
+pub returns-then-len-capacity : goal.returns-then-len-capacity
+returns-then-len-capacity c = kept_some c.args.self.now _ c.requires refl c.push_reserved.ensures.items

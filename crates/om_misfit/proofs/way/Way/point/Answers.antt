@@ -18,13 +18,13 @@ returns c =
     let old = c.args.self.now.links.items in
     let depth : ℕ = c.args.self.now.now.depth in
     let cut = c.truncate.new.self.items in
-    let one : Link = c.index.result.now in
-    let two : Link = record { object = c.index.result.now.object; field = c.args.field } in
+    let one : Link = c.index_mut.result.now in
+    let two : Link = record { object = c.index_mut.result.now.object; field = c.args.field } in
     let some : 0 < depth = omega (arith, c.if-depth-eq0.false) in
     let long : length cut ≡ depth = ap length c.truncate.ensures.items ∙ length-take-le depth old c.requires.deep in
     let short : depth - 1 < length cut = omega (arith, some, long) in
     let next : suc (depth - 1) ≡ depth = omega (arith, some) in
-    let at : slice_get cut (depth - 1) ≡ Some one = slice_get_read cut (length cut) (depth - 1) one refl short c.index.ensures in
+    let at : slice_get cut (depth - 1) ≡ Some one = slice_get_read cut (length cut) (depth - 1) one refl short c.index_mut.ensures.value in
     record {
       now = refl;
       waiting = refl;
