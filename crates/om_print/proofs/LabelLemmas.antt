@@ -1,8 +1,9 @@
 -- Labels: which objects have one, and their numbers.
-use Rattle.std.proofs.Common.{ℕ, suc, ◌≡◌, ◌+◌, ◌<◌, ◌≤◌, ◌==◌, ◌∙◌, ◌⊎◌, ⊎_elim, inl, inr, Bool, true, false, cond, List, [], ◌∷◌, ◌++◌, length, drop, get_or, refl, sym, ap, subst, arith, append-nil, Some, None}
-use Rattle.std.specs.Prelude.{◌||◌, filter, codes}
+use Rattle.std.proofs.Common.{ℕ, suc, ◌≡◌, ◌+◌, ◌-◌, ◌<◌, ◌≤◌, ◌==◌, ◌∙◌, ◌⊎◌, ⊎_elim, inl, inr, Bool, true, false, cond, List, [], ◌∷◌, ◌++◌, length, take, drop, get_or, refl, sym, ap, subst, arith, append-nil, zero-add, Some, None}
+use Rattle.std.specs.Prelude.{◌||◌, All, filter, codes}
 use Rattle.std.proofs.lemmas.Bool.Decides.{eqb_tells}
 use Rattle.std.proofs.lemmas.List.{length-append, length-set}
+use Rattle.std.proofs.lemmas.List.Elements.{All-head, All-tail, All-more, All-weaker}
 use Rattle.std.proofs.lemmas.List.Folds.{list_any-append}
 use Rattle.om_model.specs.declared.value.Val.{Val}
 use Rattle.om_model.specs.declared.value.Obj.{Obj}
@@ -12,7 +13,7 @@ use Rattle.om_show.proofs.PieceLemmas.{agains-append, firsts-append}
 use Rattle.om_print.specs.declared.walk.Step.{Step}
 use Rattle.om_print.specs.declared.walk.Step.TheVariants as steps
 use Rattle.om_print.specs.declared.walk.Walk.{Walk}
-use Rattle.om_print.specs.Labels.{agains_of, marks_after, IsMarkable, AreCounted}
+use Rattle.om_print.specs.Labels.{IsBetween, AreNumbers, agains_of, marks_after, IsMarkable, AreCounted}
 use Rattle.om_print.specs.Levels.{levels_of}
 use Rattle.om_print.specs.Walking.{pieces_left, left_of, step_pieces, IsStep, Goes}
 use Rattle.om_print.proofs.LevelLemmas.{no_levels}
@@ -34,8 +35,26 @@ label_cases (x ∷ objects) o = ⊎_elim
     (eqb_tells x o)
 
 -- the numbers of the objects from number k on, counted from k
-abbrev pub AreNumbersFrom : ℕ → List ℕ → List ℕ → Type 0
-AreNumbersFrom k objects numbers = (o : ℕ) → o < length numbers → get_or numbers o 0 ≡ k + number_in (drop k objects) o
+abbrev pub AreNumbersFrom : ℕ → List ℕ → ℕ → List ℕ → Type 0
+AreNumbersFrom k objects first numbers = (o : ℕ) → first ≤ o → get_or numbers (o - first) (length objects) ≡ k + number_in (drop k objects) o
+
+pub numbers_all : (objects : List ℕ) (first end k : ℕ) (numbers : List ℕ) → k ≡ 0 → All (IsBetween first end) objects → AreNumbersFrom k objects first numbers → AreNumbers objects first numbers
+numbers_all objects first end k numbers none between are = record {
+  before = λ o less. none_before objects first o less (All-weaker (IsBetween first end) (λ x. first ≤ x) (λ x is. is.0) objects between);
+  from_first = λ o from. subst (λ n. AreNumbersFrom n objects first numbers) none are o from ∙ zero-add (number_in objects o);
+} where
+  none_before : (xs : List ℕ) (first o : ℕ) → o < first → All (λ x. first ≤ x) xs → length xs ≡ number_in xs o
+  none_before [] first o less all = refl
+  none_before (x ∷ xs) first o less all = ⊎_elim
+      (λ same. absurd (omega (arith, same.1, less, All-head (λ y. first ≤ y) x xs all)))
+      (λ other. ap suc (none_before xs first o less (All-tail (λ y. first ≤ y) x xs all)) ∙ sym (ap (λ b. cond b 0 (suc (number_in xs o))) other.0))
+      (eqb_tells x o)
+
+-- what the objects so far span, and one more
+pub span_more : (objects : List ℕ) (i first end least past : ℕ) → i < length objects → All (IsBetween first end) (take i objects)
+    → least ≤ first → end ≤ past → IsBetween least past (get_or objects i 0) → All (IsBetween least past) (take (i + 1) objects)
+span_more objects i first end least past inside all lower higher here =
+    All-more (IsBetween least past) objects i 0 inside (All-weaker (IsBetween first end) (IsBetween least past) (λ x is. (omega (arith, is.0), omega (arith, is.1))) (take i objects) all) here
 
 pub no_label : (objects : List ℕ) (o number : ℕ) → number ≡ number_in objects o → length objects ≤ number → piece_text objects (First o) ≡ []
 no_label objects o number is past = ⊎_elim

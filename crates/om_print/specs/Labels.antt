@@ -1,6 +1,6 @@
 -- Numbers of labels, by the objects' numbers.
-use Rattle.std.specs.Prelude.{ℕ, ◌<◌, ◌≡◌, ◌||◌, Bool, true, false, List, [], ◌∷◌, ◌++◌, length}
-use Rattle.std.specs.Prelude.{slice_index, slice_index_or, slice_set}
+use Rattle.std.specs.Prelude.{ℕ, ◌<◌, ◌≤◌, ◌-◌, ◌≡◌, ◌||◌, Bool, true, false, List, [], ◌∷◌, ◌++◌}
+use Rattle.std.specs.Prelude.{length, slice_index_or, slice_set}
 use Rattle.om_model.specs.declared.value.Obj.{Obj}
 use Rattle.om_type_table.specs.declared.tabled.Tabled.{Tabled}
 use Rattle.om_show.specs.Pieces.{Piece, has, firsts, agains, number_in}
@@ -10,13 +10,19 @@ use Rattle.om_print.specs.declared.walk.Step.TheVariants as steps
 use Rattle.om_print.specs.declared.labels.Labels.{Labels}
 use Rattle.om_print.specs.declared.walk.Walk.{Walk}
 
--- the number of each object among these
-abbrev pub AreNumbers : List ℕ → List ℕ → Type 0
-AreNumbers objects numbers =
-    (o : ℕ) → o < length numbers → slice_index numbers o ≡ number_in objects o
+-- from the first one up to, and without, the end
+abbrev pub IsBetween : ℕ → ℕ → ℕ → Type 0
+IsBetween first end o = (first ≤ o) × (o < end)
+
+-- the number of each object among these, by a row that begins at the first one: an object before
+-- the row or past it is none of these
+pub record AreNumbers (objects : List ℕ) (first : ℕ) (numbers : List ℕ) : Type 0 where
+  pub before : (o : ℕ) → o < first → length objects ≡ number_in objects o
+  pub from_first : (o : ℕ) → first ≤ o
+      → slice_index_or numbers (o - first) (length objects) ≡ number_in objects o
 
 abbrev pub AreLabels : Labels → Type 0
-AreLabels labels = AreNumbers labels.objects.items labels.numbers.items
+AreLabels labels = AreNumbers labels.objects.items labels.first labels.numbers.items
 
 -- the objects that a step meets again
 abbrev pub agains_of : Step → List ℕ

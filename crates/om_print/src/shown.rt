@@ -1,7 +1,7 @@
 //! The text of a value at a type.
 
 ghost use Rattle.std.specs.Prelude.{◌≡◌, ◌<◌, ◌++◌, None, [], length, All, IfSome, IfOk, OnOk};
-ghost use Rattle.std.specs.Prelude.{flat_map, vec_len};
+ghost use Rattle.std.specs.Prelude.{flat_map};
 ghost use Rattle.om_types.specs.Table.{table_shapes};
 ghost use Rattle.om_types.specs.Typing.{HasType};
 ghost use Rattle.om_type_table.specs.Made.{table_of};
@@ -94,7 +94,6 @@ fn put_with_labels(
 ) -> Result<(), Memory>
     requires typed { IsTypedAt (table_of table.now) value.now.heap.now value.now.root at }
     requires labels { AreLabels labels.now }
-    requires many { vec_len labels.now.numbers ≡ length value.now.heap.now }
     ensures { OnOk result
         (text.new.items
         ≡ text.old.items
@@ -120,7 +119,6 @@ fn put_step(
 ) -> Result<(), Memory>
     requires step { IsStep table.now heap.now step }
     requires labels { AreLabels labels.now }
-    requires many { vec_len labels.now.numbers ≡ length heap.now }
     ensures { OnOk result
         (text.new.items
         ≡ text.old.items
