@@ -324,7 +324,7 @@ def run(copy, crate, *words, stdin=b''):
     if os.path.isdir(folder):
         for name in sorted(os.listdir(folder)):
             data += ['--data', f'{name}=data/{name}']
-    words = ['rt', 'try', '--steps', '1', '--seconds', '900', *data, *words]
+    words = ['rt', 'try', '--steps', '1', '--seconds', '3600', *data, *words]
     print(f'called_functions: {crate}', file=sys.stderr, flush=True)
     return subprocess.run(
         words, cwd=f'{copy}/crates/{crate}', input=stdin, stdout=subprocess.PIPE, stderr=subprocess.PIPE,
