@@ -1,10 +1,7 @@
 -- The first visit that clashes with one before it, found by the first visit of each object.
 use Rattle.std.proofs.Common.{ℕ, zero, suc, ◌+◌, ◌-◌, ◌<◌, ◌≤◌, ◌≡◌, ◌∙◌, ◌⊎◌, inl, inr, ⊎_elim, List, length, Some, refl, sym, ap, subst, arith}
 use Rattle.std.specs.Prelude.{slice_get, slice_index, All, IsTrue}
-use Rattle.std.specs.List.{list_any}
-use Rattle.std.specs.BTreeMap.{is_at}
-use Rattle.std.specs.BTreeSet.{contains}
-use Rattle.std.proofs.lemmas.Bool.{false≢true, cases_lt}
+use Rattle.std.proofs.lemmas.Bool.{cases_lt}
 use Rattle.std.proofs.lemmas.List.Elements.{All-contains}
 use Rattle.std.proofs.lemmas.Option.{same_Some}
 use Rattle.om_model.proofs.Options.{slice_get_there, slice_get-Contains}
@@ -13,9 +10,9 @@ use Rattle.om_types.specs.Table.{Table}
 use Rattle.om_check.specs.declared.visits.Visit.{Visit}
 use Rattle.om_check.specs.declared.visits.Visits.{Visits}
 use Rattle.om_check.specs.Visits.{listed, AreLinked, IsFirstAt}
-use Rattle.om_scan.specs.Seconds.{pair_cmp}
+use Rattle.om_scan.specs.Classed.{Has, IsUntouched}
 use Rattle.om_scan.proofs.PlaceLemmas.{read_at}
-use Rattle.om_scan.proofs.SecondLemmas.{nothing_in}
+use Rattle.om_scan.proofs.ClassedLemmas.{untouched_none}
 use Rattle.om_check.specs.Clash.{IsWithin, mutable_at, AreApart, ClashAt, NoneClash, ClashesBack, IsFirstOf, IsFirstClash}
 
 -- the type of an object's first visit
@@ -64,7 +61,7 @@ first_read table graph visits k n v linked within at_k is =
 -- where nothing was met at a second class, all visits of an object are one
 pub none_later :
     (table : Table) (graph : List Obj) (visits : Visits) → AreLinked table (length graph) visits → All (IsWithin table graph) (listed visits)
-    → length table.classes ≡ length table.nodes → AreApart table (listed visits) → length visits.later.keys ≡ 0
+    → length table.classes ≡ length table.nodes → AreApart table (listed visits) → IsUntouched visits.later
     → NoneClash table graph (listed visits) (length (listed visits))
 none_later table graph visits linked within classed apart none i k less c =
     let object = (own_within table graph (listed visits) k c.other within c.at_second).0 in
@@ -73,8 +70,8 @@ none_later table graph visits linked within classed apart none i k less c =
     let other = class_of k c.other c.at_second refl cell.0 cell.1 in
     let place = apart i k c.one c.other c.at_first c.at_second c.same (one ∙ sym other) in
     let before = c.before in omega (arith, before, place) where
-      unknown : (d : ℕ) → ¬ IsTrue (contains pair_cmp visits.later (c.other.object, d))
-      unknown d is = false≢true (sym (ap (λ keys. list_any (is_at (pair_cmp (c.other.object, d))) keys) (nothing_in visits.later.keys none)) ∙ is)
+      unknown : (d : ℕ) → ¬ Has visits.later c.other.object d
+      unknown = untouched_none visits.later none c.other.object
 
       class_of :
           (j : ℕ) (v : Visit) → slice_get (listed visits) j ≡ Some v → v.object ≡ c.other.object → (t : ℕ)

@@ -1,11 +1,7 @@
 -- What is noted of the objects that were met, while visits are added.
-use Rattle.std.proofs.Common.{ℕ, zero, suc, ◌<◌, ◌≡◌, ◌∙◌, ◌⊎◌, inl, inr, ⊎_elim, true, List, [], ◌∷◌, ◌++◌, length, Option, Some, refl, sym, ap, subst, arith}
-use Rattle.std.specs.Prelude.{All, IsTrue, slice_get, slice_set, replicate}
+use Rattle.std.proofs.Common.{ℕ, zero, suc, ◌<◌, ◌≡◌, ◌∙◌, ◌⊎◌, inl, inr, ⊎_elim, List, [], ◌∷◌, ◌++◌, length, Option, Some, refl, sym, ap, subst, arith}
+use Rattle.std.specs.Prelude.{All, slice_get, slice_set, replicate}
 use Rattle.std.proofs.lemmas.List.Elements.{All-contains}
-use Rattle.std.specs.List.{list_any}
-use Rattle.std.specs.BTreeMap.{is_at}
-use Rattle.std.specs.BTreeSet.{BTreeSet, contains, Updates}
-use Rattle.std.proofs.lemmas.Bool.{false≢true}
 use Rattle.std.proofs.lemmas.Option.{same_Some, none-some, slice_get_within}
 use Rattle.om_model.proofs.Options.{same_or_not, slice_get-Contains}
 use Rattle.om_model.proofs.Lists.{slice_get-append_left, slice_get-last}
@@ -13,9 +9,10 @@ use Rattle.om_types.specs.Table.{Table}
 use Rattle.om_check.specs.declared.visits.Visit.{Visit}
 use Rattle.om_check.specs.declared.visits.Visits.{Visits}
 use Rattle.om_check.specs.Visits.{listed, IsMet, IsFirstAt, IsAppended, AreNoted, AreLinked}
-use Rattle.om_scan.specs.Seconds.{pair_cmp}
+use Rattle.om_scan.specs.declared.classed.Classed.{Classed}
+use Rattle.om_scan.specs.Classed.{Has, IsUntouched, Inserts}
 use Rattle.om_scan.proofs.PlaceLemmas.{slice_get-append_below, slice_get-push_cases, slice_set_here, slice_set_other}
-use Rattle.om_scan.proofs.SetLemmas.{later_before, later_kept}
+use Rattle.om_scan.proofs.ClassedLemmas.{untouched_none}
 
 -- ---- lists
 
@@ -148,38 +145,52 @@ length-set [] k x = refl
 length-set (y ∷ xs) zero x = refl
 length-set (y ∷ xs) (suc k) x = ap suc (length-set xs k x)
 
-abbrev pub later_in : BTreeSet (ℕ × ℕ) → ℕ → ℕ → Type 0
-later_in set o c = IsTrue (contains pair_cmp set (o, c))
-
 module _ (table : Table) (objects : ℕ) (old new : Visits) (o t p s : ℕ) (linked : AreLinked table objects old)
     (appended : IsAppended (listed old) (listed new) o t p s) where
   pub linked_first :
       slice_get old.first o ≡ Some 0 → new.first ≡ slice_set old.first o (suc t) → new.later ≡ old.later → AreLinked table objects new
   linked_first at_o first later =
       let v : Visit = record { object = o; ty = t; parent = p; step = s } in
-      let noted = noted_first table (listed old) old.first (later_in old.later) linked.noted v at_o in
+      let noted = noted_first table (listed old) old.first (Has old.later) linked.noted v at_o in
       record {
         many = ap length first ∙ length-set old.first o (suc t) ∙ linked.many;
-        noted = subst (λ set. AreNoted table (listed new) new.first (later_in set)) (sym later)
-            (subst (λ cells. AreNoted table (listed new) cells (later_in old.later)) (sym first)
-            (subst (λ all. AreNoted table all (slice_set old.first o (suc t)) (later_in old.later)) (sym appended) noted));
+        noted = subst (λ set. AreNoted table (listed new) new.first (Has set)) (sym later)
+            (subst (λ cells. AreNoted table (listed new) cells (Has old.later)) (sym first)
+            (subst (λ all. AreNoted table all (slice_set old.first o (suc t)) (Has old.later)) (sym appended) noted));
       }
 
   pub linked_later :
       (n c : ℕ) → slice_get old.first o ≡ Some (suc n) → slice_get table.classes t ≡ Some c → new.first ≡ old.first
-      → Updates pair_cmp old.later new.later (o, c) true → AreLinked table objects new
-  linked_later n c at_o class first updates =
+      → Inserts old.later new.later o c → AreLinked table objects new
+  linked_later n c at_o class first inserts =
       let v : Visit = record { object = o; ty = t; parent = p; step = s } in
-      let noted = noted_later table (listed old) old.first (later_in old.later) linked.noted v n c (later_in new.later) at_o class
-      (λ q d is. ⊎_elim (λ known. inl known) (λ same. inr (ap (λ (x : ℕ × ℕ). x.0) same, ap (λ (x : ℕ × ℕ). x.1) same))
-      (later_before old.later new.later (o, c) (q, d) updates is))
-      (λ q d is. later_kept old.later new.later (o, c) (q, d) updates is)
-      updates.1 in
+      let noted = noted_later table (listed old) old.first (Has old.later) linked.noted v n c (Has new.later) at_o class
+      inserts.only inserts.kept inserts.here in
       record {
         many = ap length first ∙ linked.many;
-        noted = subst (λ cells. AreNoted table (listed new) cells (later_in new.later)) (sym first)
-            (subst (λ all. AreNoted table all old.first (later_in new.later)) (sym appended) noted);
+        noted = subst (λ cells. AreNoted table (listed new) cells (Has new.later)) (sym first)
+            (subst (λ all. AreNoted table all old.first (Has new.later)) (sym appended) noted);
       }
+
+-- nothing comes with a class that is known
+pub linked_known :
+    (table : Table) (objects : ℕ) (visits : Visits) (later : Classed) (o c : ℕ) → AreLinked table objects visits → Has visits.later o c
+    → Inserts visits.later later o c → AreLinked table objects (record { all = visits.all; first = visits.first; later = later })
+linked_known table objects visits later o c linked has inserts = record {
+  many = linked.many;
+  noted = record {
+    unmet = linked.noted.unmet;
+    met = linked.noted.met;
+    known = λ p t k d v at_p at_k is class. ⊎_elim
+        (λ same. inl same)
+        (λ known. inr (inserts.kept p d known))
+        (linked.noted.known p t k d v at_p at_k is class);
+    there = λ p d is. ⊎_elim
+        (linked.noted.there p d)
+        (λ own. linked.noted.there p d (subst (λ q. Has visits.later q d) own.0 (subst (Has visits.later o) own.1 has)))
+        (inserts.only p d is);
+  };
+}
 
 -- the type of an object's first visit is one of those of visits
 pub first_classed :
@@ -193,11 +204,11 @@ first_classed table objects visits o t linked types at_o =
 
 pub linked_none :
     (table : Table) (objects n : ℕ) (visits : Visits) → visits.all ≡ []
-    → length visits.first ≡ objects → visits.first ≡ replicate n 0 → visits.later.keys ≡ [] → AreLinked table objects visits
+    → length visits.first ≡ objects → visits.first ≡ replicate n 0 → IsUntouched visits.later → AreLinked table objects visits
 linked_none table objects n visits empty many zeros none = record {
   many = many;
-  noted = subst (λ all. AreNoted table all visits.first (later_in visits.later)) (sym empty)
-      (subst (λ cells. AreNoted table [] cells (later_in visits.later)) (sym zeros) (noted_none table n (later_in visits.later) unknown));
+  noted = subst (λ all. AreNoted table all visits.first (Has visits.later)) (sym empty)
+      (subst (λ cells. AreNoted table [] cells (Has visits.later)) (sym zeros) (noted_none table n (Has visits.later) unknown));
 } where
-  unknown : (o c : ℕ) → ¬ later_in visits.later o c
-  unknown o c is = false≢true (sym (ap (λ keys. list_any (is_at (pair_cmp (o, c))) keys) none) ∙ is)
+  unknown : (o c : ℕ) → ¬ Has visits.later o c
+  unknown = untouched_none visits.later none

@@ -1,9 +1,8 @@
 -- The visits of a check, and what is noted of the objects that they are of.
-use Rattle.std.specs.Prelude.{ℕ, suc, ◌≡◌, ◌⊎◌, ◌<◌, List, [], ◌∷◌, ◌++◌, length, IsTrue, Option}
+use Rattle.std.specs.Prelude.{ℕ, suc, ◌≡◌, ◌⊎◌, ◌<◌, List, [], ◌∷◌, ◌++◌, length, Option}
 use Rattle.std.specs.Prelude.{Some, slice_get}
-use Rattle.std.specs.BTreeSet.{contains}
 use Rattle.om_types.specs.Table.{Table}
-use Rattle.om_scan.specs.Seconds.{pair_cmp}
+use Rattle.om_scan.specs.Classed.{Has}
 use Rattle.om_check.specs.declared.visits.Visit.{Visit}
 use Rattle.om_check.specs.declared.visits.Visits.{Visits}
 
@@ -39,8 +38,7 @@ pub record AreNoted (table : Table) (all : List Visit) (first : List ℕ) (later
 
 pub record AreLinked (table : Table) (objects : ℕ) (visits : Visits) : Type 0 where
   pub many : length visits.first ≡ objects
-  pub noted : AreNoted table (listed visits) visits.first
-      (λ o c. IsTrue (contains pair_cmp visits.later (o, c)))
+  pub noted : AreNoted table (listed visits) visits.first (Has visits.later)
 
 -- one visit more, at the end
 abbrev pub IsAppended : List Visit → List Visit → ℕ → ℕ → ℕ → ℕ → Type 0

@@ -23,7 +23,7 @@ pub fn first_clash(heap: &Heap, table: &TypeTable, visits: &Visits) -> Option<(u
         (λ two. IsFirstClash (table_of table.now) heap.now (listed visits.now) two.0 two.1) }
 {
     table.holds();
-    if visits.later.is_empty() {
+    if visits.later.is_untouched() {
         return None;
     }
     for k in 0..visits.len() {

@@ -160,7 +160,7 @@ fn settle_need(
         (field_at heap.now _object _field) needed)) }
 {
     fitting.table.holds();
-    let _count = heap.count();
+    let count = heap.count();
     if word % 8 != 0 {
         return Ok(fits_type(heap, fitting, needed, word));
     }
@@ -169,6 +169,6 @@ fn settle_need(
     if fitting.table.class(first) == fitting.table.class(needed) {
         return Ok(true);
     }
-    seconds.note(fitting.table, object, needed)?;
+    seconds.note(fitting.table, count as usize, object, needed)?;
     Ok(true)
 }

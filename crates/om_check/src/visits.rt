@@ -8,10 +8,9 @@ ghost use Rattle.om_check.specs.Visits.{listed, AreLinked, IsAppended, Enters};
 
 use crate::trail::Trail;
 use om_model::Memory;
-use om_scan::Cells;
+use om_scan::{Cells, Classed};
 use om_type_table::TypeTable;
 use std::alloc::Global;
-use std::collections::BTreeSet;
 
 /// An object at a type: a field, by its number, of the visit at `parent` leads to it. The first
 /// visit is the root's.
@@ -30,7 +29,7 @@ pub struct Visits {
     /// For each object one more than the type of its first visit, or 0.
     pub first: Cells,
     /// What was met at a second class or a later one, with that class.
-    pub later: BTreeSet<(u64, usize)>,
+    pub later: Classed,
 }
 
 /// Whether a first visit, of which this is noted, is at this type.
@@ -54,7 +53,7 @@ impl Visits {
         let mut visits = Visits {
             all: Trail::new(alloc),
             first: Cells::new(alloc, objects as usize, table.count())?,
-            later: BTreeSet::new(alloc),
+            later: Classed::none(alloc),
         };
         let first = visits.first_at(root);
         visits.enter(table, root, 0, 0, 0, first)?;
@@ -68,7 +67,7 @@ impl Visits {
         Ok(Visits {
             all: Trail::new(alloc),
             first: Cells::new(alloc, 0, 0)?,
-            later: BTreeSet::new(alloc),
+            later: Classed::none(alloc),
         })
     }
 
@@ -169,10 +168,10 @@ impl Visits {
         if table.class(first as usize - 1) == class {
             return Ok(());
         }
-        if self.later.contains(&(object, class)) {
+        let objects = self.first.len();
+        if !self.later.insert(objects, object, class)? {
             return Ok(());
         }
-        self.later.insert((object, class))?;
         self.append(object, ty, parent, step)?;
         Ok(())
     }

@@ -10,4 +10,5 @@ pub mod StopLemmas
 pub mod NoteLemmas
 pub mod SizeLemmas
 pub mod SetLemmas
+pub mod ClassedLemmas
 pub mod SecondLemmas

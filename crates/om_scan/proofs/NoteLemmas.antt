@@ -13,6 +13,7 @@ use Rattle.om_scan.specs.declared.notes.First.{First}
 use Rattle.om_scan.specs.declared.notes.Notes.{Notes}
 use Rattle.om_scan.specs.declared.straight.Stop.TheVariants as stops
 use Rattle.om_scan.specs.Paths.{IsHidden}
+use Rattle.om_scan.specs.Classed.{IsUntouched}
 use Rattle.om_scan.specs.Seconds.{noted_in}
 use Rattle.om_scan.specs.Scan.{mark_of, AreMarks, AreKept, AreNoted, IsFirstOf, IsToldIn, IsWhole, IsScanning, Stops, IsStoppedAt, AreNotes, IsGoing}
 use Rattle.om_scan.proofs.PlaceLemmas.{slice_set_at, slice_set_other}
@@ -24,7 +25,7 @@ use Rattle.om_scan.proofs.SecondLemmas.{seconds_none, nothing_in}
 module _ (table : Table) (graph : List Obj) where
   -- at the start
   pub notes_none :
-      (marks types : List ℕ) (n : ℕ) (notes : Notes) → length (noted_in notes.seconds) ≡ 0 → length notes.seconds.known.keys ≡ 0 → notes.first ≡ None
+      (marks types : List ℕ) (n : ℕ) (notes : Notes) → length (noted_in notes.seconds) ≡ 0 → IsUntouched notes.seconds.known → notes.first ≡ None
       → AreNotes table graph marks types n notes
   notes_none marks types n notes none unknown first = record {
     noted = record {

@@ -8,7 +8,7 @@ use Rattle.std.specs.Cmp.{Equal-is}
 use Rattle.std.specs.BTreeMap.{is_at}
 use Rattle.std.specs.BTreeSet.{BTreeSet, contains, Updates}
 use Rattle.std.proofs.lemmas.Map.Lookups.{exact_pairs, exact_unsigned}
-use Rattle.om_scan.specs.Seconds.{pair_cmp}
+use Rattle.om_scan.specs.Classed.{pair_cmp}
 
 pub equal_from : (o : Ordering) → is_eq o ≡ true → o ≡ Equal
 equal_from o is = (Equal-is o).0 is

@@ -2,6 +2,7 @@ pub mod Row
 pub mod Fitting
 pub mod FittingRows
 pub mod Taken
+pub mod Classed
 pub mod Seconds
 pub mod Paths
 pub mod Scanned

@@ -1,18 +1,11 @@
 -- Objects at types at which they were met after the first one.
 use Rattle.std.specs.Prelude.{ℕ, ◌≡◌, ◌⊎◌, List, [], ◌∷◌, ◌++◌, map, Some, slice_get, Contains}
-use Rattle.std.specs.Prelude.{IsTrue}
-use Rattle.std.specs.declared.cmp.Ordering.{Ordering}
-use Rattle.std.specs.Ordering.{nat_cmp, ordering_then}
-use Rattle.std.specs.BTreeSet.{contains}
 use Rattle.om_model.specs.declared.value.Val.TheVariants as vals
 use Rattle.om_types.specs.Table.{Table, table_shapes}
 use Rattle.om_types.specs.Typing.{IsListed}
 use Rattle.om_typing.specs.StepLaws.{AreApart, key_of}
 use Rattle.om_scan.specs.declared.seconds.Seconds.{Seconds}
-
--- objects with classes are ordered by the object, then by the class
-abbrev pub pair_cmp : ℕ × ℕ → ℕ × ℕ → Ordering
-pair_cmp x y = ordering_then (nat_cmp x.0 y.0) (nat_cmp x.1 y.1)
+use Rattle.om_scan.specs.Classed.{Has}
 
 -- objects at types, in the order in which they were noted
 abbrev pub noted_in : Seconds → List (ℕ × ℕ)
@@ -21,9 +14,9 @@ noted_in seconds = seconds.listed.items
 -- It is known at which classes each object is there, and none is there twice at one class.
 pub record AreSeconds (table : Table) (seconds : Seconds) : Type 0 where
   pub known : (o t c : ℕ) → Contains (noted_in seconds) (o, t) → slice_get table.classes t ≡ Some c
-      → IsTrue (contains pair_cmp seconds.known (o, c))
+      → Has seconds.known o c
   pub there :
-      (o c : ℕ) → IsTrue (contains pair_cmp seconds.known (o, c))
+      (o c : ℕ) → Has seconds.known o c
       → (t : ℕ) × Contains (noted_in seconds) (o, t) × (slice_get table.classes t ≡ Some c)
   pub apart : AreApart (map (key_of table) (noted_in seconds))
 

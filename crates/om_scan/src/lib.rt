@@ -2,6 +2,7 @@
 #![tactic(auto)]
 
 mod cells;
+mod classed;
 mod fitting;
 mod notes;
 mod passed;
@@ -12,6 +13,7 @@ mod straight;
 mod taken;
 
 pub use cells::Cells;
+pub use classed::Classed;
 pub use fitting::fits_type;
 pub use rows::{Fitting, rows_of};
 pub use seconds::Seconds;

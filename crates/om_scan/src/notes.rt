@@ -1,6 +1,7 @@
 //! What a scan notes on its way: objects that it meets at a second class.
 
 ghost use Rattle.std.specs.Prelude.{◌≡◌, None, length};
+ghost use Rattle.om_scan.specs.Classed.{IsUntouched};
 ghost use Rattle.om_scan.specs.Seconds.{noted_in};
 
 use crate::seconds::Seconds;
@@ -39,7 +40,7 @@ impl Notes {
     /// Nothing.
     pub fn none(alloc: Global) -> Notes
         ensures none { length (noted_in result.seconds) ≡ 0 }
-        ensures known { length result.seconds.known.keys ≡ 0 }
+        ensures known { IsUntouched result.seconds.known }
         ensures first { result.first ≡ None }
     {
         Notes {

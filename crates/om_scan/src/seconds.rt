@@ -2,12 +2,13 @@
 
 ghost use Rattle.std.specs.Prelude.{◌≡◌, ◌<◌, length, slice_get, Some, OnOk};
 ghost use Rattle.om_type_table.specs.Made.{table_of};
+ghost use Rattle.om_scan.specs.Classed.{IsUntouched};
 ghost use Rattle.om_scan.specs.Seconds.{noted_in, AreSeconds, IsNoting};
 
+use crate::classed::Classed;
 use om_model::Memory;
 use om_type_table::TypeTable;
 use std::alloc::Global;
-use std::collections::BTreeSet;
 
 /// Objects at types, no object twice at one class.
 #[derive(Drop)]
@@ -15,18 +16,18 @@ pub struct Seconds {
     /// In the order in which they were noted.
     pub listed: Vec<(u64, usize)>,
     /// The same objects, each with the class of its type.
-    pub known: BTreeSet<(u64, usize)>,
+    pub known: Classed,
 }
 
 impl Seconds {
     /// None.
     pub fn none(alloc: Global) -> Seconds
         ensures none { length (noted_in result) ≡ 0 }
-        ensures known { length result.known.keys ≡ 0 }
+        ensures known { IsUntouched result.known }
     {
         Seconds {
             listed: Vec::new(alloc),
-            known: BTreeSet::new(alloc),
+            known: Classed::none(alloc),
         }
     }
 
@@ -45,9 +46,15 @@ impl Seconds {
         self.listed[k]
     }
 
-    /// Notes an object at a type, unless it is there at an equal one.
+    /// Notes one of so many objects at a type, unless it is there at an equal one.
     #[inline(never)]
-    pub fn note(&mut self, table: &TypeTable, object: u64, ty: usize) -> Result<(), Memory>
+    pub fn note(
+        &mut self,
+        table: &TypeTable,
+        objects: usize,
+        object: u64,
+        ty: usize,
+    ) -> Result<(), Memory>
         requires ty { ty < length table.now.classes }
         requires seconds { AreSeconds (table_of table.now) self.old }
         ensures seconds { OnOk result (AreSeconds (table_of table.now) self.new) }
@@ -55,10 +62,9 @@ impl Seconds {
             (IsNoting (table_of table.now) (noted_in self.old) (noted_in self.new) object ty) }
     {
         let class = table.class(ty);
-        if self.known.contains(&(object, class)) {
+        if !self.known.insert(objects, object, class)? {
             return Ok(());
         }
-        self.known.insert((object, class))?;
         self.listed.push((object, ty))?;
         Ok(())
     }

@@ -569,7 +569,10 @@ fn note(
         steps: taken.taken(),
     };
     notes.first = first_or(notes.first, own);
-    notes.seconds.note(table, heap.number(word), needed)?;
+    let objects = heap.count() as usize;
+    notes
+        .seconds
+        .note(table, objects, heap.number(word), needed)?;
     Ok(())
 }
 

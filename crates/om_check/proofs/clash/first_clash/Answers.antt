@@ -19,7 +19,7 @@ loop-k-preserved c =
 pub returns : goal.returns
 returns c = λ i k less. c.loop-k.invariant i k (omega (arith, less, c.loop-k-test.false))
 
-pub returns-then-is_empty : goal.returns-then-is_empty
-returns-then-is_empty c =
+pub returns-then-is_untouched : goal.returns-then-is_untouched
+returns-then-is_untouched c =
     none_later (table_of c.args.table.now) c.args.heap.now c.args.visits.now c.requires.linked c.requires.within c.holds.ensures.lawful.classed c.requires.apart
-    (c.is_empty.ensures.0 c.if-is_empty.true)
+    (c.is_untouched.ensures.0 c.if-is_untouched.true)

@@ -9,7 +9,8 @@ use Rattle.om_types.specs.Table.{table_shapes}
 use Rattle.om_scan.specs.Scanned.{IsSeen}
 use Rattle.om_check.specs.Visits.{listed}
 use Rattle.om_scan.proofs.PlaceLemmas.{read_at}
-use Rattle.om_check.proofs.NotedLemmas.{met_first, later_in}
+use Rattle.om_scan.specs.Classed.{Has}
+use Rattle.om_check.proofs.NotedLemmas.{met_first}
 use Rattle.om_scan.proofs.FieldLemmas.{field_there, field_valid}
 use Rattle.om_check.proofs.RowsLemmas.{first_fits, tests_true, tests_false, enters_named}
 use Rattle.om_check.proofs.search.test_need.Goals as goal
@@ -31,7 +32,7 @@ returns-then-is_at-clause-tests c =
     tests_true t graph all all need v valid (field_there graph need.object need.step c.requires.object c.requires.field)
     (first_fits t graph c.args.visits.now need.ty v o same c.requires.linked c.requires.fit met)
     (enters_named t all all need v o same
-    (inl (met_first t all c.args.visits.now.first (later_in c.args.visits.now.later) c.requires.linked.noted o need.ty met, refl)))
+    (inl (met_first t all c.args.visits.now.first (Has c.args.visits.now.later) c.requires.linked.noted o need.ty met, refl)))
 
 pub returns-then-not-object_fits-clause-tests : goal.returns-then-not-object_fits-clause-tests
 returns-then-not-object_fits-clause-tests c =

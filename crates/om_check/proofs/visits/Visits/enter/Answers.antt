@@ -3,7 +3,8 @@ use Rattle.std.specs.Prelude.{slice_set}
 use Rattle.om_type_table.specs.Made.{table_of}
 use Rattle.om_check.specs.Visits.{listed}
 use Rattle.om_scan.proofs.PlaceLemmas.{read_at}
-use Rattle.om_check.proofs.NotedLemmas.{later_in, met_never, linked_first}
+use Rattle.om_scan.specs.Classed.{Has}
+use Rattle.om_check.proofs.NotedLemmas.{met_never, linked_first}
 use Rattle.om_check.proofs.visits.Visits.enter.Goals as goal
 
 pub returns-then-first-eq0-clause-linked : goal.returns-then-first-eq0-clause-linked
@@ -17,4 +18,4 @@ returns-then-first-eq0-clause-linked c =
 pub returns-then-first-eq0-clause-enters : goal.returns-then-first-eq0-clause-enters
 returns-then-first-eq0-clause-enters c =
     let at_o = read_at c.args.self.now.first c.args.object 0 c.requires.object (sym c.if-first-eq0.true ∙ c.requires.noted) in
-    inr (met_never (table_of c.args.table.now) (listed c.args.self.now) c.args.self.now.first (later_in c.args.self.now.later) c.requires.linked.noted c.args.object _ at_o, c.in_ok-append.ensures.all)
+    inr (met_never (table_of c.args.table.now) (listed c.args.self.now) c.args.self.now.first (Has c.args.self.now.later) c.requires.linked.noted c.args.object _ at_o, c.in_ok-append.ensures.all)

@@ -1,0 +1,99 @@
+-- Objects with classes, of which more come.
+use Rattle.std.proofs.Common.{ℕ, suc, ◌≡◌, ◌∙◌, ◌⊎◌, inl, inr, ⊎_elim, Bool, true, false, not, List, Some, refl, sym, ap, subst, arith}
+use Rattle.std.specs.Prelude.{slice_get, slice_set, IsTrue, MatchBool}
+use Rattle.std.specs.List.{list_any}
+use Rattle.std.specs.BTreeMap.{is_at}
+use Rattle.std.specs.BTreeSet.{contains, Updates}
+use Rattle.std.proofs.lemmas.Bool.{false≢true}
+use Rattle.std.proofs.lemmas.Option.{same_Some, none-some, slice_get_within}
+use Rattle.om_model.proofs.Options.{same_or_not}
+use Rattle.om_scan.specs.declared.classed.Classed.{Classed}
+use Rattle.om_scan.specs.Classed.{pair_cmp, IsInCell, Has, IsUntouched, AreAlike, Inserts}
+use Rattle.om_scan.proofs.PlaceLemmas.{slice_set_here, slice_set_other, slice_set_at}
+use Rattle.om_scan.proofs.SetLemmas.{later_before, later_kept}
+
+pub untouched_none : (classed : Classed) → IsUntouched classed → (o c : ℕ) → ¬ Has classed o c
+untouched_none classed untouched o c has = ⊎_elim
+    (λ cell. none-some (suc c) (sym (ap (λ cells. slice_get cells o) untouched.0) ∙ cell))
+    (λ more. false≢true (sym (ap (λ keys. list_any (is_at (pair_cmp (o, c))) keys) untouched.1) ∙ more))
+    has
+
+-- ---- cells
+
+-- a free one has no class
+pub free_has_none : (cells : List ℕ) (o c : ℕ) → slice_get cells o ≡ Some 0 → ¬ IsInCell cells o c
+free_has_none cells o c free cell = let is = same_Some 0 (suc c) (sym free ∙ cell) in omega (arith, is)
+
+-- ---- one more
+
+module _ (old : Classed) (cells : List ℕ) (o c : ℕ) (alike : AreAlike old.cells.items cells) where
+  pub has_none : ¬ IsInCell cells o c → ¬ IsTrue (contains pair_cmp old.more (o, c)) → ¬ Has old o c
+  has_none cell more has = ⊎_elim (λ one. cell ((alike o c).0 one)) more has
+
+  pub more_is_new :
+      (added : Bool) → ¬ IsInCell cells o c → added ≡ not (contains pair_cmp old.more (o, c)) → MatchBool added (¬ Has old o c) (Has old o c)
+  more_is_new added cell is = by_test (contains pair_cmp old.more (o, c)) refl where
+    by_test : (test : Bool) → contains pair_cmp old.more (o, c) ≡ test → MatchBool added (¬ Has old o c) (Has old o c)
+    by_test true there = subst (λ b. MatchBool b (¬ Has old o c) (Has old o c)) (sym (is ∙ ap not there)) (inr there)
+    by_test false never = subst (λ b. MatchBool b (¬ Has old o c) (Has old o c)) (sym (is ∙ ap not never)) (has_none cell (λ there. false≢true (sym never ∙ there)))
+
+  module _ (new : Classed) where
+    -- its cell has the class
+    pub inserts_nothing : IsInCell cells o c → new.cells.items ≡ cells → new.more ≡ old.more → Inserts old new o c
+    inserts_nothing cell same more = record {
+      here = inl (subst (λ all. IsInCell all o c) (sym same) cell);
+      kept = λ p d has. ⊎_elim
+          (λ one. inl (subst (λ all. IsInCell all p d) (sym same) ((alike p d).0 one)))
+          (λ other. inr (subst (λ set. IsTrue (contains pair_cmp set (p, d))) (sym more) other))
+          has;
+      only = λ p d has. ⊎_elim
+          (λ one. inl (inl ((alike p d).1 (subst (λ all. IsInCell all p d) same one))))
+          (λ other. inl (inr (subst (λ set. IsTrue (contains pair_cmp set (p, d))) more other)))
+          has;
+    }
+
+    -- its cell was free
+    module _ (free : slice_get cells o ≡ Some 0) (put : new.cells.items ≡ slice_set cells o (suc c)) (more : new.more ≡ old.more) where
+      put_before : (p d : ℕ) → IsInCell (slice_set cells o (suc c)) p d → IsInCell old.cells.items p d ⊎ ((o ≡ p) × (c ≡ d))
+      put_before p d one = ⊎_elim
+          (λ same.
+          let is = slice_set_here cells o (suc d) (suc c) (subst (λ q. IsInCell (slice_set cells o (suc c)) q d) same one) in
+          inr (sym same, omega (arith, is)))
+          (λ other. inl ((alike p d).1 (sym (slice_set_other cells o p (suc c) other) ∙ one)))
+          (same_or_not p o)
+
+      put_kept : (p d : ℕ) → IsInCell old.cells.items p d → IsInCell (slice_set cells o (suc c)) p d
+      put_kept p d one = ⊎_elim
+          (λ same. absurd (free_has_none cells o d free (subst (λ q. IsInCell cells q d) same ((alike p d).0 one))))
+          (λ other. slice_set_other cells o p (suc c) other ∙ (alike p d).0 one)
+          (same_or_not p o)
+
+      pub inserts_in_cell : Inserts old new o c
+      inserts_in_cell = record {
+        here = inl (ap (λ all. slice_get all o) put ∙ slice_set_at cells o (suc c) (slice_get_within cells o 0 free));
+        kept = λ p d has. ⊎_elim
+            (λ one. inl (ap (λ all. slice_get all p) put ∙ put_kept p d one))
+            (λ other. inr (subst (λ set. IsTrue (contains pair_cmp set (p, d))) (sym more) other))
+            has;
+        only = λ p d has. ⊎_elim
+            (λ one. ⊎_elim (λ before. inl (inl before)) (λ own. inr own) (put_before p d (subst (λ all. IsInCell all p d) put one)))
+            (λ other. inl (inr (subst (λ set. IsTrue (contains pair_cmp set (p, d))) more other)))
+            has;
+      }
+
+    -- no cell has it
+    pub inserts_more : new.cells.items ≡ cells → Updates pair_cmp old.more new.more (o, c) true → Inserts old new o c
+    inserts_more same updates = record {
+      here = inr updates.1;
+      kept = λ p d has. ⊎_elim
+          (λ one. inl (subst (λ all. IsInCell all p d) (sym same) ((alike p d).0 one)))
+          (λ other. inr (later_kept old.more new.more (o, c) (p, d) updates other))
+          has;
+      only = λ p d has. ⊎_elim
+          (λ one. inl (inl ((alike p d).1 (subst (λ all. IsInCell all p d) same one))))
+          (λ other. ⊎_elim
+          (λ before. inl (inr before))
+          (λ own. inr (ap (λ (x : ℕ × ℕ). x.0) own, ap (λ (x : ℕ × ℕ). x.1) own))
+          (later_before old.more new.more (o, c) (p, d) updates other))
+          has;
+    }
