@@ -9,7 +9,7 @@ use Rattle.om_scan.specs.Classed.{Has}
 
 -- objects at types, in the order in which they were noted
 abbrev pub noted_in : Seconds → List (ℕ × ℕ)
-noted_in seconds = seconds.listed.items
+noted_in seconds = seconds.listed
 
 -- It is known at which classes each object is there, and none is there twice at one class.
 pub record AreSeconds (table : Table) (seconds : Seconds) : Type 0 where

@@ -5,6 +5,7 @@ mod cells;
 mod classed;
 mod fitting;
 mod notes;
+mod pairs;
 mod passed;
 mod rows;
 mod seconds;

@@ -6,6 +6,7 @@ ghost use Rattle.om_scan.specs.Classed.{IsUntouched};
 ghost use Rattle.om_scan.specs.Seconds.{noted_in, AreSeconds, IsNoting};
 
 use crate::classed::Classed;
+use crate::pairs::Pairs;
 use om_model::Memory;
 use om_type_table::TypeTable;
 use std::alloc::Global;
@@ -14,7 +15,7 @@ use std::alloc::Global;
 #[derive(Drop)]
 pub struct Seconds {
     /// In the order in which they were noted.
-    pub listed: Vec<(u64, usize)>,
+    pub listed: Pairs,
     /// The same objects, each with the class of its type.
     pub known: Classed,
 }
@@ -26,7 +27,7 @@ impl Seconds {
         ensures known { IsUntouched result.known }
     {
         Seconds {
-            listed: Vec::new(alloc),
+            listed: Pairs::new(alloc),
             known: Classed::none(alloc),
         }
     }
@@ -43,7 +44,7 @@ impl Seconds {
         requires { k < length (noted_in self.now) }
         ensures { slice_get (noted_in self.now) k ≡ Some (result.0, result.1) }
     {
-        self.listed[k]
+        self.listed.get(k)
     }
 
     /// Notes one of so many objects at a type, unless it is there at an equal one.
@@ -65,7 +66,7 @@ impl Seconds {
         if !self.known.insert(objects, object, class)? {
             return Ok(());
         }
-        self.listed.push((object, ty))?;
+        self.listed.push(object, ty)?;
         Ok(())
     }
 }

@@ -24,7 +24,7 @@ pub returns-clause-seconds : goal.returns-clause-seconds
 returns-clause-seconds c =
     let has = Has c.args.self.now.known c.args.object c.class-class.result in
     seconds_more (table_of c.args.table.now) c.args.self.now (record { listed = c.push.new.self; known = c.insert.new.self }) c.args.object c.args.ty c.class-class.result c.requires.seconds c.class-class.ensures
-    (subst (λ added. MatchBool added (¬ has) has) c.if-not-branch.false c.in_ok-insert.ensures.added) c.in_ok-insert.ensures.inserts c.in_ok-push.ensures.items
+    (subst (λ added. MatchBool added (¬ has) has) c.if-not-branch.false c.in_ok-insert.ensures.added) c.in_ok-insert.ensures.inserts c.in_ok-push.ensures
 
 pub returns-clause-notes : goal.returns-clause-notes
 returns-clause-notes c =
@@ -32,5 +32,5 @@ returns-clause-notes c =
     let fresh = subst (λ added. MatchBool added (¬ has) has) c.if-not-branch.false c.in_ok-insert.ensures.added in
     inr (
       λ listed. fresh (second_known (table_of c.args.table.now) c.args.self.now c.args.object c.args.ty c.class-class.result c.requires.seconds c.class-class.ensures listed),
-      c.in_ok-push.ensures.items,
+      c.in_ok-push.ensures,
     )
