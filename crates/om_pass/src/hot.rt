@@ -309,10 +309,10 @@ fn hot_kind<'a>(
     }
 }
 
-/// The same of the codes below 0x20.
+/// The same of the codes below 0x20. As `hot_typed`, it has one caller for each value of `LISTED`.
 #[tactic(auto, unfolding(om_format::specs::Code::kind_of))]
 #[inline(always)]
-fn hot_large<'a>(
+fn hot_large<'a, const LISTED: bool>(
     table: &'a TypeTable,
     stated: u64,
     ty: usize,
@@ -405,7 +405,7 @@ fn hot_typed<'a, const LISTED: bool>(
         let kind = CodeKind::SmallString(code % 32);
         hot_kind(table, stated, ty, others, kind, rest, types, waiting, words)
     } else {
-        hot_large(table, stated, ty, others, code, rest, types, waiting, words)
+        hot_large::<LISTED>(table, stated, ty, others, code, rest, types, waiting, words)
     }
 }
 
