@@ -176,7 +176,7 @@ marked_there table limit bytes head start n made finding new f many m =
 
 pub finds_marked :
     (table : Table) (limit : ℕ) (bytes : List ℕ) (head : Head) (start n made : ℕ) (finding : Finding) (seconds : Seconds) → Finds table limit bytes head start n [] finding → made ≡ length finding.types.items → Marks finding.seconds n made seconds
-    → Finds table limit bytes head start n [] (record { way = finding.way; types = finding.types; again = finding.again; seconds = seconds; words = finding.words; found = finding.found })
+    → Finds table limit bytes head start n [] (record finding { seconds = seconds })
 finds_marked table limit bytes head start n made finding seconds f many m = record {
   tokens = f.tokens;
   back = f.back;

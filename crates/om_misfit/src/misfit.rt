@@ -18,7 +18,7 @@ use crate::judge::{Judged, judge};
 use crate::push::push;
 use crate::said::{Said, fields_of, first_token, measure_of};
 use crate::second::Seconds;
-use crate::way::{Asked, Left, Link, Way, copy_of, first_type};
+use crate::way::{Asked, Left, Link, Way, copy_to, first_type};
 use om_model::Memory;
 use om_model::header::Head;
 use om_pass::Words;
@@ -27,6 +27,7 @@ use om_pass::whole::head_of;
 use om_type_table::TypeTable;
 use om_types::shape::PolyTag;
 use std::alloc::Global;
+use std::mem;
 
 /// No type has this number.
 const NO_TYPE: usize = 65535;
@@ -41,7 +42,7 @@ pub struct Found {
 }
 
 /// The open places, the types of the objects met, which of them are met again and what is known of
-/// second types, the words still to come, and the misfit, if it was met.
+/// second types, the words still to come, the misfit, if it was met, and memory for its links.
 #[derive(Drop)]
 pub struct Finding<'a> {
     pub way: Way<'a>,
@@ -50,6 +51,7 @@ pub struct Finding<'a> {
     pub seconds: Seconds,
     pub words: Words,
     pub found: Option<Found>,
+    pub room: Vec<Link>,
 }
 
 /// The fields of a token of which nothing is asked.
@@ -74,6 +76,7 @@ impl<'a> Finding<'a> {
             seconds: Seconds::new(alloc),
             words: Words::stated(head),
             found: None,
+            room: Vec::new(alloc),
         }
     }
 
@@ -86,7 +89,9 @@ impl<'a> Finding<'a> {
         self.again.restart();
         self.seconds.restart();
         self.words = Words::stated(head);
-        self.found = None;
+        if let Some(found) = self.found.take() {
+            self.room = found.links;
+        }
     }
 
     /// An integer comes, if it has the type that the first open place asks for. The place is taken,
@@ -224,7 +229,8 @@ impl<'a> Finding<'a> {
         if self.found.is_some() {
             return Ok(false);
         }
-        let links = copy_of(alloc, self.way.links.as_slice())?;
+        let mut links = mem::replace(&mut self.room, Vec::new(alloc));
+        copy_to(&mut links, self.way.links.as_slice())?;
         self.found = Some(Found { links, ty, said });
         self.add(NO_TYPE, said, unasked(said), fields_of(said))
     }

@@ -135,15 +135,15 @@ fn values_asked(places: Open<'_>) -> u64
     }
 }
 
-/// The links once more.
-pub fn copy_of(alloc: Global, links: &[Link]) -> Result<Vec<Link>, Memory>
-    ensures { IfOk result (λ copy. copy.items ≡ links.now) }
+/// The links once more, in place of what was there.
+pub fn copy_to(copy: &mut Vec<Link>, links: &[Link]) -> Result<(), Memory>
+    ensures { OnOk result (copy.new.items ≡ links.now) }
 {
-    let mut copy = Vec::new(alloc);
+    copy.clear();
     'links: for link in links {
-        copy.push(*link)?;
+        push(copy, *link)?;
     }
-    Ok(copy)
+    Ok(())
 }
 
 impl<'a> Way<'a> {

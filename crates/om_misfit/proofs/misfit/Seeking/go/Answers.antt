@@ -22,7 +22,7 @@ end-requires c =
 pub returns-then-end : goal.returns-then-end
 returns-then-end c =
     let s = c.tokens.self in
-    let ready : Finding = record { way = c.ready.new.self; types = s.finding.types; again = s.finding.again; seconds = s.finding.seconds; words = s.finding.words; found = s.finding.found } in
+    let ready : Finding = record s.finding { way = c.ready.new.self } in
     let table = table_of c.args.table.now in
     let here = finds_moved table c.args.limit c.args.bytes.now s.head s.start s.at [] [] s.finding ready c.tokens.invariant c.ready.ensures.is_way (sym c.ready.ensures.same) refl refl refl refl refl refl in
     let ends = if_true c.end.result c.if-end.true c.end.ensures in
@@ -31,14 +31,14 @@ returns-then-end c =
 pub returns-in_default : goal.returns-in_default
 returns-in_default c =
     let s = c.tokens.self in
-    let ready : Finding = record { way = c.ready.new.self; types = s.finding.types; again = s.finding.again; seconds = s.finding.seconds; words = s.finding.words; found = s.finding.found } in
+    let ready : Finding = record s.finding { way = c.ready.new.self } in
     let here = finds_moved (table_of c.args.table.now) c.args.limit c.args.bytes.now s.head s.start s.at [] [] s.finding ready c.tokens.invariant c.ready.ensures.is_way (sym c.ready.ensures.same) refl refl refl refl refl refl in
     (here, some_open c.ready.new.self c.if-not-ready.ensures.ready)
 
 pub tokens-preserved-then-pass : goal.tokens-preserved-then-pass
 tokens-preserved-then-pass c =
     let s = c.tokens.self in
-    let ready : Finding = record { way = c.ready.new.self; types = s.finding.types; again = s.finding.again; seconds = s.finding.seconds; words = s.finding.words; found = s.finding.found } in
+    let ready : Finding = record s.finding { way = c.ready.new.self } in
     let table = table_of c.args.table.now in
     let bytes = c.args.bytes.now in
     let said = c.in-Some.first in
@@ -50,10 +50,10 @@ tokens-preserved-then-pass c =
 pub tokens-preserved : goal.tokens-preserved
 tokens-preserved c =
     let s = c.tokens.self in
-    let ready : Finding = record { way = c.ready.new.self; types = s.finding.types; again = s.finding.again; seconds = s.finding.seconds; words = s.finding.words; found = s.finding.found } in
+    let ready : Finding = record s.finding { way = c.ready.new.self } in
     let kept = c.pass.new.self in
-    let marked : Finding = record { way = kept.way; types = kept.types; again = kept.again; seconds = c.mark.new.self; words = kept.words; found = kept.found } in
-    let taken : Finding = record { way = c.take-asked.new.self; types = kept.types; again = kept.again; seconds = c.mark.new.self; words = kept.words; found = kept.found } in
+    let marked : Finding = record kept { seconds = c.mark.new.self } in
+    let taken : Finding = record marked { way = c.take-asked.new.self } in
     let same : kept ≡ ready = c.if-pass.ensures.kept (λ passed. absurd (cc)) in
     let many : c.len-made.result ≡ length kept.types.items = search rules in
     let table = table_of c.args.table.now in

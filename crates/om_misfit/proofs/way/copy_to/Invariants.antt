@@ -1,5 +1,5 @@
 use Rattle.std.proofs.Common.{◌≡◌, take}
-use Rattle.om_misfit.proofs.way.copy_of.Given as goal
+use Rattle.om_misfit.proofs.way.copy_to.Given as goal
 
 -- the links so far
 abbrev pub invariant-links : goal.invariant-links
