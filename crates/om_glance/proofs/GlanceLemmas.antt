@@ -31,7 +31,7 @@ use Rattle.om_misfit.proofs.FindLemmas.{finds_longer}
 use Rattle.om_glance.specs.declared.glance.Glance.{Glance}
 use Rattle.om_glance.specs.declared.look.Looking.{Looking}
 use Rattle.om_glance.specs.Look.{IsLooking, HasRoomAfter}
-use Rattle.om_glance.specs.Glance.{IsGlance, IsMissedNext}
+use Rattle.om_glance.specs.Glance.{IsGlance, IsMissedNext, held}
 use Rattle.om_glance.proofs.LawLemmas.{passing_is_front, passing_but_is_front}
 
 -- ---- in a header
@@ -82,16 +82,16 @@ more_taken table limit old new piece before bytes kept front looking = (
 
 -- it showed a value with one misfit, and the next value begins
 pub missed_next :
-    (table : Table) (limit : ℕ) (old ended : Glance) (piece bytes : List ℕ) (total n : ℕ) (found : Found) → total ≡ length old.kept.items + n → bytes ≡ old.kept.items ++ piece → 0 < n → IsFound table limit total bytes found × (found.ty < length table.nodes)
-    → ended.kept.items ≡ [] → ((other : Table) (limit' : ℕ) → IsGlance other limit' ended) → IsMissedNext table limit old piece (record { kept = ended.kept; looking = ended.looking; found = Some found }) n
-missed_next table limit old ended piece bytes total n found all same some is none glance =
-    let here : IsFound table limit (length old.kept.items + n) (old.kept.items ++ piece) found = subst₂ (λ m bs. IsFound table limit m bs found) all same is.0 in
+    (table : Table) (limit : ℕ) (old new : Glance) (piece bytes : List ℕ) (total n : ℕ) (found : Found) → total ≡ length old.kept.items + n → bytes ≡ old.kept.items ++ piece → 0 < n → held new ≡ Some found → IsFound table limit total bytes found
+    → found.ty < length table.nodes → new.kept.items ≡ [] → ((other : Table) (limit' : ℕ) → IsGlance other limit' new) → IsMissedNext table limit old piece new n
+missed_next table limit old new piece bytes total n found all same some holds is ty none glance =
+    let here : IsFound table limit (length old.kept.items + n) (old.kept.items ++ piece) found = subst₂ (λ m bs. IsFound table limit m bs found) all same is in
     record {
       some = some;
       within = let front = here.front.within in let both = length-append old.kept.items piece in omega (arith, front, both);
-      missed = (found, refl, here, is.1);
+      missed = (found, holds, here, ty);
       none = none;
-      glance = λ other limit'. let g = glance other limit' in record { bytes = g.bytes; is_front = g.is_front; looking = g.looking };
+      glance = glance;
     }
 
 -- ---- among tokens

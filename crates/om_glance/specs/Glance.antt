@@ -1,5 +1,5 @@
 -- What is known of a value of which some bytes were taken.
-use Rattle.std.specs.Prelude.{ℕ, ◌+◌, ◌<◌, ◌≤◌, ◌≡◌, List, [], ◌++◌, length, Some}
+use Rattle.std.specs.Prelude.{ℕ, ◌+◌, ◌<◌, ◌≤◌, ◌≡◌, List, [], ◌++◌, length, Option, Some}
 use Rattle.om_model.specs.Bytes.{AreBytes}
 use Rattle.om_types.specs.Table.{Table}
 use Rattle.om_format.specs.Front.{IsFront}
@@ -9,13 +9,17 @@ use Rattle.om_misfit.specs.declared.misfit.Found.{Found}
 use Rattle.om_glance.specs.declared.glance.Glance.{Glance}
 use Rattle.om_glance.specs.declared.glance.Answer.{Answer}
 use Rattle.om_glance.specs.declared.glance.Answer.TheVariants as answers
-use Rattle.om_glance.specs.Look.{IsLooking}
+use Rattle.om_glance.specs.Look.{IsLooking, missed_in}
 
 -- the bytes that were taken are a front of a value, and lead to what is known of it
 pub record IsGlance (table : Table) (limit : ℕ) (g : Glance) : Type 0 where
   pub bytes : AreBytes g.kept.items
   pub is_front : IsFront limit g.kept.items
   pub looking : IsLooking table limit g.kept.items g.looking
+
+-- the misfit that was found last
+abbrev pub held : Glance → Option Found
+held g = missed_in g.looking
 
 -- the bytes that were taken, and the first n of the piece, are a value that has the table's first
 -- type; nothing is taken of the next one
@@ -37,7 +41,7 @@ pub record IsMissedNext
   pub some : 0 < n
   pub within : n ≤ length piece
   pub missed :
-      (found : Found) × (new.found ≡ Some found)
+      (found : Found) × (held new ≡ Some found)
       × IsFound table limit (length old.kept.items + n) (old.kept.items ++ piece) found
       × (found.ty < length table.nodes)
   pub none : new.kept.items ≡ []
@@ -51,8 +55,3 @@ Glances table limit old piece new answers.More =
     (new.kept.items ≡ old.kept.items ++ piece) × IsGlance table limit new
 Glances table limit old piece new answers.Untold =
     (new.kept.items ≡ old.kept.items) × IsGlance table limit new
-
--- unless one is found, the misfit that was held still is, or none is, as before
-abbrev pub HoldsOn : Glance → Glance → Answer → Type 0
-HoldsOn old new (answers.Missed n) = Unit {0}
-HoldsOn old new answer = new.found ≡ old.found

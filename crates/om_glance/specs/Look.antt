@@ -1,11 +1,12 @@
 -- What a look at the bytes of a value shows.
-use Rattle.std.specs.Prelude.{ℕ, ◌+◌, ◌<◌, ◌≤◌, ◌≡◌, true, List, length, drop}
+use Rattle.std.specs.Prelude.{ℕ, ◌+◌, ◌<◌, ◌≤◌, ◌≡◌, true, List, length, drop, Option, Some}
 use Rattle.om_types.specs.Table.{Table}
 use Rattle.om_format.specs.Front.{IsFront}
 use Rattle.om_cut.specs.Cut.{IsCut}
 use Rattle.om_pass_law.specs.OnePass.{IsTypedFront}
 use Rattle.om_pass.specs.State.{IsUnderway}
 use Rattle.om_misfit.specs.Find.{IsFound, IsSought}
+use Rattle.om_misfit.specs.declared.misfit.Found.{Found}
 use Rattle.om_glance.specs.declared.look.Looking.{Looking}
 use Rattle.om_glance.specs.declared.look.Shown.{Shown}
 use Rattle.om_glance.specs.declared.look.Shown.TheVariants as shown
@@ -17,11 +18,16 @@ pub record IsLooking (table : Table) (limit : ℕ) (bytes : List ℕ) (looking :
   pub underway : looking.begun ≡ true → IsUnderway table limit bytes looking.passing
   pub sought : looking.sought ≡ true → IsSought table limit bytes looking.seeking
 
+-- the misfit that was found last
+abbrev pub missed_in : Looking → Option Found
+missed_in looking = looking.seeking.finding.found
+
 -- what a look at all bytes of the value so far shows, and what is then known of it
 abbrev pub IsShown : Table → ℕ → List ℕ → Looking → Shown → Type 0
 IsShown table limit bytes looking (shown.Typed n) = IsTypedFront table limit n bytes
-IsShown table limit bytes looking (shown.Missed n found) =
-    IsFound table limit n bytes found × (found.ty < length table.nodes)
+IsShown table limit bytes looking (shown.Missed n) =
+    (found : Found) × (missed_in looking ≡ Some found)
+    × IsFound table limit n bytes found × (found.ty < length table.nodes)
 IsShown table limit bytes looking shown.More =
     IsFront limit bytes × IsLooking table limit bytes looking
 IsShown table limit bytes looking shown.Untold = Unit {0}

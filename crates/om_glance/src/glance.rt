@@ -11,8 +11,8 @@ use std::alloc::Global;
 pub enum Answer {
     /// So many bytes of it complete a value that has the type.
     Typed(usize),
-    /// So many bytes of it complete a value with one misfit, which is held until it is taken, or
-    /// the next one is found. No other answer changes what is held.
+    /// So many bytes of it complete a value with one misfit, which is held until the next piece is
+    /// taken.
     Missed(usize),
     /// All of it was taken: more of the value has to come.
     More,
@@ -21,31 +21,27 @@ pub enum Answer {
     Untold,
 }
 
-/// The bytes taken so far of the value in hand, how far they were looked at, and the misfit that
-/// was found last, until it is taken.
+/// The bytes taken so far of the value in hand, and how far they were looked at.
 #[derive(Drop)]
 pub struct Glance<'a> {
     kept: Vec<u8>,
     looking: Looking<'a>,
-    found: Option<Found>,
 }
 
 impl<'a> Glance<'a> {
-    ghost use Rattle.std.specs.Prelude.{ℕ, ◌≡◌, [], None, IfOk};
+    ghost use Rattle.std.specs.Prelude.{ℕ, ◌≡◌, [], None, Some, IfOk, MatchOption};
     ghost use Rattle.om_types.specs.Table.{Table};
     ghost use Rattle.om_type_table.specs.Made.{table_of};
-    ghost use Rattle.om_glance.specs.Glance.{IsGlance, Glances, HoldsOn};
+    ghost use Rattle.om_glance.specs.Glance.{IsGlance, Glances, held};
 
-    /// No byte was taken, and no misfit is held. It takes no memory.
+    /// No byte was taken. It takes no memory.
     pub fn new(alloc: Global) -> Glance<'a>
         ensures none { result.kept.items ≡ [] }
-        ensures found { result.found ≡ None }
         ensures glance { (table : Table) (limit : ℕ) → IsGlance table limit result }
     {
         Glance {
             kept: Vec::new(alloc),
             looking: Looking::new(alloc),
-            found: None,
         }
     }
 
@@ -56,21 +52,18 @@ impl<'a> Glance<'a> {
         self.kept.as_slice()
     }
 
-    /// Takes the misfit that was found last, if it was not taken before.
-    pub fn missed(&mut self) -> Option<Found>
-        ensures found { result ≡ self.old.found }
-        ensures taken { self.new.found ≡ None }
-        ensures kept { self.new.kept.items ≡ self.old.kept.items }
-        ensures glance { (table : Table) (limit : ℕ)
-            → IsGlance table limit self.old → IsGlance table limit self.new }
+    /// The misfit that is held.
+    pub fn missed(&self) -> Option<&Found>
+        ensures { MatchOption result (held self.now ≡ None)
+            (λ found. held self.now ≡ Some found.now) }
     {
-        self.found.take()
+        self.looking.missed()
     }
 
     /// A value ends: the next one begins, in the same memory.
     fn end(&mut self)
         ensures none { self.new.kept.items ≡ [] }
-        ensures found { self.new.found ≡ self.old.found }
+        ensures found { held self.new ≡ held self.old }
         ensures glance { (table : Table) (limit : ℕ) → IsGlance table limit self.new }
     {
         self.kept.clear();
@@ -87,18 +80,16 @@ impl<'a> Glance<'a> {
     ) -> Result<Answer, Memory>
         requires glance { IsGlance (table_of table.now) limit self.old }
         requires none { self.old.kept.items ≡ [] }
-        ensures glances { IfOk result
+        ensures { IfOk result
             (Glances (table_of table.now) limit self.old piece.now self.new) }
-        ensures holds { IfOk result (HoldsOn self.old self.new) }
     {
         match self.looking.look(alloc, table, limit, piece)? {
             Shown::Typed(n) if n > 0 => {
                 self.end();
                 Ok(Answer::Typed(n))
             }
-            Shown::Missed(n, found) if n > 0 => {
+            Shown::Missed(n) if n > 0 => {
                 self.end();
-                self.found = Some(found);
                 Ok(Answer::Missed(n))
             }
             Shown::More => {
@@ -121,9 +112,8 @@ impl<'a> Glance<'a> {
         piece: &[u8],
     ) -> Result<Answer, Memory>
         requires glance { IsGlance (table_of table.now) limit self.old }
-        ensures glances { IfOk result
+        ensures { IfOk result
             (Glances (table_of table.now) limit self.old piece.now self.new) }
-        ensures holds { IfOk result (HoldsOn self.old self.new) }
     {
         let before = self.kept.len();
         self.kept.extend_from_slice(piece)?;
@@ -135,9 +125,8 @@ impl<'a> Glance<'a> {
                 self.end();
                 Ok(Answer::Typed(n - before))
             }
-            Shown::Missed(n, found) if n > before => {
+            Shown::Missed(n) if n > before => {
                 self.end();
-                self.found = Some(found);
                 Ok(Answer::Missed(n - before))
             }
             Shown::More => Ok(Answer::More),
@@ -159,9 +148,8 @@ impl<'a> Glance<'a> {
         piece: &[u8],
     ) -> Result<Answer, Memory>
         requires glance { IsGlance (table_of table.now) limit self.old }
-        ensures glances { IfOk result
+        ensures { IfOk result
             (Glances (table_of table.now) limit self.old piece.now self.new) }
-        ensures holds { IfOk result (HoldsOn self.old self.new) }
     {
         if self.kept.is_empty() {
             self.first(alloc, table, limit, piece)

@@ -20,12 +20,12 @@ use om_type_table::TypeTable;
 use std::alloc::Global;
 
 /// What all bytes of the value so far show.
-#[derive(Drop)]
+#[derive(Clone, Copy)]
 pub enum Shown {
     /// So many of them are a value that has the type.
     Typed(usize),
-    /// So many of them are a value whose least fault is this misfit.
-    Missed(usize, Found),
+    /// So many of them are a value whose least fault is the misfit that is held.
+    Missed(usize),
     /// They are a front of a value.
     More,
     /// Nothing.
@@ -95,11 +95,11 @@ pub struct Looking<'a> {
 }
 
 impl<'a> Looking<'a> {
-    ghost use Rattle.std.specs.Prelude.{ℕ, List, IfOk};
+    ghost use Rattle.std.specs.Prelude.{ℕ, ◌≡◌, List, None, Some, IfOk, MatchOption};
     ghost use Rattle.om_types.specs.Table.{Table};
     ghost use Rattle.om_type_table.specs.Made.{table_of};
     ghost use Rattle.om_misfit.specs.Find.{IsSought};
-    ghost use Rattle.om_glance.specs.Look.{IsLooking, IsShown};
+    ghost use Rattle.om_glance.specs.Look.{IsLooking, IsShown, missed_in};
 
     /// Nothing was looked at. It takes no memory.
     pub fn new(alloc: Global) -> Looking<'a>
@@ -114,16 +114,25 @@ impl<'a> Looking<'a> {
         }
     }
 
-    /// The next look is at another value, in the same memory.
+    /// The misfit that was found last, until the next search begins.
+    pub fn missed(&self) -> Option<&Found>
+        ensures { MatchOption result (missed_in self.now ≡ None)
+            (λ found. missed_in self.now ≡ Some found.now) }
+    {
+        self.seeking.finding.found.as_ref()
+    }
+
+    /// The next look is at another value, in the same memory. The misfit is held on.
     pub fn restart(&mut self)
-        ensures { (table : Table) (limit : ℕ) (bytes : List ℕ)
+        ensures looking { (table : Table) (limit : ℕ) (bytes : List ℕ)
             → IsLooking table limit bytes self.new }
+        ensures held { missed_in self.new ≡ missed_in self.old }
     {
         self.begun = false;
         self.sought = false;
     }
 
-    /// The same, and the memory of the search is given back.
+    /// The same, and the memory of the search is given back, with the misfit.
     pub fn forget(&mut self, alloc: Global)
         ensures { (table : Table) (limit : ℕ) (bytes : List ℕ)
             → IsLooking table limit bytes self.new }
@@ -204,13 +213,13 @@ impl<'a> Looking<'a> {
         self.sought = true;
         match self.seeking.go(alloc, table, limit, bytes)? {
             End::Found(n) => {
-                let Some(found) = self.seeking.finding.found.take() else {
+                let Some(found) = &self.seeking.finding.found else {
                     return Ok(Shown::Untold);
                 };
                 if found.ty >= table.count() {
                     return Ok(Shown::Untold);
                 }
-                Ok(Shown::Missed(n, found))
+                Ok(Shown::Missed(n))
             }
             End::Cut => {
                 let mut left = self.seeking.left;

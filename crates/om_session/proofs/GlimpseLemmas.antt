@@ -27,8 +27,7 @@ use Rattle.om_table.specs.TableDecides.{TheRootIsFirst, TablesDecide}
 use Rattle.om_type_table.specs.Made.{types_of, table_of}
 use Rattle.om_pass_law.specs.OnePass.{IsTypedFront}
 use Rattle.om_glance.specs.declared.glance.Glance.{Glance}
-use Rattle.om_glance.specs.Glance.{IsGlance, IsTypedNext, IsMissedNext}
-use Rattle.om_types.specs.Table.{Table}
+use Rattle.om_glance.specs.Glance.{IsTypedNext, IsMissedNext, held}
 use Rattle.om_misfit.specs.declared.misfit.Found.{Found}
 use Rattle.om_misfit.specs.Find.{IsFound}
 use Rattle.om_outcome.specs.RefusalText.{truncated_text}
@@ -96,22 +95,21 @@ no_front r limit n bytes found f text puts =
       says = (put.0, put.1, ap line put.2);
     }
 
-same_found : (found other : Found) (held : Option Found) → held ≡ Some found → Some other ≡ held → found ≡ other
-same_found found other held is took = let same : Some found ≡ Some other = sym is ∙ sym took in cc same
+same_found : (found other : Found) (holds : Option Found) → holds ≡ Some found → holds ≡ Some other → found ≡ other
+same_found found other holds is also = let same : Some found ≡ Some other = sym is ∙ also in cc same
 
--- the misfit that was held is taken, and its line is told
+-- the line of the misfit that is held is told
 pub no_next :
-    (r : Prepared) (limit : ℕ) (old : Glance) (piece : List ℕ) (new after : Glance) (n : ℕ) → IsMissedNext (table_of r.table) limit old piece new n → (found : Found) → Some found ≡ new.found
-    → (text : List ℕ) → ((limit n : ℕ) (bytes : List ℕ) → IsFound (table_of r.table) limit n bytes found → IsVerdictOn r limit n bytes (no_in text)) → after.kept.items ≡ new.kept.items
-    → ((table : Table) (limit : ℕ) → IsGlance table limit new → IsGlance table limit after) → IsVerdictNext r limit old piece after n (no_in text)
-no_next r limit old piece new after n it found took text says kept glance =
-    let same : it.missed.0 ≡ found = same_found it.missed.0 found new.found it.missed.1 took in
+    (r : Prepared) (limit : ℕ) (old : Glance) (piece : List ℕ) (new : Glance) (n : ℕ) → IsMissedNext (table_of r.table) limit old piece new n → (found : Found) → held new ≡ Some found → (text : List ℕ)
+    → ((limit n : ℕ) (bytes : List ℕ) → IsFound (table_of r.table) limit n bytes found → IsVerdictOn r limit n bytes (no_in text)) → IsVerdictNext r limit old piece new n (no_in text)
+no_next r limit old piece new n it found holds text says =
+    let same : it.missed.0 ≡ found = same_found it.missed.0 found (held new) it.missed.1 holds in
     let all : ℕ = length old.kept.items + n in record {
       some = it.some;
       within = it.within;
       verdict = says limit all (old.kept.items ++ piece) (subst (λ f. IsFound (table_of r.table) limit all (old.kept.items ++ piece) f) same it.missed.2);
-      none = kept ∙ it.none;
-      glance = λ table limit'. glance table limit' (it.glance table limit');
+      none = it.none;
+      glance = it.glance;
     }
 
 -- ---- a value of which bytes were kept, and the first n in hand are the others

@@ -57,14 +57,15 @@ pub record IsVerdictNext (r : Prepared) (limit : ℕ) (old : Glance) (piece : Li
   pub none : new.kept.items ≡ []
   pub glance : (table : Table) (limit' : ℕ) → IsGlance table limit' new
 
--- what a look at a piece shows: the verdict on such a value, or more has to come, or nothing
-abbrev pub IsGlimpse : Prepared → ℕ → Glance → List ℕ → Glance → Seen → Type 0
-IsGlimpse r limit old piece new (seen.Yes n) = IsVerdictNext r limit old piece new n yes
-IsGlimpse r limit old piece new (seen.No n text) =
+-- what a look at a piece shows: the verdict on such a value, in this text where it is no `yes`, or
+-- more has to come, or nothing
+abbrev pub IsGlimpse : Prepared → ℕ → Glance → List ℕ → Glance → List ℕ → Seen → Type 0
+IsGlimpse r limit old piece new text (seen.Yes n) = IsVerdictNext r limit old piece new n yes
+IsGlimpse r limit old piece new text (seen.No n) =
     IsVerdictNext r limit old piece new n (no_in text)
-IsGlimpse r limit old piece new seen.More =
+IsGlimpse r limit old piece new text seen.More =
     (new.kept.items ≡ old.kept.items ++ piece) × IsGlance (table_of r.table) limit new
-IsGlimpse r limit old piece new seen.Untold =
+IsGlimpse r limit old piece new text seen.Untold =
     (new.kept.items ≡ old.kept.items) × IsGlance (table_of r.table) limit new
 
 -- after the bytes of which this is so these were kept

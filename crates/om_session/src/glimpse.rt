@@ -2,20 +2,17 @@
 //! value that has its type and whose bytes are those that the runtime writes for it.
 
 ghost use Rattle.std.specs.Bool.{OnTrue};
-ghost use Rattle.std.specs.Prelude.{◌≡◌, ◌≤◌, ◌<◌, ℕ, List, [], length, take, IfOk};
+ghost use Rattle.std.specs.Prelude.{◌≡◌, ◌≤◌, ◌<◌, ℕ, List, [], length, take, IfOk, OnOk};
 ghost use Rattle.om_glance.specs.Glance.{IsGlance};
 ghost use Rattle.om_type_table.specs.Made.{table_of};
 ghost use Rattle.om_misfit.specs.Find.{IsFound};
 ghost use Rattle.om_session.specs.Glimpse.{IsGlimpse, IsUnchangedGlimpse, IsVerdictOn, no_in};
 ghost use Rattle.om_written.specs.Written.{IsAsWritten};
 
-use crate::verdict::ROOM;
 use om_declared::{Requested, put_missed_no};
 use om_glance::{Answer, Glance};
 use om_misfit::Found;
 use om_model::Memory;
-use om_model::list::List;
-use om_stops::put::put;
 use om_table::tables_decide;
 use om_written::is_as_written;
 use std::alloc::Global;
@@ -68,43 +65,48 @@ impl Looks {
 }
 
 /// What a look shows of the value in hand.
-#[derive(Drop)]
+#[derive(Clone, Copy)]
 pub enum Seen {
     /// So many bytes of the piece complete it, and `yes` is told of it.
     Yes(usize),
-    /// So many do, and this line, with its line feed, is told of it: it starts with `no`.
-    No(usize, List<u8>),
+    /// So many do, and the line that was put is told of it: it starts with `no`.
+    No(usize),
     /// All of the piece was taken: more has to come.
     More,
     /// Nothing is said, and nothing of the piece was taken.
     Untold,
 }
 
-/// The line of a value that has one misfit.
-fn missed_line(alloc: Global, requested: &Requested, found: &Found) -> Result<List<u8>, Memory>
+/// The line of a value that has one misfit, in place of what was there.
+fn put_missed_line(
+    line: &mut Vec<u8>,
+    alloc: Global,
+    requested: &Requested,
+    found: &Found,
+) -> Result<(), Memory>
     requires number { found.now.ty < length requested.now.table.nodes }
-    ensures { IfOk result
-        (λ line. (limit n : ℕ) (bytes : List ℕ)
+    ensures { OnOk result ((limit n : ℕ) (bytes : List ℕ)
         → IsFound (table_of requested.now.table) limit n bytes found.now
-        → IsVerdictOn requested.now limit n bytes (no_in line)) }
+        → IsVerdictOn requested.now limit n bytes (no_in line.new.items)) }
 {
-    let mut text = Vec::with_capacity(alloc, ROOM)?;
-    put_missed_no(&mut text, alloc, requested, found)?;
-    put(&mut text, b"\n")?;
-    Ok(List::of(text))
+    line.clear();
+    put_missed_no(line, alloc, requested, found)?;
+    Ok(line.push(b'\n')?)
 }
 
 /// A look at the value in hand, of which bytes were kept, with a piece more: what is told of it, or
-/// whether more of it has to come.
+/// whether more of it has to come. The line of a `no` is put in place of what was there.
 pub fn glimpse<'a>(
     alloc: Global,
     requested: &'a Requested,
     limit: u64,
     glance: &mut Glance<'a>,
     piece: &[u8],
+    line: &mut Vec<u8>,
 ) -> Result<Seen, Memory>
     requires glance { IsGlance (table_of requested.now.table) limit glance.old }
-    ensures { IfOk result (IsGlimpse requested.now limit glance.old piece.now glance.new) }
+    ensures { IfOk result
+        (IsGlimpse requested.now limit glance.old piece.now glance.new line.new.items) }
 {
     requested.holds();
     tables_decide();
@@ -115,8 +117,8 @@ pub fn glimpse<'a>(
             let Some(found) = glance.missed() else {
                 unreachable!()
             };
-            let line = missed_line(alloc, requested, &found)?;
-            Ok(Seen::No(n, line))
+            put_missed_line(line, alloc, requested, found)?;
+            Ok(Seen::No(n))
         }
         Answer::More => Ok(Seen::More),
         Answer::Untold => Ok(Seen::Untold),

@@ -89,14 +89,15 @@ fn give_up(alloc: Global, values: &mut Values, glance: &mut Glance<'_>) -> Resul
     values.take_front(kept.kept())
 }
 
-/// A job, the values so far, what was taken of the next one while it was looked at, and whether
-/// those to come are.
+/// A job, the values so far, what was taken of the next one while it was looked at, whether those
+/// to come are, and the line of the last one that a look told a fault of.
 #[derive(Drop)]
 pub struct Progress<'a> {
     job: Job<'a>,
     values: Values,
     glance: Glance<'a>,
     looks: Looks,
+    line: Vec<u8>,
 }
 
 impl<'a> Progress<'a> {
@@ -111,6 +112,7 @@ impl<'a> Progress<'a> {
             values: Values::new(alloc, job),
             glance: Glance::new(alloc),
             looks: Looks::new(),
+            line: Vec::new(alloc),
         }
     }
 
@@ -200,17 +202,19 @@ impl Work for Progress<'_> {
         if !is_due(&mut self.looks, &self.values, &self.glance) {
             return self.read_on(alloc, in_hand, out);
         }
-        let seen = glimpse(alloc, requested, limit, &mut self.glance, in_hand)?;
+        let line = &mut self.line;
+        let seen = glimpse(alloc, requested, limit, &mut self.glance, in_hand, line)?;
         match seen {
             Seen::Yes(n) => {
                 self.looks.count_useful();
                 self.values
                     .take_told(requested, limit, in_hand, n, b"yes\n", true, out)
             }
-            Seen::No(n, line) => {
+            Seen::No(n) => {
                 self.looks.count_useful();
+                let line = self.line.as_slice();
                 self.values
-                    .take_told(requested, limit, in_hand, n, line.as_slice(), false, out)
+                    .take_told(requested, limit, in_hand, n, line, false, out)
             }
             Seen::More => Ok(in_hand.len()),
             Seen::Untold => {

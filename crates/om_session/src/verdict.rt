@@ -59,7 +59,7 @@ pub struct Line {
 }
 
 /// Most lines on small values have no more bytes.
-pub const ROOM: usize = 96;
+const ROOM: usize = 96;
 
 /// What is said of a value.
 pub fn line_of(alloc: Global, value: &Rooted<'_>, speech: Speech<'_>) -> Result<Line, Memory>

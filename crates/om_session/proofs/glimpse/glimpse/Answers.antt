@@ -7,15 +7,15 @@ feed-requires c = record { glance = rw c.table.ensures.same c.requires.glance }
 pub returns-in-Typed : goal.returns-in-Typed
 returns-in-Typed c =
     yes_next c.args.requested.now c.holds.ensures c.tables_decide.ensures.root c.tables_decide.ensures.decide c.args.limit c.args.glance.now c.args.piece.now c.feed.new.self c.in-Typed.n
-    (rw (c.table.ensures.same, c.in-Typed.is) at c.in_ok-answer.ensures.glances)
+    (rw (c.table.ensures.same, c.in-Typed.is) at c.in_ok-answer.ensures)
 
-pub returns-in_ok-line-in-Missed : goal.returns-in_ok-line-in-Missed
-returns-in_ok-line-in-Missed c =
-    no_next c.args.requested.now c.args.limit c.args.glance.now c.args.piece.now c.feed.new.self c.missed.new.self c.in-Missed.n (rw (c.table.ensures.same, c.in-Missed.is) at c.in_ok-answer.ensures.glances)
-    c.in-Some.found c.in-Some.ensures.found c.in_ok-line-in-Missed.line c.in_ok-line-in-Missed.ensures c.missed.ensures.kept c.missed.ensures.glance
+pub returns-in_ok-put_missed_line-in-Missed : goal.returns-in_ok-put_missed_line-in-Missed
+returns-in_ok-put_missed_line-in-Missed c =
+    no_next c.args.requested.now c.args.limit c.args.glance.now c.args.piece.now c.feed.new.self c.in-Missed.n (rw (c.table.ensures.same, c.in-Missed.is) at c.in_ok-answer.ensures) c.in-Some.found.now c.in-Some.ensures
+    c.put_missed_line.new.line.items c.in_ok-put_missed_line-in-Missed.ensures
 
 pub returns-in-More : goal.returns-in-More
-returns-in-More c = rw (c.table.ensures.same, c.in-More.is) at c.in_ok-answer.ensures.glances
+returns-in-More c = rw (c.table.ensures.same, c.in-More.is) at c.in_ok-answer.ensures
 
 pub returns-in-Untold : goal.returns-in-Untold
-returns-in-Untold c = rw (c.table.ensures.same, c.in-Untold.is) at c.in_ok-answer.ensures.glances
+returns-in-Untold c = rw (c.table.ensures.same, c.in-Untold.is) at c.in_ok-answer.ensures

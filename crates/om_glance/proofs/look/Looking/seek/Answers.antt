@@ -1,6 +1,14 @@
-use Rattle.std.proofs.Common.{◌≡◌, true, false}
+use Rattle.std.proofs.Common.{◌≡◌, ◌∙◌, Some, true, false, sym, subst, arith}
 use Rattle.om_type_table.specs.Made.{table_of}
+use Rattle.om_misfit.specs.Find.{IsFound}
 use Rattle.om_glance.proofs.look.Looking.seek.Goals as goal
+
+pub returns-else-found-count : goal.returns-else-found-count
+returns-else-found-count c =
+    let stopped = rw c.in-Found.is at c.in_ok-n.ensures in
+    let both : Some stopped.0 ≡ Some c.in-Some.found = sym stopped.1 ∙ c.in-Some.is in
+    let same : stopped.0 ≡ c.in-Some.found = cc both in
+    (c.in-Some.found, c.in-Some.is, subst (IsFound (table_of c.args.table.now) c.args.limit c.in-Found.n c.args.bytes.now) same stopped.2, omega arith)
 
 pub returns-else-not-is_front : goal.returns-else-not-is_front
 returns-else-not-is_front c =

@@ -113,7 +113,7 @@ returns-in-No-clause-feeds g c = λ reads.
     let seen = rw c.in-No.is at c.in_ok-seen.ensures in
     let look = ready_to_look p.job r limit c.in-Some.ensures p.values p.glance t.0 t.1 t.2 in
     told_feeds p.job r limit c.in-Some.ensures p.values p.glance c.take_told-in-No.new.self c.glimpse.new.glance c.args.in_hand.now (change (g.K.Sink.state c.args.out.now) (g.K.Sink.state c.take_told-in-No.new.out)) c.take_told-in-No.result
-    seen.none (seen.glance (table_of r.now.table) limit) (c.take_told-in-No.ensures p.glance.kept.items look.bytes look.is_front (subst (λ text. IsVerdictOn r.now limit (length p.glance.kept.items + c.in-No.n) (p.glance.kept.items ++ c.args.in_hand.now) (no_in text)) (sym c.as_slice.ensures) seen.verdict))
+    seen.none (seen.glance (table_of r.now.table) limit) (c.take_told-in-No.ensures p.glance.kept.items look.bytes look.is_front (subst (λ text. IsVerdictOn r.now limit (length p.glance.kept.items + c.in-No.n) (p.glance.kept.items ++ c.args.in_hand.now) (no_in text)) (sym c.as_slice-line.ensures.value) seen.verdict))
 
 pub returns-in-More-clause-feeds : goal.returns-in-More-clause-feeds
 returns-in-More-clause-feeds g c = λ reads.
