@@ -1,5 +1,6 @@
 //! A look at the value in hand: a pass over its bytes, and where that tells nothing a search for
-//! its one misfit, from its first byte on.
+//! its one misfit, from its first byte on. After some values that had one, with none between that
+//! had the type, a small value is searched first.
 
 ghost use Rattle.std.specs.Prelude.{ℕ, ◌<◌, length, IfSome};
 ghost use Rattle.std.specs.Bool.{OnTrue};
@@ -84,18 +85,26 @@ fn is_front_but(seeking: &Seeking<'_>, left: &mut u64, bytes: &[u8]) -> bool
     seeking.are_within(most, left)
 }
 
+/// After so many values with one misfit each, with none between that has the type, a small value is
+/// searched first.
+const MISSES: u8 = 8;
+
+/// A value is small where its header states no more data bytes.
+const SMALL: u64 = 256;
+
 /// How far the value in hand was passed, and, where that told nothing, how far its misfit was
-/// sought.
+/// sought; and how many values had one misfit each since one had the type.
 #[derive(Drop)]
 pub struct Looking<'a> {
     pub begun: bool,
     pub passing: Passing<'a>,
     pub sought: bool,
     pub seeking: Seeking<'a>,
+    pub misses: u8,
 }
 
 impl<'a> Looking<'a> {
-    ghost use Rattle.std.specs.Prelude.{ℕ, ◌≡◌, List, None, Some, IfOk, MatchOption};
+    ghost use Rattle.std.specs.Prelude.{ℕ, ◌≡◌, List, false, None, Some, IfOk, MatchOption};
     ghost use Rattle.om_types.specs.Table.{Table};
     ghost use Rattle.om_type_table.specs.Made.{table_of};
     ghost use Rattle.om_misfit.specs.Find.{IsSought};
@@ -111,6 +120,7 @@ impl<'a> Looking<'a> {
             passing: Passing::new(alloc),
             sought: false,
             seeking: Seeking::new(alloc),
+            misses: 0,
         }
     }
 
@@ -122,10 +132,11 @@ impl<'a> Looking<'a> {
         self.seeking.finding.found.as_ref()
     }
 
-    /// The next look is at another value, in the same memory. The misfit is held on.
+    /// The next look begins at a value's first byte, in the same memory. The misfit is held on.
     pub fn restart(&mut self)
         ensures looking { (table : Table) (limit : ℕ) (bytes : List ℕ)
             → IsLooking table limit bytes self.new }
+        ensures unsought { self.new.sought ≡ false }
         ensures held { missed_in self.new ≡ missed_in self.old }
     {
         self.begun = false;
@@ -141,8 +152,7 @@ impl<'a> Looking<'a> {
         self.restart();
     }
 
-    /// Looks at the value that begins the bytes, from where the last look ended. No search begins
-    /// before the pass tells nothing.
+    /// Looks at the value that begins the bytes, from where the last look ended.
     pub fn look(
         &mut self,
         alloc: Global,
@@ -156,6 +166,29 @@ impl<'a> Looking<'a> {
         if self.sought {
             return self.seek(alloc, table, limit, bytes);
         }
+        if self.misses >= MISSES {
+            let shown = self.search_small(alloc, table, limit, bytes)?;
+            if matches!(shown, Shown::Missed(_)) {
+                return Ok(shown);
+            }
+            self.misses = 0;
+            self.restart();
+        }
+        self.pass(alloc, table, limit, bytes)
+    }
+
+    /// The pass goes on, or begins. Where it tells nothing the search begins.
+    fn pass(
+        &mut self,
+        alloc: Global,
+        table: &'a TypeTable,
+        limit: u64,
+        bytes: &[u8],
+    ) -> Result<Shown, Memory>
+        requires looking { IsLooking (table_of table.now) limit bytes.now self.old }
+        requires unsought { self.old.sought ≡ false }
+        ensures { IfOk result (IsShown (table_of table.now) limit bytes.now self.new) }
+    {
         if !self.begun {
             if !self.passing.begin(bytes, limit)? {
                 if is_header_cut(bytes) {
@@ -166,7 +199,10 @@ impl<'a> Looking<'a> {
             self.begun = true;
         }
         match self.passing.go(table, limit, bytes)? {
-            Stop::Typed(n) => Ok(Shown::Typed(n)),
+            Stop::Typed(n) => {
+                self.misses = 0;
+                Ok(Shown::Typed(n))
+            }
             Stop::Cut(_) => {
                 let mut left = self.passing.left;
                 let is_front = is_front(&self.passing, &mut left, bytes);
@@ -197,6 +233,22 @@ impl<'a> Looking<'a> {
         self.seek(alloc, table, limit, bytes)
     }
 
+    /// The same, of a small value alone.
+    fn search_small(
+        &mut self,
+        alloc: Global,
+        table: &'a TypeTable,
+        limit: u64,
+        bytes: &[u8],
+    ) -> Result<Shown, Memory>
+        ensures { IfOk result (IsShown (table_of table.now) limit bytes.now self.new) }
+    {
+        if !self.seeking.begin(bytes, limit) || self.seeking.head.length > SMALL {
+            return Ok(Shown::Untold);
+        }
+        self.seek(alloc, table, limit, bytes)
+    }
+
     /// The search goes on. Where it has to wait for more bytes, the memory of the pass is given
     /// back.
     fn seek(
@@ -219,6 +271,7 @@ impl<'a> Looking<'a> {
                 if found.ty >= table.count() {
                     return Ok(Shown::Untold);
                 }
+                self.misses = self.misses.saturating_add(1);
                 Ok(Shown::Missed(n))
             }
             End::Cut => {
