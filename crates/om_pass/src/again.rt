@@ -85,9 +85,11 @@ fn look_kind(kind: CodeKind, bytes: &[u8]) -> Option<(Seen, usize)>
 /// The same of any kind.
 #[inline(never)]
 fn look_rare(bytes: &[u8]) -> Option<(Seen, usize)>
-    requires { 0 < length bytes.now }
     ensures { IfSome result (λ look. Looks bytes.now look.0 look.1) }
 {
+    if bytes.is_empty() {
+        return None;
+    }
     match code_kind(bytes[0]) {
         Ok(kind) => look_kind(kind, bytes),
         Err(_) => None,
