@@ -92,6 +92,11 @@ const MISSES: u8 = 8;
 /// A value is small where its header states no more data bytes.
 const SMALL: u64 = 256;
 
+/// Whether a reference stands after so many bytes (`CODE_SHARED8` to `CODE_SHARED64`).
+fn is_reference(bytes: &[u8], at: usize) -> bool {
+    at < bytes.len() && matches!(bytes[at], 0x04..=0x06 | 0x14)
+}
+
 /// How far the value in hand was passed, and, where that told nothing, how far its misfit was
 /// sought; and how many values had one misfit each since one had the type.
 #[derive(Drop)]
@@ -177,7 +182,8 @@ impl<'a> Looking<'a> {
         self.pass(alloc, table, limit, bytes)
     }
 
-    /// The pass goes on, or begins. Where it tells nothing the search begins.
+    /// The pass goes on, or begins. Where it tells nothing the search begins, but for a reference:
+    /// the search would tell no more of it.
     fn pass(
         &mut self,
         alloc: Global,
@@ -213,7 +219,12 @@ impl<'a> Looking<'a> {
                     Ok(Shown::Untold)
                 }
             }
-            Stop::Untold => self.search(alloc, table, limit, bytes),
+            Stop::Untold(at) => {
+                if is_reference(bytes, at) {
+                    return Ok(Shown::Untold);
+                }
+                self.search(alloc, table, limit, bytes)
+            }
         }
     }
 

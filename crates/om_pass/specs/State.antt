@@ -184,7 +184,7 @@ StopsAt table limit bytes head start marks notes state (stops.Typed n) =
     IsTypedFront table limit n bytes
 StopsAt table limit bytes head start marks notes state (stops.Cut at) =
     Leads table limit bytes head start at marks notes state × (0 < length (needs_in state))
-StopsAt table limit bytes head start marks notes state stops.Untold = Unit {0}
+StopsAt table limit bytes head start marks notes state (stops.Untold at) = Unit {0}
 
 -- the bytes lead to what is passed of a value
 abbrev pub IsUnderway : Table → ℕ → List ℕ → Passing → Type 0
@@ -196,4 +196,4 @@ abbrev pub Stops : Table → ℕ → List ℕ → Passing → Stop → Type 0
 Stops table limit bytes p (stops.Typed n) = IsTypedFront table limit n bytes
 Stops table limit bytes p (stops.Cut at) =
     IsUnderway table limit bytes p × (p.at ≡ at) × (0 < length (needs_in p.state))
-Stops table limit bytes p stops.Untold = Unit {0}
+Stops table limit bytes p (stops.Untold at) = Unit {0}

@@ -45,8 +45,8 @@ pub enum Stop {
     Typed(usize),
     /// After so many bytes comes a token that is not whole.
     Cut(usize),
-    /// Nothing is said.
-    Untold,
+    /// Nothing is said, by the token after so many bytes.
+    Untold(usize),
 }
 
 /// Whether no whole token begins the bytes, though one may be begun.
@@ -115,7 +115,7 @@ pub fn run<'a>(
             if is_spent(head, start, at, state) {
                 return Ok(Stop::Typed(at));
             }
-            return Ok(Stop::Untold);
+            return Ok(Stop::Untold(at));
         };
         if let Some((n, next)) = hot(
             table,
@@ -150,7 +150,7 @@ pub fn run<'a>(
             at,
         )?;
         if n == 0 {
-            return Ok(Stop::Untold);
+            return Ok(Stop::Untold(at));
         }
         at += n;
         now = state.places.now;
