@@ -1,7 +1,7 @@
 (* The values that are read, and OCaml's own reader beside omarshal.
 
    `write FILE SHAPE COUNT` writes a value of a shape, or many small ones; `read FILE` reads all values of a file; `copy FILE`
-   writes each value that it reads. *)
+   writes each value that it reads; `show FILE` and `part FILE` put each pair of an integer and a string, or the integer. *)
 
 module Strings = Map.Make (String)
 module Ints = Set.Make (Int)
@@ -210,10 +210,27 @@ let copy file =
   in
   next ()
 
+(* Each value of an integer and a string: as it is told, which is to read it at its type and to print it. *)
+let tell file told =
+  let input = open_in_bin file in
+  let rec next () =
+    match (input_value input : int * string) with
+    | value ->
+        told value;
+        next ()
+    | exception End_of_file -> ()
+  in
+  next ()
+
+let show (number, text) = Printf.printf "(%d, %S)\n" number text
+let part (number, _) = Printf.printf "%d\n" number
+
 let () =
   match Sys.argv with
   | [| _; "write"; file; shape; count |] ->
       write file shape (int_of_string count)
   | [| _; "read"; file |] -> read file
   | [| _; "copy"; file |] -> copy file
+  | [| _; "show"; file |] -> tell file show
+  | [| _; "part"; file |] -> tell file part
   | _ -> exit 2

@@ -5,7 +5,7 @@
 PART is the name of a function of WORK, at the end; with none it is each of them. Time is the median of the processor time
 (user and system) of some runs of the whole process; memory is the greatest resident set. The system counts to a process what
 this script held when it started it: smaller amounts than that are not told apart. Instructions are those of user code for
-each object of a value, by valgrind's callgrind: the difference of two sizes.
+each object, or each value, by valgrind's callgrind: the difference of two sizes.
 """
 
 import collections
@@ -163,13 +163,24 @@ def instructions(words, name):
     return int(re.search(r"Collected : (\d+)", told.stderr.decode()).group(1))
 
 
-def an_object(shape, *commands):
-    """The instructions for each object of a shape, of each command, which gives its words for a file."""
+def between(shape, number, commands):
+    """The instructions of each command, which gives its words for a file, between two sizes of a shape, for each of a number that
+    a function gives of a file."""
     if not shutil.which("valgrind"):
         return ["-"] * len(commands)
     few, many = (file_of(shape, SHAPES[shape][0] // part) for part in (100, 50))
-    objects = words_of(many)[1] - words_of(few)[1]
-    return [f"{(instructions(words(many), many) - instructions(words(few), few)) / objects:.0f}" for words in commands]
+    more = number(many) - number(few)
+    return [f"{(instructions(words(many), many) - instructions(words(few), few)) / more:.0f}" for words in commands]
+
+
+def an_object(shape, *commands):
+    """The instructions for each object of a shape, of each command."""
+    return between(shape, lambda path: words_of(path)[1], commands)
+
+
+def a_value(shape, *commands):
+    """The instructions for each value of a shape, of each command."""
+    return between(shape, lambda path: int(path.rpartition("_")[2]), commands)
 
 
 FLOOR = run(["true"], os.devnull).peak + 1.5
@@ -290,7 +301,6 @@ def missing():
         rows.append((f"`check` of {large(shape)[0]}, its last byte changed", ours(SHAPES[shape][1]), changed(shape)))
     rows += [
         ("`check` of list_5000000 at `bool list`", ours("bool list"), large("list")[1]),
-        ("`check` of values_500000 at `int * int`", ours("int * int"), large("values")[1]),
         ("`check` of strays_75000, trees and two integers", ours(ty), file_of("strays", 75_000)),
         ("`check` of clashes_200000 at `int ref * char ref`", ours("int ref * char ref"), file_of("clashes", 200_000)),
         ("`check` of twice_1000000, one set at two types", ours("int set * other"), file_of("twice", 1_000_000)),
@@ -299,6 +309,23 @@ def missing():
     for what, words, path in rows:
         mine, theirs = in_turn((words, path), ([*THEIRS, path], path))
         line(what, *beside(mine, theirs), said(mine))
+
+
+def small():
+    """Many small values, beside an OCaml program that does the same: reads each, puts it as text or its first part, or copies."""
+    name, path, ty = large("values")
+    table(f"Each value of {name}:", "what", *BESIDE, "instructions a value", "OCaml's")
+    rows = (
+        (f"`check` at `{ty}`, all `yes`", ours(ty), "read"),
+        ("`check` at `int * int`, all `no`", ours("int * int"), "read"),
+        ("`edit` with an empty script", [*ours(ty, "edit"), "/dev/null"], "copy"),
+        ("`show`", ours(ty, "show"), "show"),
+        ("`get` of the part `.0`", [*ours(ty, "get"), ".0"], "part"),
+        ("`show` at `int`, all `no`", ours("int", "show"), "read"),
+    )
+    for what, words, theirs in rows:
+        done = in_turn((words, path), (["./reader", theirs, path], path))
+        line(what, *beside(*done), *a_value("values", lambda _, it=words: it, lambda it, of=theirs: ["./reader", of, it]))
 
 
 def growing():
@@ -617,7 +644,7 @@ def types():
 
 
 WORK = (
-    inputs, reading, checking, real, missing, growing, hostile, showing, editing, building, certificates, trees, places, types,
+    inputs, reading, checking, real, missing, small, growing, hostile, showing, editing, building, certificates, trees, places, types,
 )
 PARTS = {it.__name__: it for it in WORK}
 if not set(parts) <= set(PARTS):

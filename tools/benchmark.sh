@@ -5,7 +5,7 @@
 #
 #     tools/benchmark.sh [PROGRAM [PART ..]]
 #
-# PROGRAM is by default the one that `./omarshal` built. PART is `inputs`, `reading`, `checking`, `real`, `missing`,
+# PROGRAM is by default the one that `./omarshal` built. PART is `inputs`, `reading`, `checking`, `real`, `missing`, `small`,
 # `growing`, `hostile`, `showing`, `editing`, `building`, `certificates`, `trees`, `places` or `types`; by default it is each
 # of them. RUNS=3 before the command makes three runs of each, not seven; LIMIT=60 lets one take 60 s, not 20.
 set -eu
