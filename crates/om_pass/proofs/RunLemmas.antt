@@ -3,7 +3,7 @@ use Rattle.std.proofs.Common.{ℕ, ◌+◌, ◌-◌, ◌^◌, ◌≤◌, ◌≡�
 use Rattle.std.specs.Prelude.{if◌then◌else◌, ◌==◌, Contains}
 use Rattle.std.proofs.lemmas.List.Elements.{Contains-append_left, Contains-append_right, Contains-append_cases}
 use Rattle.om_model.proofs.Options.{Contains-first, Contains-none, Contains-cases}
-use Rattle.std.proofs.lemmas.List.{length-take-le, length-append, length-drop, map-append, append-nil, take-append-le}
+use Rattle.std.proofs.lemmas.List.{length-take-le, length-append, length-drop, drop-drop, map-append, append-nil, take-append-le}
 use Rattle.std.specs.List.{concat}
 use Rattle.std.proofs.lemmas.List.Sums.{sum_by_push}
 use Rattle.om_model.specs.declared.header.Head.{Head}
@@ -13,7 +13,6 @@ use Rattle.om_format.specs.Words.{of_object, words32, words64, all_words32, all_
 use Rattle.om_format.specs.Header.{magic, small_magic, big_magic, header_length, head_of, big_head, small_head}
 use Rattle.om_format.specs.Token.{Token, shared, measure_of}
 use Rattle.om_format.specs.Spelled.{StatesWords32}
-use Rattle.om_format.proofs.SpellValues.{some_bytes}
 use Rattle.om_format.proofs.TokenStepLemmas.{magic-take, header_length-take, header_length-from, head_of-take}
 use Rattle.om_pass_law.specs.Asked.{Need, of_type, type_in, IsBackAt}
 use Rattle.om_pass_law.specs.Noted.{IsFlatNoted}
@@ -22,6 +21,7 @@ use Rattle.om_pass_law.proofs.GrowLemmas.{passing_start, passing_further}
 use Rattle.om_pass_law.proofs.LawLemmas.{noted_passes_type_fronts}
 use Rattle.om_pass_law.proofs.WeakerLemmas.{asks_weaker}
 use Rattle.om_pass_law.proofs.NotedLemmas.{noted_more, passing_more}
+use Rattle.om_pass.proofs.PieceLemmas.{rest_from}
 use Rattle.om_pass.proofs.AgainLemmas.{marks_more, marks_push, no_marks}
 use Rattle.om_pass.specs.Again.{AreMarks, IsReference, IsKnown}
 use Rattle.om_pass.specs.declared.words.Words.{Words}
@@ -141,24 +141,29 @@ leads_same table limit bytes head start n marks notes first last l types needs w
       are_known = l.are_known;
     }
 
--- what is left of the bytes is less after a token
-pub front_less : (table : Table) (stated : ℕ) (old new : State) (need : Need) (bytes : List ℕ) (at n : ℕ) → TookFront table stated old new need (drop at bytes) n → length bytes - (at + n) < length bytes - at
-front_less table stated old new need bytes at n front =
-    let within' = front.within in
-    let left = length-drop at bytes in
-    let long = length-take-le n (drop at bytes) within' in
-    let some = some_bytes front.token (take n (drop at bytes)) front.spells in
-    omega (arith, within', left, long, some)
+-- ---- what is left of the bytes
 
-pub turn_less :
-    (table : Table) (stated : ℕ) (old new : State) (need : Need) (bytes marks : List ℕ) (notes after : List (ℕ × ℕ)) (at n : ℕ) → TookTurn table stated old new need bytes marks notes after at n
-    → length bytes - (at + n) < length bytes - at
-turn_less table stated old new need bytes marks notes after at n (inl front) = front_less table stated old new need bytes at n front.1
-turn_less table stated old new need bytes marks notes after at n (inr back) =
-    let some = back.1.reference.some in
-    let within' = back.1.reference.within in
-    let left = length-drop at bytes in
-    omega (arith, some, within', left)
+-- the bytes before what is left lead to here
+pub record IsLeft (table : Table) (limit : ℕ) (bytes : List ℕ) (head : Head) (start : ℕ) (marks : List ℕ) (notes : List (ℕ × ℕ)) (state : State) (rest : List ℕ) : Type 0 where
+  pub rest_is : rest ≡ drop (length bytes - length rest) bytes
+  pub short : length rest ≤ length bytes
+  pub leads : Leads table limit bytes head start (length bytes - length rest) marks notes state
+
+-- n bytes further
+pub left_further :
+    (table : Table) (limit : ℕ) (bytes : List ℕ) (head : Head) (start n : ℕ) (marks : List ℕ) (notes : List (ℕ × ℕ)) (state : State) (rest : List ℕ) → rest ≡ drop (length bytes - length rest) bytes
+    → Leads table limit bytes head start (length bytes - length rest + n) marks notes state → IsLeft table limit bytes head start marks notes state (take (length rest - n) (drop n rest))
+left_further table limit bytes head start n marks notes state rest same l =
+    let p = l.passing in
+    let within' = p.within in
+    let further = rest_from n rest ∙ ap (drop n) same ∙ drop-drop n (length bytes - length rest) bytes in
+    let long = ap length further ∙ length-drop (length bytes - length rest + n) bytes in
+    let there : length bytes - length (take (length rest - n) (drop n rest)) ≡ length bytes - length rest + n = omega (arith, within', long) in
+    record {
+      rest_is = further ∙ ap (λ k. drop k bytes) (sym there);
+      short = omega (arith, long);
+      leads = subst (λ k. Leads table limit bytes head start k marks notes state) (sym there) l;
+    }
 
 -- ---- a reference more
 

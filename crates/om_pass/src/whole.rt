@@ -92,7 +92,7 @@ pub fn run<'a>(
         notes.new.items state.new) }
 {
     table.holds();
-    let mut at = first;
+    let mut rest = &bytes[first..];
     let mut now = state.places.now;
     let mut words = state.words;
     'tokens: loop {
@@ -101,17 +101,18 @@ pub fn run<'a>(
             table,
             head.objects,
             now,
-            &bytes[at..],
+            rest,
             &mut state.types,
             &mut state.places.waiting,
             &mut words,
         ) {
-            at += n;
+            rest = &rest[n..];
             now = next;
             continue;
         }
         let Some((asked, others)) = first_place(now, &mut state.places.waiting) else {
             state.words = words;
+            let at = bytes.len() - rest.len();
             if is_spent(head, start, at, state) {
                 return Ok(Stop::Typed(at));
             }
@@ -122,18 +123,19 @@ pub fn run<'a>(
             head.objects,
             asked,
             others,
-            &bytes[at..],
+            rest,
             &mut state.types,
             &mut state.places.waiting,
             &mut words,
         ) {
-            at += n;
+            rest = &rest[n..];
             now = next;
             continue;
         }
         state.places.now = others;
         state.words = words;
-        if is_cut(&bytes[at..]) {
+        let at = bytes.len() - rest.len();
+        if is_cut(rest) {
             state.places.open(again(asked))?;
             return Ok(Stop::Cut(at));
         }
@@ -152,7 +154,7 @@ pub fn run<'a>(
         if n == 0 {
             return Ok(Stop::Untold(at));
         }
-        at += n;
+        rest = &rest[n..];
         now = state.places.now;
         words = state.words;
     }
