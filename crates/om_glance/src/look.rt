@@ -172,7 +172,7 @@ impl<'a> Looking<'a> {
             return self.seek(alloc, table, limit, bytes);
         }
         if self.misses >= MISSES {
-            let shown = self.search_small(alloc, table, limit, bytes)?;
+            let shown = self.search(alloc, table, limit, bytes, SMALL)?;
             if matches!(shown, Shown::Missed(_)) {
                 return Ok(shown);
             }
@@ -223,38 +223,24 @@ impl<'a> Looking<'a> {
                 if is_reference(bytes, at) {
                     return Ok(Shown::Untold);
                 }
-                self.search(alloc, table, limit, bytes)
+                self.search(alloc, table, limit, bytes, u64::MAX)
             }
         }
     }
 
-    /// The search begins, at the value's first byte.
+    /// The search begins, at the value's first byte, where so many bytes of data at most are
+    /// stated.
     fn search(
         &mut self,
         alloc: Global,
         table: &'a TypeTable,
         limit: u64,
         bytes: &[u8],
+        most: u64,
     ) -> Result<Shown, Memory>
         ensures { IfOk result (IsShown (table_of table.now) limit bytes.now self.new) }
     {
-        if !self.seeking.begin(bytes, limit) {
-            return Ok(Shown::Untold);
-        }
-        self.seek(alloc, table, limit, bytes)
-    }
-
-    /// The same, of a small value alone.
-    fn search_small(
-        &mut self,
-        alloc: Global,
-        table: &'a TypeTable,
-        limit: u64,
-        bytes: &[u8],
-    ) -> Result<Shown, Memory>
-        ensures { IfOk result (IsShown (table_of table.now) limit bytes.now self.new) }
-    {
-        if !self.seeking.begin(bytes, limit) || self.seeking.head.length > SMALL {
+        if !self.seeking.begin(bytes, limit) || self.seeking.head.length > most {
             return Ok(Shown::Untold);
         }
         self.seek(alloc, table, limit, bytes)
