@@ -98,7 +98,8 @@ fn is_reference(bytes: &[u8], at: usize) -> bool {
 }
 
 /// How far the value in hand was passed, and, where that told nothing, how far its misfit was
-/// sought; and how many values had one misfit each since one had the type.
+/// sought; and how many values had one misfit each since one had the type, or was searched first
+/// and not told.
 #[derive(Drop)]
 pub struct Looking<'a> {
     pub begun: bool,
@@ -129,7 +130,8 @@ impl<'a> Looking<'a> {
         }
     }
 
-    /// The misfit that was found last, until the next search begins.
+    /// The misfit that was found last, until the next search begins: of the value that was told
+    /// last only where that was `Missed`.
     pub fn missed(&self) -> Option<&Found>
         ensures { MatchOption result (missed_in self.now ≡ None)
             (λ found. missed_in self.now ≡ Some found.now) }
@@ -183,7 +185,7 @@ impl<'a> Looking<'a> {
     }
 
     /// The pass goes on, or begins. Where it tells nothing the search begins, but for a reference:
-    /// the search would tell no more of it.
+    /// the search would hardly tell more of it.
     fn pass(
         &mut self,
         alloc: Global,

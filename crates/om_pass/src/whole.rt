@@ -45,7 +45,7 @@ pub enum Stop {
     Typed(usize),
     /// After so many bytes comes a token that is not whole.
     Cut(usize),
-    /// Nothing is said, by the token after so many bytes.
+    /// Nothing is said, by what comes after so many bytes.
     Untold(usize),
 }
 
