@@ -30,13 +30,16 @@ use Rattle.om_misfit.specs.declared.misfit.Finding.{Finding}
 use Rattle.om_misfit.specs.declared.said.Said.{Said}
 use Rattle.om_misfit.specs.declared.second.Seconds.{Seconds}
 use Rattle.om_misfit.specs.declared.said.Said.TheVariants as sayings
+use Rattle.om_misfit.specs.declared.misfit.Quick.{Quick}
+use Rattle.om_misfit.specs.declared.misfit.Quick.TheVariants as quicks
+use Rattle.om_misfit.specs.declared.way.Asked.{Asked}
 use Rattle.om_misfit.specs.declared.way.Asked.TheVariants as asks
 use Rattle.om_misfit.specs.declared.way.Left.{Left}
 use Rattle.om_misfit.specs.declared.way.Left.TheVariants as lefts
 use Rattle.om_misfit.specs.declared.way.Way.{Way}
-use Rattle.om_misfit.specs.Judge.{IsSaid, IsNoBack, said_fields}
+use Rattle.om_misfit.specs.Judge.{IsSaid, IsSaidBy, IsNoBack, said_fields}
 use Rattle.om_misfit.specs.Way.{trail_of, trail_in, place_of, left_values, way_places, opened_places, unasked_place, IsWay}
-use Rattle.om_misfit.specs.Find.{no_type, type_or_none, AreTypes, AreMarked, IsMissedAt, AreMissedAt, IsHeld, HasRoom, Passes, Adds, LeadsTo, Comes, unasked_in}
+use Rattle.om_misfit.specs.Find.{no_type, type_or_none, AreTypes, AreMarked, IsMissedAt, AreMissedAt, IsHeld, HasRoom, Passes, Adds, LeadsTo, Comes, Follows, Hastens, HastensBy, unasked_in}
 use Rattle.om_misfit.specs.Second.{Knows, Shows}
 use Rattle.om_misfit.proofs.WayLemmas.{none_opened}
 use Rattle.om_misfit.proofs.SaidLemmas.{some_token}
@@ -418,6 +421,34 @@ module _ (table : Table) (old new : Finding) (said : Said) (token : Token) (its 
 
   pub passes_w64 : new.words.w64 + of_object words64 (measure_of token) ≡ old.words.w64
   passes_w64 = let none : of_object words64 (measure_of token) ≡ 0 = ap (λ u. of_object words64 (measure_of u)) is_integer in let kept = ap (λ (w : Words). w.w64) p.words in omega (arith, none, kept)
+
+pub passes_follows : (table : Table) (stated : ℕ) (front : List ℕ) (old new : Finding) (said : Said) → Passes table old said new → Follows table stated front old said new
+passes_follows table stated front old new said p = record {
+  leads = λ back tokens made missed token is_token its held known passed.
+      passes_leads table old new said token its p back tokens made missed front held known passed;
+  refers = λ token its. passes_refers table old new said token its p (length old.types.items) stated;
+  w32 = λ token its. passes_w32 table old new said token its p;
+  w64 = λ token its. passes_w64 table old new said token its p;
+}
+
+-- a token that comes in the place that was first
+pub came_follows :
+    (table : Table) (stated : ℕ) (front : List ℕ) (old new : Finding) (taken : Way) (asked : Asked) (said : Said) → IsWay taken → way_places old.way ≡ place_of asked (trail_in taken) ∷ way_places taken
+    → Comes table stated front (record old { way = taken }) asked said new → Follows table stated front old said new
+came_follows table stated front old new taken asked said is places c = record {
+  leads = λ back tokens made missed token is_token its held known passed.
+      c.leads back tokens made missed token is_token its (record { is_way = is; types = held.types; marked = held.marked; found = held.found }) known
+      (subst (λ ps. PassedBut back table tokens made ps missed) places passed);
+  refers = c.refers;
+  w32 = c.w32;
+  w64 = c.w64;
+}
+
+-- by what it is
+pub hastens_by : (table : Table) (bytes : List ℕ) (old new : Finding) (said : Said) (len : ℕ) (quick : Quick) → IsSaidBy bytes said len → Hastens table old said len new quick → HastensBy table bytes old new quick
+hastens_by table bytes old new said len (quicks.Took n) by h = (said, subst (IsSaidBy bytes said) (sym h.0) by, h.1)
+hastens_by table bytes old new said len quicks.Kept by h = h
+hastens_by table bytes old new said len quicks.Untold by h = tt
 
 -- ---- a reference
 

@@ -35,9 +35,9 @@ use Rattle.om_misfit.specs.declared.way.Link.{Link}
 use Rattle.om_misfit.specs.Judge.{IsSaidBy}
 use Rattle.om_misfit.specs.declared.way.Way.{Way}
 use Rattle.om_misfit.specs.Way.{trail_of, trail_in, place_of, way_places, left_values, IsWay}
-use Rattle.om_misfit.specs.Find.{AreTypes, AreMarked, IsAlone, IsMissedAt, AreMissedAt, Finds, Begins, Passes, LeadsTo, Comes, Ends, IsFound}
+use Rattle.om_misfit.specs.Find.{AreTypes, AreMarked, IsAlone, IsMissedAt, AreMissedAt, Finds, Begins, LeadsTo, Comes, Follows, Ends, IsFound}
 use Rattle.om_misfit.specs.Second.{Knows, Marks}
-use Rattle.om_misfit.proofs.ComesLemmas.{many_held, passes_leads, passes_refers, passes_w32, passes_w64}
+use Rattle.om_misfit.proofs.ComesLemmas.{many_held}
 use Rattle.om_misfit.proofs.WayLemmas.{way_many}
 
 -- ---- the header
@@ -222,12 +222,13 @@ finds_further table limit bytes head start n m old new asked said f by c =
     finds_led table limit bytes head start n m (place_of asked (trail_in old.way) ∷ []) old new said f by (c.leads f.back f.tokens f.made f.missed by.token by.is_token by.is_said f.held f.known f.passing.passed)
     (c.refers by.token by.is_said) (c.w32 by.token by.is_said) (c.w64 by.token by.is_said)
 
--- an integer
-pub finds_passed :
-    (table : Table) (limit : ℕ) (bytes : List ℕ) (head : Head) (start n m : ℕ) (old new : Finding) (said : Said) → Finds table limit bytes head start n [] old → IsSaidBy (drop n bytes) said m → Passes table old said new → Finds table limit bytes head start (n + m) [] new
-finds_passed table limit bytes head start n m old new said f by p =
-    finds_led table limit bytes head start n m [] old new said f by (passes_leads table old new said by.token by.is_said p f.back f.tokens f.made f.missed (take n bytes) f.held f.known f.passing.passed)
-    (passes_refers table old new said by.token by.is_said p (length old.types.items) head.objects) (passes_w32 table old new said by.token by.is_said p) (passes_w64 table old new said by.token by.is_said p)
+-- in the first open place
+pub finds_followed :
+    (table : Table) (limit : ℕ) (bytes : List ℕ) (head : Head) (start n m : ℕ) (old new : Finding) (said : Said) → Finds table limit bytes head start n [] old → IsSaidBy (drop n bytes) said m
+    → Follows table head.objects (take n bytes) old said new → Finds table limit bytes head start (n + m) [] new
+finds_followed table limit bytes head start n m old new said f by g =
+    finds_led table limit bytes head start n m [] old new said f by (g.leads f.back f.tokens f.made f.missed by.token by.is_token by.is_said f.held f.known f.passing.passed)
+    (g.refers by.token by.is_said) (g.w32 by.token by.is_said) (g.w64 by.token by.is_said)
 
 -- ---- the end
 

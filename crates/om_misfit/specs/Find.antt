@@ -18,13 +18,15 @@ use Rattle.om_misfit.specs.declared.misfit.End.{End}
 use Rattle.om_misfit.specs.declared.misfit.End.TheVariants as ends
 use Rattle.om_misfit.specs.declared.misfit.Found.{Found}
 use Rattle.om_misfit.specs.declared.misfit.Finding.{Finding}
+use Rattle.om_misfit.specs.declared.misfit.Quick.{Quick}
+use Rattle.om_misfit.specs.declared.misfit.Quick.TheVariants as quicks
 use Rattle.om_misfit.specs.declared.misfit.Seeking.{Seeking}
 use Rattle.om_misfit.specs.declared.said.Said.{Said}
 use Rattle.om_misfit.specs.declared.said.Said.TheVariants as sayings
 use Rattle.om_misfit.specs.declared.way.Asked.{Asked}
 use Rattle.om_misfit.specs.declared.way.Asked.TheVariants as asks
 use Rattle.om_misfit.specs.declared.way.Link.{Link}
-use Rattle.om_misfit.specs.Judge.{IsSaid}
+use Rattle.om_misfit.specs.Judge.{IsSaid, IsSaidBy}
 use Rattle.om_misfit.specs.Second.{IsFresh, Knows}
 use Rattle.om_misfit.specs.declared.way.Left.{Left}
 use Rattle.om_misfit.specs.Way.{trail_of, trail_in, place_of, root_place, way_places, IsWay}
@@ -198,6 +200,41 @@ pub record Comes
   pub w64 :
       (token : Token) → IsSaid said token
       → new.words.w64 + of_object words64 (measure_of token) ≡ old.words.w64
+
+-- a token that is what was said came after these bytes, in the first open place
+pub record Follows
+    (table : Table) (stated : ℕ) (front : List ℕ) (old : Finding) (said : Said) (new : Finding)
+    : Type 0 where
+  pub leads :
+      (back : List ℕ) (tokens : List Token) (made : List Made) (missed : List Missed)
+      (token : Token) → IsToken token → IsSaid said token → IsHeld back made missed old
+      → Knows table front tokens old.seconds
+      → PassedBut back table tokens made (way_places old.way) missed
+      → LeadsTo back table front tokens made token new
+  pub refers :
+      (token : Token) → IsSaid said token
+      → RefersBack token (length old.types.items) × (stated ≡ 0 → IsNoReference token)
+  pub w32 :
+      (token : Token) → IsSaid said token
+      → new.words.w32 + of_object words32 (measure_of token) ≡ old.words.w32
+  pub w64 :
+      (token : Token) → IsSaid said token
+      → new.words.w64 + of_object words64 (measure_of token) ≡ old.words.w64
+
+-- what was said came in haste, or is still to come
+abbrev pub Hastens : Table → Finding → Said → ℕ → Finding → Quick → Type 0
+Hastens table old said len new (quicks.Took n) =
+    (n ≡ len) × ((stated : ℕ) (front : List ℕ) → Follows table stated front old said new)
+Hastens table old said len new quicks.Kept = new ≡ old
+Hastens table old said len new quicks.Untold = Unit {0}
+
+-- the token that begins the bytes did
+abbrev pub HastensBy : Table → List ℕ → Finding → Finding → Quick → Type 0
+HastensBy table bytes old new (quicks.Took n) =
+    (said : Said) × IsSaidBy bytes said n
+    × ((stated : ℕ) (front : List ℕ) → Follows table stated front old said new)
+HastensBy table bytes old new quicks.Kept = new ≡ old
+HastensBy table bytes old new quicks.Untold = Unit {0}
 
 -- ---- the end
 

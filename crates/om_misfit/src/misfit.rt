@@ -1,25 +1,29 @@
 //! The one misfit of a value: token after token, to its end.
 
-ghost use Rattle.std.specs.Prelude.{◌≡◌, ◌<◌, ◌≤◌, ℕ, List, length, IfOk, IsTrue};
+ghost use Rattle.std.specs.Prelude.{◌≡◌, ◌<◌, ◌≤◌, ℕ, List, length, IfOk, IsTrue, Ok};
+ghost use Rattle.std.specs.Prelude.{slice_index};
 ghost use Rattle.std.specs.Bool.{OnTrue};
 ghost use Rattle.om_type_table.specs.Made.{table_of};
 ghost use Rattle.om_types.specs.Table.{Table};
+ghost use Rattle.om_format.specs.Code.{kind_of};
 ghost use Rattle.om_format.specs.Token.{Token};
 ghost use Rattle.om_misfit_law.specs.PassedBut.{Misses, values_at};
 ghost use Rattle.om_misfit.specs.declared.said.Said.TheVariants as sayings;
 ghost use Rattle.om_misfit.specs.declared.way.Asked.TheVariants as asks;
 ghost use Rattle.om_misfit.specs.Judge.{IsSaid, IsFair, said_fields};
-ghost use Rattle.om_misfit.specs.Way.{IsWay, IsAfterHash, OnHash, left_values, way_places};
+ghost use Rattle.om_misfit.specs.Way.{IsWay, IsAfterHash, IsSplit, OnHash, left_values};
+ghost use Rattle.om_misfit.specs.Way.{way_places};
 ghost use Rattle.om_misfit.specs.Find.{Begins, HasRoom, Passes, Adds, Comes, IsSpent, Ends};
-ghost use Rattle.om_misfit.specs.Find.{unasked_in, IsFirst, IsSought, Seeks};
+ghost use Rattle.om_misfit.specs.Find.{unasked_in, IsFirst, IsSought, Seeks, Hastens, HastensBy};
 
 use crate::again::Again;
 use crate::judge::{Judged, judge};
 use crate::push::push;
-use crate::said::{Said, fields_of, first_token, measure_of};
+use crate::said::{Said, fields_of, first_token, measure_of, said_kind};
 use crate::second::Seconds;
-use crate::way::{Asked, Left, Link, Way, copy_to, first_type};
+use crate::way::{Asked, Left, Link, Way, copy_to, first_type, split_listed};
 use om_model::Memory;
+use om_model::code::CodeKind;
 use om_model::header::Head;
 use om_pass::Words;
 use om_pass::fits::{fits_int, is_equal, is_hidden, shape_of, tag_of_hash, type_at};
@@ -52,6 +56,17 @@ pub struct Finding<'a> {
     pub words: Words,
     pub found: Option<Found>,
     pub room: Vec<Link>,
+}
+
+/// What came of a token that is looked at in haste.
+#[derive(Clone, Copy)]
+pub enum Quick {
+    /// It came, and has so many bytes.
+    Took(usize),
+    /// It is still to come, and nothing has changed.
+    Kept,
+    /// Nothing is said.
+    Untold,
 }
 
 /// The fields of a token of which nothing is asked.
@@ -94,18 +109,23 @@ impl<'a> Finding<'a> {
         }
     }
 
-    /// An integer comes, if it has the type that the first open place asks for. The place is taken,
-    /// but the links do not lead to it.
+    /// The token comes in the first open place, if it is an integer that has the type that is asked
+    /// for there. The place is taken, but the links do not lead to it.
     #[inline(always)]
-    fn pass(&mut self, table: &TypeTable, said: Said) -> bool
-        requires { IsWay self.old.way }
+    fn fill(
+        &mut self,
+        table: &TypeTable,
+        ty: usize,
+        others: Left<'a>,
+        values: u32,
+        said: Said,
+    ) -> bool
+        requires is_way { IsWay self.old.way }
+        requires first { IsSplit self.old.way.now.left (asks.Type ty) others values }
         ensures passed { IsTrue result → Passes (table_of table.now) self.old said self.new }
         ensures kept { (IsTrue result → ⊥) → self.new ≡ self.old }
     {
         let Said::Integer(z) = said else {
-            return false;
-        };
-        let Some((ty, others, values)) = first_type(self.way.now.left) else {
             return false;
         };
         let Some(shape) = shape_of(table, ty) else {
@@ -117,6 +137,22 @@ impl<'a> Finding<'a> {
         self.way.now.next += values;
         self.way.now.left = others;
         true
+    }
+
+    /// The token comes, if it is an integer that has the type that the first open place asks for.
+    #[inline(always)]
+    fn pass(&mut self, table: &TypeTable, said: Said) -> bool
+        requires { IsWay self.old.way }
+        ensures passed { IsTrue result → Passes (table_of table.now) self.old said self.new }
+        ensures kept { (IsTrue result → ⊥) → self.new ≡ self.old }
+    {
+        let Said::Integer(_) = said else {
+            return false;
+        };
+        let Some((ty, others, values)) = first_type(self.way.now.left) else {
+            return false;
+        };
+        self.fill(table, ty, others, values, said)
     }
 
     /// The object that the token makes, if it makes one, has this type, and its places are open, in
@@ -148,6 +184,104 @@ impl<'a> Finding<'a> {
         push(&mut self.types, ty as u16)?;
         self.again.make()?;
         Ok(true)
+    }
+
+    /// The token comes in the first open place, if it has the type that is asked for there, and is
+    /// no reference. Where the byte of the next object is to be marked it is kept.
+    #[inline(always)]
+    fn settle(
+        &mut self,
+        table: &'a TypeTable,
+        ty: usize,
+        others: Left<'a>,
+        said: Said,
+        len: usize,
+    ) -> Result<Quick, Memory>
+        requires is_way { IsWay self.old.way }
+        requires first { IsSplit self.old.way.now.left (asks.Type ty) others 1 }
+        requires fair { IsFair said }
+        ensures { IfOk result
+            (λ quick. Hastens (table_of table.now) self.old said len self.new quick) }
+    {
+        if let Said::Integer(_) = said {
+            if self.fill(table, ty, others, 1, said) {
+                return Ok(Quick::Took(len));
+            }
+            return Ok(Quick::Kept);
+        }
+        if ty >= NO_TYPE || self.types.len() % 64 == 0 {
+            return Ok(Quick::Kept);
+        }
+        match judge(table, ty, said) {
+            Judged::Fits => {
+                self.way.take_type(ty, others);
+                if self.add(ty, said, Left::Unasked(0), 0)? {
+                    return Ok(Quick::Took(len));
+                }
+            }
+            Judged::Opens(places) => {
+                self.way.take_type(ty, others);
+                if self.add(ty, said, Left::Asked(places), fields_of(said))? {
+                    return Ok(Quick::Took(len));
+                }
+            }
+            _ => return Ok(Quick::Kept),
+        }
+        Ok(Quick::Untold)
+    }
+
+    /// The token of this kind comes that begins the bytes.
+    #[inline(always)]
+    fn hasten_kind(
+        &mut self,
+        table: &'a TypeTable,
+        ty: usize,
+        others: Left<'a>,
+        kind: CodeKind,
+        rest: &[u8],
+    ) -> Result<Quick, Memory>
+        requires is_way { IsWay self.old.way }
+        requires first { IsSplit self.old.way.now.left (asks.Type ty) others 1 }
+        requires some { 0 < length rest.now }
+        requires kind { kind_of (slice_index rest.now 0) ≡ Ok kind }
+        ensures { IfOk result
+            (λ quick. HastensBy (table_of table.now) rest.now self.old self.new quick) }
+    {
+        let Some((said, len)) = said_kind(kind, rest) else {
+            return Ok(Quick::Kept);
+        };
+        let quick = self.settle(table, ty, others, said, len)?;
+        Ok(quick)
+    }
+
+    /// The first token of the bytes comes, if it is a small one and has the type, and the places of
+    /// the innermost block are listed. Each kind gets code of its own.
+    #[tactic(auto, unfolding(om_format::specs::Code::kind_of))]
+    #[inline(always)]
+    fn hasten(&mut self, table: &'a TypeTable, rest: &[u8]) -> Result<Quick, Memory>
+        requires { IsWay self.old.way }
+        ensures { IfOk result
+            (λ quick. HastensBy (table_of table.now) rest.now self.old self.new quick) }
+    {
+        let Some((ty, others)) = split_listed(self.way.now.left) else {
+            return Ok(Quick::Kept);
+        };
+        if rest.is_empty() {
+            return Ok(Quick::Kept);
+        }
+        let code = rest[0];
+        if code >= 0x80 {
+            let kind = CodeKind::SmallBlock(code % 16, code / 16 % 8);
+            self.hasten_kind(table, ty, others, kind, rest)
+        } else if code >= 0x40 {
+            self.hasten_kind(table, ty, others, CodeKind::SmallInt(code % 64), rest)
+        } else if code >= 0x20 {
+            self.hasten_kind(table, ty, others, CodeKind::SmallString(code % 32), rest)
+        } else if code == 0x01 {
+            self.hasten_kind(table, ty, others, CodeKind::Int(2), rest)
+        } else {
+            Ok(Quick::Kept)
+        }
     }
 
     /// Whether the type that the object's place asked for is equal.
@@ -434,7 +568,16 @@ impl<'a> Seeking<'a> {
                 }
                 return Ok(End::Untold);
             }
-            let Some((first, len)) = first_token(&bytes[self.at..]) else {
+            let rest = &bytes[self.at..];
+            match self.finding.hasten(table, rest)? {
+                Quick::Took(len) => {
+                    self.at += len;
+                    continue;
+                }
+                Quick::Kept => {}
+                Quick::Untold => return Ok(End::Untold),
+            }
+            let Some((first, len)) = first_token(rest) else {
                 return Ok(End::Cut);
             };
             if self.finding.pass(table, first) {

@@ -162,7 +162,7 @@ fn said_rare(bytes: &[u8]) -> Option<(Said, usize)>
 
 /// The same of a known kind.
 #[inline(always)]
-fn said_kind(kind: CodeKind, bytes: &[u8]) -> Option<(Said, usize)>
+pub fn said_kind(kind: CodeKind, bytes: &[u8]) -> Option<(Said, usize)>
     requires some { 0 < length bytes.now }
     requires kind { kind_of (slice_index bytes.now 0) ≡ Ok kind }
     ensures { IfSome result (λ first. IsSaidBy bytes.now first.0 first.1 × IsFair first.0) }

@@ -114,6 +114,20 @@ pub fn first_type<'a>(left: Left<'a>) -> Option<(usize, Left<'a>, u32)>
     }
 }
 
+/// The type that the first of the places that are left asks for, and the others, if they are listed.
+#[inline(always)]
+pub fn split_listed<'a>(left: Left<'a>) -> Option<(usize, Left<'a>)>
+    ensures { IfSome result (λ first. IsSplit left.entry (asks.Type first.0) first.1 1) }
+{
+    let Left::Asked(Open::Listed(types)) = left else {
+        return None;
+    };
+    if types.is_empty() {
+        return None;
+    }
+    Some((types[0], Left::Asked(Open::Listed(&types[1..]))))
+}
+
 /// How many values are to come in the places that are left.
 pub fn values_left(left: Left<'_>) -> u64
     ensures { result ≡ left_values left.entry }
@@ -233,6 +247,24 @@ impl<'a> Way<'a> {
             left: others,
         };
         asked
+    }
+
+    /// The first open place, which asks for the type, is taken, and the links lead to it.
+    #[inline(always)]
+    pub fn take_type(&mut self, ty: usize, others: Left<'a>)
+        requires is_way { IsWay self.old }
+        requires first { IsSplit self.old.now.left (asks.Type ty) others 1 }
+        ensures is_way { IsWay self.new }
+        ensures first { way_places self.old
+            ≡ place_of (asks.Type ty) (trail_in self.new) ∷ way_places self.new }
+    {
+        let next = self.now.next;
+        self.point(next);
+        self.now = Wait {
+            depth: self.now.depth,
+            next: next + 1,
+            left: others,
+        };
     }
 
     /// Whether no more values are to come in the open places than so many. It gives up where more

@@ -1,12 +1,14 @@
-use Rattle.std.proofs.Common.{rules, ◌≡◌, ◌∷◌, [], length, refl, sym, subst}
+use Rattle.std.proofs.Common.{rules, ◌≡◌, ◌<◌, ◌∷◌, [], length, take, drop, refl, sym, subst}
+use Rattle.om_misfit_law.specs.PassedBut.{values_at}
 use Rattle.om_type_table.specs.Made.{table_of}
 use Rattle.om_pass.proofs.PieceLemmas.{rest_from}
 use Rattle.om_pass.proofs.Weaker.{if_true}
 use Rattle.om_misfit.specs.declared.misfit.Finding.{Finding}
 use Rattle.om_misfit.specs.Judge.{IsSaidBy}
-use Rattle.om_misfit.specs.Way.{place_of, trail_in}
-use Rattle.om_misfit.specs.Find.{Finds}
-use Rattle.om_misfit.proofs.FindLemmas.{finds_from, finds_moved, finds_marked, finds_further, finds_passed, found_end, some_open}
+use Rattle.om_misfit.specs.Way.{place_of, trail_in, way_places}
+use Rattle.om_misfit.specs.Find.{Finds, HastensBy}
+use Rattle.om_misfit.proofs.FindLemmas.{finds_from, finds_moved, finds_marked, finds_further, finds_followed, found_end, some_open}
+use Rattle.om_misfit.proofs.ComesLemmas.{passes_follows}
 use Rattle.om_misfit.proofs.misfit.Seeking.go.Goals as goal
 
 pub tokens-init : goal.tokens-init
@@ -28,12 +30,28 @@ returns-then-end c =
     let ends = if_true c.end.result c.if-end.true c.end.ensures in
     (ends.0, ends.1.its, found_end table c.args.limit c.args.bytes.now s.head s.start s.at ready ends.0 c.holds.ensures.lawful.lawful here c.if-not-ready.ensures.ready ends.1)
 
+pub tokens-preserved-in-Took : goal.tokens-preserved-in-Took
+tokens-preserved-in-Took c =
+    let s = c.tokens.self in
+    let ready : Finding = record s.finding { way = c.ready.new.self } in
+    let table = table_of c.args.table.now in
+    let bytes = c.args.bytes.now in
+    let here = finds_moved table c.args.limit bytes s.head s.start s.at [] [] s.finding ready c.tokens.invariant c.ready.ensures.is_way (sym c.ready.ensures.same) refl refl refl refl refl refl in
+    let hastened = subst (λ rest. HastensBy table rest ready c.hasten.new.self c.in_ok-len.field-0) (rest_from s.at bytes) c.in_ok-len.ensures in
+    let took = subst (HastensBy table (drop s.at bytes) ready c.hasten.new.self) c.in-Took.is hastened in
+    finds_followed table c.args.limit bytes s.head s.start s.at c.in-Took.len ready c.hasten.new.self took.0 here took.1 (took.2 s.head.objects (take s.at bytes))
+
 pub returns-in_default : goal.returns-in_default
 returns-in_default c =
     let s = c.tokens.self in
     let ready : Finding = record s.finding { way = c.ready.new.self } in
-    let here = finds_moved (table_of c.args.table.now) c.args.limit c.args.bytes.now s.head s.start s.at [] [] s.finding ready c.tokens.invariant c.ready.ensures.is_way (sym c.ready.ensures.same) refl refl refl refl refl refl in
-    (here, some_open c.ready.new.self c.if-not-ready.ensures.ready)
+    let table = table_of c.args.table.now in
+    let bytes = c.args.bytes.now in
+    let here = finds_moved table c.args.limit bytes s.head s.start s.at [] [] s.finding ready c.tokens.invariant c.ready.ensures.is_way (sym c.ready.ensures.same) refl refl refl refl refl refl in
+    let hastened = subst (λ rest. HastensBy table rest ready c.hasten.new.self c.in_ok-len.field-0) (rest_from s.at bytes) c.in_ok-len.ensures in
+    let unchanged : c.hasten.new.self ≡ ready = subst (HastensBy table (drop s.at bytes) ready c.hasten.new.self) c.in-Kept.is hastened in
+    let still = subst (Finds table c.args.limit bytes s.head s.start s.at []) (sym unchanged) here in
+    (still, subst (λ f. 0 < values_at (way_places f.way)) (sym unchanged) (some_open c.ready.new.self c.if-not-ready.ensures.ready))
 
 pub tokens-preserved-then-pass : goal.tokens-preserved-then-pass
 tokens-preserved-then-pass c =
@@ -41,29 +59,36 @@ tokens-preserved-then-pass c =
     let ready : Finding = record s.finding { way = c.ready.new.self } in
     let table = table_of c.args.table.now in
     let bytes = c.args.bytes.now in
+    let here = finds_moved table c.args.limit bytes s.head s.start s.at [] [] s.finding ready c.tokens.invariant c.ready.ensures.is_way (sym c.ready.ensures.same) refl refl refl refl refl refl in
+    let hastened = subst (λ rest. HastensBy table rest ready c.hasten.new.self c.in_ok-len.field-0) (rest_from s.at bytes) c.in_ok-len.ensures in
+    let unchanged : c.hasten.new.self ≡ ready = subst (HastensBy table (drop s.at bytes) ready c.hasten.new.self) c.in-Kept.is hastened in
+    let still = subst (Finds table c.args.limit bytes s.head s.start s.at []) (sym unchanged) here in
     let said = c.in-Some.first in
     let len = c.in-Some.len in
-    let here = finds_moved table c.args.limit bytes s.head s.start s.at [] [] s.finding ready c.tokens.invariant c.ready.ensures.is_way (sym c.ready.ensures.same) refl refl refl refl refl refl in
     let by = subst (λ rest. IsSaidBy rest said len) (rest_from s.at bytes) c.in-Some.ensures.0 in
-    finds_passed table c.args.limit bytes s.head s.start s.at len ready c.pass.new.self said here by (c.pass.ensures.passed c.if-pass.true)
+    finds_followed table c.args.limit bytes s.head s.start s.at len c.hasten.new.self c.pass.new.self said still by
+    (passes_follows table s.head.objects (take s.at bytes) c.hasten.new.self c.pass.new.self said (c.pass.ensures.passed c.if-pass.true))
 
 pub tokens-preserved : goal.tokens-preserved
 tokens-preserved c =
     let s = c.tokens.self in
     let ready : Finding = record s.finding { way = c.ready.new.self } in
+    let table = table_of c.args.table.now in
+    let bytes = c.args.bytes.now in
+    let here = finds_moved table c.args.limit bytes s.head s.start s.at [] [] s.finding ready c.tokens.invariant c.ready.ensures.is_way (sym c.ready.ensures.same) refl refl refl refl refl refl in
+    let hastened = subst (λ rest. HastensBy table rest ready c.hasten.new.self c.in_ok-len.field-0) (rest_from s.at bytes) c.in_ok-len.ensures in
+    let unchanged : c.hasten.new.self ≡ ready = subst (HastensBy table (drop s.at bytes) ready c.hasten.new.self) c.in-Kept.is hastened in
+    let still = subst (Finds table c.args.limit bytes s.head s.start s.at []) (sym unchanged) here in
     let kept = c.pass.new.self in
     let marked : Finding = record kept { seconds = c.mark.new.self } in
     let taken : Finding = record marked { way = c.take-asked.new.self } in
-    let same : kept ≡ ready = c.if-pass.ensures.kept (λ passed. absurd (cc)) in
+    let same : kept ≡ c.hasten.new.self = c.if-pass.ensures.kept (λ passed. absurd (cc)) in
     let many : c.len-made.result ≡ length kept.types.items = search rules in
-    let table = table_of c.args.table.now in
-    let bytes = c.args.bytes.now in
     let asked = c.take-asked.result in
     let said = c.in-Some.first in
     let len = c.in-Some.len in
-    let here = finds_moved table c.args.limit bytes s.head s.start s.at [] [] s.finding ready c.tokens.invariant c.ready.ensures.is_way (sym c.ready.ensures.same) refl refl refl refl refl refl in
-    let still = subst (Finds table c.args.limit bytes s.head s.start s.at []) (sym same) here in
-    let noted = finds_marked table c.args.limit bytes s.head s.start s.at c.len-made.result kept c.mark.new.self still many c.in_ok-mark.ensures in
+    let there = subst (Finds table c.args.limit bytes s.head s.start s.at []) (sym same) still in
+    let noted = finds_marked table c.args.limit bytes s.head s.start s.at c.len-made.result kept c.mark.new.self there many c.in_ok-mark.ensures in
     let first = finds_moved table c.args.limit bytes s.head s.start s.at [] (place_of asked (trail_in c.take-asked.new.self) ∷ []) marked taken noted c.take-asked.ensures.is_way c.take-asked.ensures.first refl refl refl refl refl refl in
     let by = subst (λ rest. IsSaidBy rest said len) (rest_from s.at bytes) c.in-Some.ensures.0 in
     finds_further table c.args.limit bytes s.head s.start s.at len taken c.come.new.self asked said first by (if_true c.in_ok-came.came c.if-not-came.false c.in_ok-came.ensures)

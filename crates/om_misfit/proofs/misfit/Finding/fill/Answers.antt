@@ -3,19 +3,19 @@ use Rattle.om_types.specs.Fitting.{fits_int}
 use Rattle.om_misfit.specs.declared.way.Asked.TheVariants as asks
 use Rattle.om_misfit.specs.Way.{place_trail}
 use Rattle.om_misfit.proofs.WayLemmas.{passed_first}
-use Rattle.om_misfit.proofs.misfit.Finding.pass.Goals as goal
+use Rattle.om_misfit.proofs.misfit.Finding.fill.Goals as goal
 
 pub returns-clause-passed : goal.returns-clause-passed
 returns-clause-passed c = λ _.
     let way = c.args.self.now.way in
-    let taken = passed_first way (asks.Type c.in-Some.ty) c.in-Some.others c.in-Some.values c.requires c.in-Some.ensures in
-    let test : c.fits_int.result ≡ fits_int c.in-Some-shape_of.shape.now c.in-Integer.z = search rules in
+    let taken = passed_first way (asks.Type c.args.ty) c.args.others c.args.values c.requires.is_way c.requires.first in
+    let test : c.fits_int.result ≡ fits_int c.in-Some.shape.now c.in-Integer.z = search rules in
     record {
       z = c.in-Integer.z;
       its = c.in-Integer.is;
-      type = c.in-Some.ty;
+      type = c.args.ty;
       trail = place_trail way.links.items way.now.depth way.now.next;
-      fits = ap (λ shape. fits_int shape c.in-Integer.z) (sym c.in-Some-shape_of.ensures) ∙ sym test ∙ c.if-not-fits_int.false;
+      fits = ap (λ shape. fits_int shape c.in-Integer.z) (sym c.in-Some.ensures) ∙ sym test ∙ c.if-not-fits_int.false;
       is_way = taken.0;
       places = taken.1;
       types = refl;
