@@ -114,7 +114,8 @@ pub fn first_type<'a>(left: Left<'a>) -> Option<(usize, Left<'a>, u32)>
     }
 }
 
-/// The type that the first of the places that are left asks for, and the others, if they are listed.
+/// The type that the first of the places that are left asks for, and the others, if the places are
+/// listed.
 #[inline(always)]
 pub fn split_listed<'a>(left: Left<'a>) -> Option<(usize, Left<'a>)>
     ensures { IfSome result (λ first. IsSplit left.entry (asks.Type first.0) first.1 1) }
