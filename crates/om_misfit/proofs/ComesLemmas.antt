@@ -3,7 +3,7 @@ use Rattle.std.proofs.Common.{ℕ, zero, suc, ◌+◌, ◌-◌, ◌<◌, ◌≤�
 use Rattle.std.specs.Prelude.{slice_get, replicate, Contains, ℤ, is_some}
 use Rattle.std.specs.Global.{Vec}
 use Rattle.std.specs.Borrow.{Bor}
-use Rattle.std.proofs.lemmas.List.{append-nil, length-append, length-replicate, length-set, map-append}
+use Rattle.std.proofs.lemmas.List.{append-nil, map-append}
 use Rattle.std.proofs.lemmas.List.Elements.{Contains-append_right, Contains-append_cases}
 use Rattle.std.proofs.lemmas.Option.{same_Some, none-some, slice_get_within}
 use Rattle.std.proofs.lemmas.Bool.{cases_lt}
@@ -39,7 +39,7 @@ use Rattle.om_misfit.specs.declared.way.Left.TheVariants as lefts
 use Rattle.om_misfit.specs.declared.way.Way.{Way}
 use Rattle.om_misfit.specs.Judge.{IsSaid, IsSaidBy, IsNoBack, said_fields}
 use Rattle.om_misfit.specs.Way.{trail_of, trail_in, place_of, left_values, way_places, opened_places, unasked_place, IsWay}
-use Rattle.om_misfit.specs.Find.{no_type, type_or_none, AreTypes, AreMarked, IsMissedAt, AreMissedAt, IsHeld, HasRoom, Passes, Adds, LeadsTo, Comes, Follows, Hastens, HastensBy, unasked_in}
+use Rattle.om_misfit.specs.Find.{no_type, type_or_none, AreTypes, AreMarked, AlsoMarks, IsMissedAt, AreMissedAt, IsHeld, HasRoom, Passes, Adds, LeadsTo, Comes, Follows, Hastens, HastensBy, unasked_in}
 use Rattle.om_misfit.specs.Second.{Knows, Shows}
 use Rattle.om_misfit.proofs.WayLemmas.{none_opened}
 use Rattle.om_misfit.proofs.SaidLemmas.{some_token}
@@ -86,18 +86,10 @@ module _ (made : List Made) (type : Option ℕ) (trail : List (ℕ × ℕ)) (tok
         (there o record { type = Some t; trail = way } at)),
   )
 
-  pub marked_after : (back : List ℕ) (marks new : List Bool) → AreMarked back made marks → new ≡ marks ++ replicate (made_by token) false → AreMarked (back ++ []) after new
-  marked_after back marks new are its = (
-    (let long = made_long type trail made token is in
-        let first = are.0 in
-        let both = length-append marks (replicate (made_by token) false) in
-        let one = length-replicate (made_by token) false in
-        let same = ap length its in
-        omega (arith, long, first, both, one, same)),
-    (λ o among.
-        let before = are.1 o (subst (λ xs. Contains xs o) (append-nil back) among) in
-        subst (λ xs. slice_get xs o ≡ Some true) (sym its) (slice_get-append_left marks (replicate (made_by token) false) o true before)),
-  )
+-- no reference comes
+marked_still : (back : List ℕ) (old new : Again) → AreMarked back old.marks.items → new ≡ old → AreMarked (back ++ []) new.marks.items
+marked_still back old new are same =
+    subst (λ bs. AreMarked bs new.marks.items) (sym (append-nil back)) (subst (λ (a : Again). AreMarked back a.marks.items) (sym same) are)
 
 many_types : (made : List Made) → length (map held_type made) ≡ length made
 many_types [] = refl
@@ -114,7 +106,7 @@ module _ (table : Table) (back : List ℕ) (tokens : List Token) (made : List Ma
   held_after n type trail later adds same some found = record {
     is_way = adds.is_way;
     types = types_after made type trail token is old.types.items new.types.items held.types (adds.types token its ∙ ap (λ k. old.types.items ++ replicate (made_by token) k) same) some;
-    marked = marked_after made type trail token is back old.again.marks.items new.again.marks.items held.marked (adds.marks token its);
+    marked = marked_still back old.again new.again held.marked adds.again;
     found = found;
   }
 
@@ -173,7 +165,6 @@ miss_leads table back tokens made missed token is old middle new said left its h
     let later : missed ++ one ∷ [] ≡ one ∷ [] = ap (λ ms. ms ++ one ∷ []) first in
     let found_after : AreMissedAt new.found (missed ++ one ∷ []) = subst (λ (f : Option Found). AreMissedAt f (missed ++ one ∷ [])) (sym (adds.found ∙ some)) (one, later, at) in
     let types_held : AreTypes middle.types.items made = subst (λ (v : Vec ℕ). AreTypes v.items made) (sym types) held.types in
-    let marks_held : AreMarked back made middle.again.marks.items = subst (λ (a : Again). AreMarked back made a.marks.items) (sym again) held.marked in
     let places : way_places new.way ≡ unasked token ++ way_places old.way =
     adds.places ∙ ap (λ ps. ps ++ way_places middle.way) (fields (length middle.types.items) (trail_in middle.way)) ∙ ap (λ (w : Way). unasked token ++ way_places w) way in
     record {
@@ -187,7 +178,7 @@ miss_leads table back tokens made missed token is old middle new said left its h
       held = record {
         is_way = adds.is_way;
         types = types_after made None trail token is middle.types.items new.types.items types_held (adds.types token its) (λ u same. absurd (none-some u same));
-        marked = marked_after made None trail token is back middle.again.marks.items new.again.marks.items marks_held (adds.marks token its);
+        marked = marked_still back old.again new.again held.marked (adds.again ∙ again);
         found = found_after;
       };
       known = subst (Knows table front tokens) (sym (adds.seconds ∙ seconds)) known;
@@ -207,7 +198,7 @@ adds_none old type said left is room none =
       found = refl;
       seconds = refl;
       types = λ token its. sym (ap (λ n. old.types.items ++ replicate n type) (no_object token its) ∙ append-nil old.types.items);
-      marks = λ token its. sym (ap (λ n. old.again.marks.items ++ replicate n false) (no_object token its) ∙ append-nil old.again.marks.items);
+      again = refl;
       w32 = λ token its. let plain : of_object words32 (measure_of token) ≡ 0 = ap (of_object words32) (none token its) in omega (arith, plain);
       w64 = λ token its. let plain : of_object words64 (measure_of token) ≡ 0 = ap (of_object words64) (none token its) in omega (arith, plain);
     }
@@ -216,8 +207,8 @@ adds_none old type said left is room none =
 pub adds_one :
     (old new : Finding) (type : ℕ) (said : Said) (left : Left) (measure : Measure) → ((token : Token) → IsSaid said token → measure_of token ≡ Some measure)
     → IsWay new.way → way_places new.way ≡ opened_places (length old.types.items) (trail_in old.way) left ++ way_places old.way
-    → new.found ≡ old.found → new.seconds ≡ old.seconds → new.types.items ≡ old.types.items ++ type ∷ [] → new.again.marks.items ≡ old.again.marks.items ++ false ∷ [] → Spends old.words measure new.words → Adds old type said left new
-adds_one old new type said left measure is way places found seconds types marks spends =
+    → new.found ≡ old.found → new.seconds ≡ old.seconds → new.types.items ≡ old.types.items ++ type ∷ [] → new.again ≡ old.again → Spends old.words measure new.words → Adds old type said left new
+adds_one old new type said left measure is way places found seconds types again spends =
     let one : (token : Token) → IsSaid said token → made_by token ≡ 1 = λ token its. ap (of_object (λ _. 1)) (is token its) in
     record {
       is_way = way;
@@ -225,7 +216,7 @@ adds_one old new type said left measure is way places found seconds types marks 
       found = found;
       seconds = seconds;
       types = λ token its. types ∙ ap (λ n. old.types.items ++ replicate n type) (sym (one token its));
-      marks = λ token its. marks ∙ ap (λ n. old.again.marks.items ++ replicate n false) (sym (one token its));
+      again = again;
       w32 = λ token its. let own : of_object words32 (measure_of token) ≡ words32 measure = ap (of_object words32) (is token its) in let left' = spends.w32 in omega (arith, own, left');
       w64 = λ token its. let own : of_object words64 (measure_of token) ≡ words64 measure = ap (of_object words64) (is token its) in let left' = spends.w64 in omega (arith, own, left');
     }
@@ -353,13 +344,11 @@ comes_miss table stated front old middle new t said left found misses none some 
 
 held_kept : (back : List ℕ) (made : List Made) (missed : List Missed) (old new : Finding) → IsHeld back made missed old → IsWay new.way → new.types ≡ old.types → new.again ≡ old.again → new.found ≡ old.found → IsHeld (back ++ []) (made ++ []) missed new
 held_kept back made missed old new held is types again found =
-    let same_back : back ≡ back ++ [] = sym (append-nil back) in
     let same_made : made ≡ made ++ [] = sym (append-nil made) in
-    let marked : AreMarked back made new.again.marks.items = subst (λ (a : Again). AreMarked back made a.marks.items) (sym again) held.marked in
     record {
       is_way = is;
       types = subst (AreTypes new.types.items) same_made (subst (λ (v : Vec ℕ). AreTypes v.items made) (sym types) held.types);
-      marked = subst (λ bs. AreMarked bs (made ++ []) new.again.marks.items) same_back (subst (λ ms. AreMarked back ms new.again.marks.items) same_made marked);
+      marked = marked_still back old.again new.again held.marked again;
       found = subst (λ f. AreMissedAt f missed) (sym found) held.found;
     }
 
@@ -502,27 +491,27 @@ mark_there (mark ∷ marks) zero short = refl
 mark_there (mark ∷ marks) (suc o) short = mark_there marks o (omega (arith, short))
 
 -- one object more is led back to
-marked_more : (back : List ℕ) (made : List Made) (marks new : List Bool) (o : ℕ) → AreMarked back made marks → o < length marks → new ≡ set marks o true → AreMarked (back ++ o ∷ []) made new
-marked_more back made marks new o are short is = (
-  (let long = are.0 in let same = ap length is in let kept = length-set marks o true in omega (arith, long, same, kept)),
-  (λ p among.
-      subst (λ ms. slice_get ms p ≡ Some true) (sym is)
-      (⊎_elim
-      (λ before. marks_kept marks o p (are.1 p before))
-      (λ last.
-      let own : o ≡ p = ⊎_elim (λ same. same) (λ none. absurd (Contains-none {X = ℕ} p none)) (Contains-cases {X = ℕ} o [] p last) in
-      subst (λ q. slice_get (set marks o true) q ≡ Some true) own (mark_there marks o short))
-      (Contains-append_cases back (o ∷ []) p among))),
-)
+marked_more : (back : List ℕ) (marks new : List Bool) (o : ℕ) → AreMarked back marks → AlsoMarks marks o new → AreMarked (back ++ o ∷ []) new
+marked_more back marks new o are also p among =
+    let far = also.reaches in
+    let reached : (q : ℕ) → slice_get marks q ≡ Some true → slice_get also.all q ≡ Some true =
+    λ q at. subst (λ ms. slice_get ms q ≡ Some true) (sym far.marks) (slice_get-append_left marks (replicate far.more false) q true at) in
+    subst (λ ms. slice_get ms p ≡ Some true) (sym also.marks)
+    (⊎_elim
+    (λ before. marks_kept also.all o p (reached p (are p before)))
+    (λ last.
+    let own : o ≡ p = ⊎_elim (λ same. same) (λ none. absurd (Contains-none {X = ℕ} p none)) (Contains-cases {X = ℕ} o [] p last) in
+    subst (λ q. slice_get (set also.all o true) q ≡ Some true) own (mark_there also.all o far.within))
+    (Contains-append_cases back (o ∷ []) p among))
 
 -- where it leads to an object that has the type, which is marked
 pub comes_back :
     (table : Table) (stated : ℕ) (front : List ℕ) (old new : Finding) (t offset object : ℕ) → IsWay old.way → 0 < stated → 1 ≤ offset → offset ≤ length old.types.items
     → object ≡ length old.types.items - offset
     → ((tokens : List Token) (made : List Made) → AreTypes old.types.items made → Knows table front tokens old.seconds → (HasFirst table made object t ⊎ IsPlain table tokens object t) × Knows table front tokens new.seconds)
-    → length old.again.marks.items ≡ length old.types.items → new.again.marks.items ≡ set old.again.marks.items object true
+    → AlsoMarks old.again.marks.items object new.again.marks.items
     → new.way ≡ old.way → new.types ≡ old.types → new.words ≡ old.words → new.found ≡ old.found → Comes table stated front old (asks.Type t) (sayings.Shared offset) new
-comes_back table stated front old new t offset object is some first few its_object has many marks way types words found = record {
+comes_back table stated front old new t offset object is some first few its_object has marks way types words found = record {
   leads = λ back tokens made missed token is_token its held known passed.
       subst (λ u. LeadsTo back table front tokens made u new) (sym its) (leads back tokens made missed held known passed);
   refers = refers_back table stated front old t offset is some first few;
@@ -543,8 +532,6 @@ comes_back table stated front old new t offset object is some first few its_obje
       } in
       let before = back_more table back (object ∷ []) tokens made (record { asks = Some (of_type t); trail = trail_in old.way } ∷ way_places old.way) missed passed in
       let further = fitting tokens made (of_type t) (trail_in old.way) (way_places old.way) [] missed (shared offset) before (inr led, refl) in
-      let marked : AreMarked (back ++ object ∷ []) made new.again.marks.items =
-      marked_more back made old.again.marks.items new.again.marks.items object held.marked (omega (arith, first, few, many, its_object)) marks in
       record {
         more = object ∷ [];
         type = None;
@@ -554,7 +541,7 @@ comes_back table stated front old new t offset object is some first few its_obje
         held = record {
           is_way = subst IsWay (sym way) is;
           types = subst (AreTypes new.types.items) (sym (append-nil made)) (subst (λ (v : Vec ℕ). AreTypes v.items made) (sym types) held.types);
-          marked = subst (λ ms. AreMarked (back ++ object ∷ []) ms new.again.marks.items) (sym (append-nil made)) marked;
+          marked = marked_more back old.again.marks.items new.again.marks.items object held.marked marks;
           found = subst (λ f. AreMissedAt f missed) (sym found) held.found;
         };
         known = both.1;

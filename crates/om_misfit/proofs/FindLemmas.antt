@@ -65,7 +65,7 @@ finds_start table limit bytes head start finding b by begins =
       held = record {
         is_way = begins.is_way;
         types = (begins.types, λ o t trail at. let object : Made = record { type = Some t; trail = trail } in absurd (none-some object at));
-        marked = (ap length begins.marks, λ o among. absurd (Contains-none {X = ℕ} o among));
+        marked = λ o among. absurd (Contains-none {X = ℕ} o among);
         found = subst (λ f. AreMissedAt f []) (sym begins.found) refl;
       };
       known = record {
@@ -101,7 +101,7 @@ finds_moved table limit bytes head start n taken taken' old new f is places type
   held = record {
     is_way = is;
     types = subst (λ (v : Vec ℕ). AreTypes v.items f.made) (sym types) f.held.types;
-    marked = subst (λ (a : Again). AreMarked f.back f.made a.marks.items) (sym again) f.held.marked;
+    marked = subst (λ (a : Again). AreMarked f.back a.marks.items) (sym again) f.held.marked;
     found = subst (λ o. AreMissedAt o f.missed) (sym found) f.held.found;
   };
   known = record {
@@ -150,10 +150,6 @@ finds_longer table limit bytes more head start n taken finding f =
 -- a place is open where its block has one
 pub some_open : (way : Way) → 0 < left_values way.now.left → 0 < values_at (way_places way)
 some_open way some = let many = way_many way in omega (arith, many, some)
-
-pub marks_many : (table : Table) (limit : ℕ) (bytes : List ℕ) (head : Head) (start n : ℕ) (taken : List Place) (finding : Finding) → Finds table limit bytes head start n taken finding → length finding.again.marks.items ≡ length finding.types.items
-marks_many table limit bytes head start n taken finding f =
-    let types = many_held finding.types.items f.made f.held.types in f.held.marked.0 ∙ sym types
 
 -- ---- a mark
 
@@ -238,7 +234,7 @@ alone_links back marks each [] alone = All-nil (λ (link : ℕ × ℕ). ¬ Conta
 alone_links back marks each (link ∷ links) alone =
     All-push (λ (link : ℕ × ℕ). ¬ Contains back link.0) (trail_of links) (link.object, link.field)
     (alone_links back marks each links (All-tail (IsAlone marks) link links alone))
-    (λ among. let marked = each link.object among in let lone = All-head (IsAlone marks) link links alone in absurd (cc))
+    (λ among. let marked = each link.object among in let lone = All-head (IsAlone marks) link links alone in lone marked)
 
 -- the one misfit
 one_missed : (found : Option Found) (its : Found) (missed : List Missed) → found ≡ Some its → AreMissedAt found missed → (one : Missed) × (missed ≡ one ∷ []) × IsMissedAt its one
@@ -261,6 +257,6 @@ found_end table limit bytes head start n finding found lawful f none ends =
             w64 = let sum = f.w64 in let zero' = ends.spent.w64 in omega (arith, sum, zero');
             count = subst (λ k. (head.objects ≡ 0) ⊎ (head.objects ≡ k)) many ends.spent.count;
           })
-          (subst (All (λ (link : ℕ × ℕ). ¬ Contains f.back link.0)) (sym one.2.trail) (alone_links f.back finding.again.marks.items f.held.marked.1 found.links.items ends.alone));
+          (subst (All (λ (link : ℕ × ℕ). ¬ Contains f.back link.0)) (sym one.2.trail) (alone_links f.back finding.again.marks.items f.held.marked found.links.items ends.alone));
       at = one.2;
     }

@@ -1,6 +1,6 @@
 -- What is known on the way to the one misfit of a value, and what is found.
 use Rattle.std.specs.Prelude.{ℕ, ◌+◌, ◌-◌, ◌^◌, ◌<◌, ◌≡◌, ◌⊎◌, List, [], ◌∷◌, ◌++◌, length}
-use Rattle.std.specs.Prelude.{map, take, slice_get, Option, Some, None, All, Contains, Bool}
+use Rattle.std.specs.Prelude.{map, take, set, slice_get, Option, Some, None, All, Contains, Bool}
 use Rattle.std.specs.Prelude.{true, false, replicate, ℤ, IsTrue}
 use Rattle.om_model.specs.declared.header.Head.{Head}
 use Rattle.om_types.specs.Fitting.{fits_int}
@@ -51,14 +51,28 @@ AreTypes types made =
     → slice_get made o ≡ Some record { type = Some t; trail = trail } → t < no_type)
 
 -- each object that is led back to has its mark
-abbrev pub AreMarked : List ℕ → List Made → List Bool → Type 0
-AreMarked back made marks =
-    (length marks ≡ length made)
-    × ((o : ℕ) → Contains back o → slice_get marks o ≡ Some true)
+abbrev pub AreMarked : List ℕ → List Bool → Type 0
+AreMarked back marks = (o : ℕ) → Contains back o → slice_get marks o ≡ Some true
+
+-- there is a mark for the object, and none more is set
+pub record Reaches (old : List Bool) (object : ℕ) (new : List Bool) : Type 0 where
+  pub more : ℕ
+  pub marks : new ≡ old ++ replicate more false
+  pub within : object < length new
+
+-- the object's mark is set, and no other
+pub record AlsoMarks (old : List Bool) (object : ℕ) (new : List Bool) : Type 0 where
+  pub all : List Bool
+  pub reaches : Reaches old object all
+  pub marks : new ≡ set all object true
+
+-- no reference leads back to the object
+abbrev pub IsClear : List Bool → ℕ → Type 0
+IsClear marks object = ¬ (slice_get marks object ≡ Some true)
 
 -- no reference leads back to the block of the link
 abbrev pub IsAlone : List Bool → Link → Type 0
-IsAlone marks link = slice_get marks link.object ≡ Some false
+IsAlone marks link = IsClear marks link.object
 
 -- the misfit: its links, the type that is asked for, and what its token says
 pub record IsMissedAt (found : Found) (missed : Missed) : Type 0 where
@@ -77,7 +91,7 @@ pub record IsHeld
     : Type 0 where
   pub is_way : IsWay finding.way
   pub types : AreTypes finding.types.items made
-  pub marked : AreMarked back made finding.again.marks.items
+  pub marked : AreMarked back finding.again.marks.items
   pub found : AreMissedAt finding.found missed
 
 -- so many bytes lead to here; the taken places come before those that are open
@@ -154,9 +168,7 @@ pub record Adds (old : Finding) (type : ℕ) (said : Said) (left : Left) (new : 
   pub types :
       (token : Token) → IsSaid said token
       → new.types.items ≡ old.types.items ++ replicate (made_by token) type
-  pub marks :
-      (token : Token) → IsSaid said token
-      → new.again.marks.items ≡ old.again.marks.items ++ replicate (made_by token) false
+  pub again : new.again ≡ old.again
   pub w32 :
       (token : Token) → IsSaid said token
       → new.words.w32 + of_object words32 (measure_of token) ≡ old.words.w32

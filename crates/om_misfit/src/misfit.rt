@@ -182,7 +182,6 @@ impl<'a> Finding<'a> {
             return Ok(false);
         }
         push(&mut self.types, ty as u16)?;
-        self.again.make()?;
         Ok(true)
     }
 
@@ -230,7 +229,7 @@ impl<'a> Finding<'a> {
         Ok(Quick::Untold)
     }
 
-    /// The token of this kind comes that begins the bytes.
+    /// The token of this kind comes, which begins the bytes, if it has the type.
     #[inline(always)]
     fn hasten_kind(
         &mut self,
@@ -254,8 +253,34 @@ impl<'a> Finding<'a> {
         Ok(quick)
     }
 
-    /// The first token of the bytes comes, if it is a small one and has the type, and the places of
-    /// the innermost block are listed. Each kind gets code of its own.
+    /// The same of the codes of doubles and of integers of more bytes.
+    #[tactic(auto, unfolding(om_format::specs::Code::kind_of))]
+    #[inline(always)]
+    fn hasten_large(
+        &mut self,
+        table: &'a TypeTable,
+        ty: usize,
+        others: Left<'a>,
+        code: u8,
+        rest: &[u8],
+    ) -> Result<Quick, Memory>
+        requires is_way { IsWay self.old.way }
+        requires first { IsSplit self.old.way.now.left (asks.Type ty) others 1 }
+        requires some { 0 < length rest.now }
+        requires code { slice_index rest.now 0 ≡ code }
+        ensures { IfOk result
+            (λ quick. HastensBy (table_of table.now) rest.now self.old self.new quick) }
+    {
+        match code {
+            0x00 => self.hasten_kind(table, ty, others, CodeKind::Int(1), rest),
+            0x01 => self.hasten_kind(table, ty, others, CodeKind::Int(2), rest),
+            0x0c => self.hasten_kind(table, ty, others, CodeKind::Double(true), rest),
+            _ => Ok(Quick::Kept),
+        }
+    }
+
+    /// The first token of the bytes comes, if it is a common one and has the type, and the places
+    /// of the innermost block are listed. Each kind gets code of its own.
     #[tactic(auto, unfolding(om_format::specs::Code::kind_of))]
     #[inline(always)]
     fn hasten(&mut self, table: &'a TypeTable, rest: &[u8]) -> Result<Quick, Memory>
@@ -277,10 +302,8 @@ impl<'a> Finding<'a> {
             self.hasten_kind(table, ty, others, CodeKind::SmallInt(code % 64), rest)
         } else if code >= 0x20 {
             self.hasten_kind(table, ty, others, CodeKind::SmallString(code % 32), rest)
-        } else if code == 0x01 {
-            self.hasten_kind(table, ty, others, CodeKind::Int(2), rest)
         } else {
-            Ok(Quick::Kept)
+            self.hasten_large(table, ty, others, code, rest)
         }
     }
 
@@ -308,7 +331,6 @@ impl<'a> Finding<'a> {
         offset: u64,
     ) -> Result<bool, Memory>
         requires is_way { IsWay self.old.way }
-        requires marked { length self.old.again.marks.items ≡ length self.old.types.items }
         ensures { IfOk result
             (λ came. OnTrue came
             (Comes (table_of table.now) stated front.now self.old (asks.Type ty)
@@ -322,7 +344,7 @@ impl<'a> Finding<'a> {
             return Ok(true);
         }
         let object = made - offset as usize;
-        self.again.mark(object);
+        self.again.mark(object, made)?;
         if self.is_first(table, object, ty) {
             return Ok(true);
         }
@@ -402,7 +424,6 @@ impl<'a> Finding<'a> {
         said: Said,
     ) -> Result<bool, Memory>
         requires is_way { IsWay self.old.way }
-        requires marked { length self.old.again.marks.items ≡ length self.old.types.items }
         requires fair { IsFair said }
         ensures { IfOk result
             (λ came. OnTrue came
@@ -432,7 +453,6 @@ impl<'a> Finding<'a> {
         said: Said,
     ) -> Result<bool, Memory>
         requires is_way { IsWay self.old.way }
-        requires marked { length self.old.again.marks.items ≡ length self.old.types.items }
         requires hash { OnHash asked (IsAfterHash self.old.way) }
         requires fair { IsFair said }
         ensures { IfOk result

@@ -15,4 +15,4 @@ returns c =
     let opened = if_true c.in_ok-opened.opened c.if-not-opened.false c.in_ok-opened.ensures in
     adds_one old _ c.args.ty c.args.said c.args.left c.in-Some.measure (measured c.args.said _ c.in-Some.ensures.measured) opened.0
     (opened.1 ∙ ap (λ n. opened_places n (trail_in old.way) c.args.left ++ way_places old.way) many)
-    refl refl c.in_ok-push.ensures c.in_ok-make.ensures (if_true c.spend.result c.if-not-spend.false c.spend.ensures)
+    refl refl c.in_ok-push.ensures refl (if_true c.spend.result c.if-not-spend.false c.spend.ensures)

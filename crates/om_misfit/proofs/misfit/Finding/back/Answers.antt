@@ -22,7 +22,7 @@ returns-then-is_first c =
     let has = if_true c.is_first.result c.if-is_first.true c.is_first.ensures in
     comes_back (table_of c.args.table.now) c.args.stated c.args.front.now old _ c.args.ty c.args.offset (c.len-made.result - c.args.offset) c.requires.is_way some first few own
     (has_first (table_of c.args.table.now) c.args.front.now old.types.items old.seconds old.seconds c.args.ty (c.len-made.result - c.args.offset) has.own has.at has.typed has.equal refl)
-    c.requires.marked c.mark.ensures refl refl refl refl
+    c.in_ok-mark.ensures refl refl refl refl
 
 pub returns : goal.returns
 returns c =
@@ -36,5 +36,5 @@ returns c =
     (λ shows.
     comes_back (table_of c.args.table.now) c.args.stated c.args.front.now old _ c.args.ty c.args.offset (c.len-made.result - c.args.offset) c.requires.is_way some first few own
     (has_second (table_of c.args.table.now) c.args.front.now old.types.items old.seconds c.show.new.self c.args.ty (c.len-made.result - c.args.offset) shows)
-    c.requires.marked c.mark.ensures refl refl refl refl)
+    c.in_ok-mark.ensures refl refl refl refl)
     c.show.ensures
