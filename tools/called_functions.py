@@ -36,6 +36,10 @@ EXCEPTIONS = [
     ('*::<* as From<Memory>>::from', 'called only where memory runs out'),
     ('om_reference::refusal::<Refusal as fmt::Debug>::fmt', 'prints a refusal with a number of more than 64 bits, and no answer has one'),
     ('om_tests::outside::edge::<FailsOnce as Write>::flush', 'the trait asks for it, and no test flushes'),
+    (
+        'om_generator::making::<Generating as Work>::feed',
+        'the trait asks for it, the command reads nothing, and no other crate can name it',
+    ),
     ('om_sites::texts::*', 'over a tree of the grammar that no caller can name: docs/DECISIONS.md, The gate'),
 ]
 

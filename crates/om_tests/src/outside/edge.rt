@@ -2,9 +2,11 @@
 //! stand in `om_conformance`.
 
 use om_edge::{
-    DiskFiles, Failed, OpenError, Opener, Sink, Source, StdSink, StdSource, WriteError, put_all,
+    DiskFiles, Failed, MemFiles, OpenError, Opener, Sink, Source, StdSink, StdSource, WriteError,
+    put_all,
 };
 use om_model::Memory;
+use std::alloc::Global;
 use std::fs::File;
 use std::io::{Error, ErrorKind, Read, Write};
 use std::test::Fail;
@@ -148,6 +150,38 @@ fn files_on_the_disk_are_fetched_and_taken(rt: HostRuntime) -> Result<(), Fail> 
     };
     assert!(rt; are_fetched? && are_told);
     fs::remove_file(&rt, "a.bytes")?;
+    Ok(())
+}
+
+// By hand: the second fetch fails, and the third take.
+static IN_MEMORY: [Fetch; 4] = [
+    ("a.bytes", Ok(()), &[Ok(2), Ok(1), Err(Failed)], b"abc"),
+    ("b.bytes", Err(OpenError::Failed), &[Ok(0)], b""),
+    ("c.bytes", Err(OpenError::Missing), &[Ok(0)], b""),
+    ("a.bytes", Ok(()), &[Ok(2), Ok(1)], b"abc"),
+];
+
+// Whether files in memory answer so, and name the one whose fetch failed.
+fn memory_fetches(alloc: Global) -> Result<bool, Memory> {
+    let name = String::from_str(alloc, "a.bytes")?;
+    let mut pairs = Vec::new(alloc);
+    pairs.push((name, Vec::from_slice(alloc, b"abc")?))?;
+    if !MemFiles::have_no_name_twice(pairs.as_slice()) {
+        return Ok(false);
+    }
+    let mut failing = Vec::new(alloc);
+    failing.push(1)?;
+    let mut reads = Vec::new(alloc);
+    reads.push(2)?;
+    let mut files = MemFiles::new(alloc, pairs, failing, reads);
+    let is_none = files.last_open_fault() == None;
+    let are_fetched = fetches(&mut files, &IN_MEMORY)?;
+    Ok(is_none && are_fetched && files.last_open_fault() == Some("b.bytes"))
+}
+
+#[test]
+fn files_in_memory_are_fetched_and_taken(rt: HostRuntime) -> Result<(), Fail> {
+    assert!(rt; memory_fetches(rt.alloc())?);
     Ok(())
 }
 

@@ -1,7 +1,7 @@
 //! Lexemes of texts, and the first faults of texts without them.
 
 use om_lex::lexeme::{Integer, Keyword, LexFault, Lexeme, LexemeKind, Suffix, Symbol};
-use om_lex::tokens;
+use om_lex::{next_lexeme, tokens};
 use om_model::Memory;
 use std::alloc::{AllocError, Global};
 use std::test::Fail;
@@ -80,11 +80,15 @@ fn put_kind(text: &mut String, kind: &LexemeKind) -> Result<(), AllocError> {
     }
 }
 
-// Puts lexemes, each with its first byte's place and its length.
+// Puts a lexeme with its first byte's place and its length.
+fn put_lexeme(text: &mut String, lexeme: &Lexeme) -> Result<(), AllocError> {
+    put_kind(text, &lexeme.kind)?;
+    write!(text, " @{}+{};", lexeme.span.first, lexeme.span.len)
+}
+
 fn put_lexemes(text: &mut String, lexemes: &[Lexeme]) -> Result<(), AllocError> {
     for lexeme in lexemes {
-        put_kind(text, &lexeme.kind)?;
-        write!(text, " @{}+{};", lexeme.span.first, lexeme.span.len)?;
+        put_lexeme(text, lexeme)?;
     }
     Ok(())
 }
@@ -103,6 +107,21 @@ fn has_lexemes(alloc: Global, text: &[u8], want: &str) -> Result<bool, Memory> {
         Err(LexFault::Memory) => Err(Memory),
         Err(_) => Ok(false),
     }
+}
+
+// What is put of the lexeme that comes next behind a place, or of none, or of a fault.
+fn next_told(alloc: Global, text: &[u8], from: usize) -> Result<String, Memory> {
+    let mut told = String::new(alloc);
+    if from > text.len() {
+        return Ok(told);
+    }
+    match next_lexeme(alloc, text, from) {
+        Ok(Some(lexeme)) => put_lexeme(&mut told, &lexeme)?,
+        Ok(None) => told.push_str("none")?,
+        Err(LexFault::Memory) => return Err(Memory),
+        Err(_) => told.push_str("fault")?,
+    }
+    Ok(told)
 }
 
 // The name and the place of the fault of a text.
@@ -218,6 +237,15 @@ static FAULTS: [(&[u8], (&str, usize)); 11] = [
     (b"\xc3\xa9", ("BadByte", 0)),
 ];
 
+// A text, a place in it, and what comes next behind that. By hand.
+static NEXT: [(&[u8], usize, &str); 5] = [
+    (b"(* a *) x 12l", 0, "lower x @8+1;"),
+    (b"(* a *) x 12l", 9, "int plus 12 Int32 @10+3;"),
+    (b"(* a *) x 12l", 13, "none"),
+    (b"x (* a *)", 1, "none"),
+    (b"x (* a", 1, "fault"),
+];
+
 #[test]
 fn lexemes_and_faults(rt: HostRuntime) -> Result<(), Fail> {
     for (text, want) in &LEXEMES {
@@ -225,6 +253,10 @@ fn lexemes_and_faults(rt: HostRuntime) -> Result<(), Fail> {
     }
     for (text, want) in &FAULTS {
         assert!(rt; fault_of(rt.alloc(), text)? == *want);
+    }
+    for (text, from, want) in &NEXT {
+        let told = next_told(rt.alloc(), text, *from)?;
+        assert!(rt; told.as_str() == *want);
     }
     Ok(())
 }

@@ -45,7 +45,7 @@ fn certified(alloc: Global, table: &TypeTable, value: &Value) -> Result<Option<b
 }
 
 fn certified_in(alloc: Global, table: &TypeTable) -> Result<Option<bool>, Memory> {
-    match value_of(alloc, LIST)? {
+    match value_of(alloc, 1000, LIST)? {
         Some(value) => certified(alloc, table, &value),
         None => Ok(None),
     }

@@ -47,12 +47,12 @@ pub(crate) fn table_in(
     }
 }
 
-// The value that the bytes are, if they are one.
-pub(crate) fn value_of(alloc: Global, bytes: &[u8]) -> Result<Option<Value>, Memory>
+// The value that the bytes are, if they are one of at most so many words.
+pub(crate) fn value_of(alloc: Global, limit: u64, bytes: &[u8]) -> Result<Option<Value>, Memory>
     ensures { IfOk result
         (λ found. IfSome found (λ value. IsValue (length value.heap) value.root)) }
 {
-    let mut reader = Reader::new(alloc, 1000);
+    let mut reader = Reader::new(alloc, limit);
     let Ok(fed) = reader.feed(bytes) else {
         return Err(Memory);
     };

@@ -1,0 +1,76 @@
+//! Values with more than 2^16 parts, of which no stored question has the bytes: from there on the
+//! checker keeps the number of a part in more room.
+
+ghost use Rattle.std.specs.Prelude.{◌<◌, length};
+ghost use Rattle.om_model.specs.Graph.{IsValue};
+
+use crate::values::given::{table_in, value_of};
+use om_check::{Steps, Verdict, check};
+use om_model::Memory;
+use om_model::path::Path;
+use om_read::Value;
+use om_type_table::TypeTable;
+use om_types::fault::Fault;
+use std::alloc::{AllocError, Global};
+use std::test::Fail;
+
+// An array of 65,537 lists: all are empty but the last one, which has one string.
+const FRONT: &[u8] =
+    b"\x84\x95\xa6\xbe\0\x01\0\x09\0\0\0\x03\0\x01\0\x07\0\x01\0\x07\x08\x04\0\x04\0";
+
+const LAST: &[u8] = b"\xa0\x21a\x40";
+
+fn far_list(alloc: Global) -> Result<Vec<u8>, AllocError> {
+    let mut bytes = Vec::from_slice(alloc, FRONT)?;
+    for _ in 0..65_536 {
+        bytes.push(0x40)?;
+    }
+    bytes.extend_from_slice(LAST)?;
+    Ok(bytes)
+}
+
+// Whether a path has this text.
+fn is_path(alloc: Global, path: &Path, want: &[u8]) -> Result<bool, Memory> {
+    let text = path.text(alloc)?;
+    Ok(text.as_slice() == want)
+}
+
+// Whether a value has the type, with so many pairs, where no misfit is wanted; or else whether its
+// misfit stands at the wanted path.
+fn is_checked(
+    alloc: Global,
+    table: &TypeTable,
+    value: &Value,
+    pairs: usize,
+    misfit: &[u8],
+) -> Result<bool, Memory>
+    requires value { IsValue (length value.now.heap) value.now.root }
+{
+    let mut steps = Steps::new();
+    match check(alloc, &value.heap, value.root, table, &mut steps)? {
+        Verdict::Yes(typing) => Ok(misfit.is_empty() && typing.len() == pairs),
+        Verdict::No(Fault::Misfit(path)) => is_path(alloc, &path, misfit),
+        Verdict::No(Fault::Clash(_, _)) => Ok(false),
+    }
+}
+
+// The same of the array with a far list, at the type of a text.
+fn is_far_checked(alloc: Global, text: &[u8], pairs: usize, misfit: &[u8]) -> Result<bool, Memory> {
+    let bytes = far_list(alloc)?;
+    let Some(value) = value_of(alloc, 100_000, bytes.as_slice())? else {
+        return Ok(false);
+    };
+    match table_in(alloc, b"", text)? {
+        Some(table) => is_checked(alloc, &table, &value, pairs, misfit),
+        None => Ok(false),
+    }
+}
+
+// By hand: the array, the list and the string are met each at one type.
+#[test]
+fn far_parts_are_checked(rt: HostRuntime) -> Result<(), Fail> {
+    assert!(rt; is_far_checked(rt.alloc(), b"string list array", 3, b"")?);
+    assert!(rt; is_far_checked(rt.alloc(), b"int list array", 0, b".65536.0")?);
+    assert!(rt; is_far_checked(rt.alloc(), b"int list list", 0, b".")?);
+    Ok(())
+}
