@@ -129,6 +129,21 @@ pub fn split_listed<'a>(left: Left<'a>) -> Option<(usize, Left<'a>)>
     Some((types[0], Left::Asked(Open::Listed(&types[1..]))))
 }
 
+/// Whether values are to come in the places that are left. Listed places come first.
+#[tactic(auto, using(om_pass_law::proofs::BlockLemmas::values_of_types))]
+#[inline(always)]
+fn is_open(left: Left<'_>) -> bool
+    ensures { MatchBool result (0 < left_values left.entry) (left_values left.entry ≡ 0) }
+{
+    if let Left::Asked(Open::Listed(types)) = left {
+        if types.is_empty() {
+            return false;
+        }
+        return true;
+    }
+    values_left(left) > 0
+}
+
 /// How many values are to come in the places that are left.
 pub fn values_left(left: Left<'_>) -> u64
     ensures { result ≡ left_values left.entry }
@@ -217,7 +232,7 @@ impl<'a> Way<'a> {
             (way_places self.new ≡ []) }
     {
         'waiting: loop {
-            if values_left(self.now.left) > 0 {
+            if is_open(self.now.left) {
                 return true;
             }
             match self.waiting.pop() {
@@ -261,11 +276,8 @@ impl<'a> Way<'a> {
     {
         let next = self.now.next;
         self.point(next);
-        self.now = Wait {
-            depth: self.now.depth,
-            next: next + 1,
-            left: others,
-        };
+        self.now.next = next + 1;
+        self.now.left = others;
     }
 
     /// Whether no more values are to come in the open places than so many. It gives up where more
