@@ -12,7 +12,7 @@ use Rattle.om_types.specs.Typing.{values_of, field_at}
 use Rattle.om_heap.specs.Heap.{object_at, fields_of, with_field, set_field}
 use Rattle.om_edit.specs.declared.spots.Spot.{Spot}
 use Rattle.om_edit.specs.declared.spots.Spot.TheVariants as spots
-use Rattle.om_edit.specs.Places.{StandsAt}
+use Rattle.om_edit.specs.Places.{StandsAt, IsThere}
 use Rattle.om_edit.specs.EditedValues.{put_at}
 
 abbrev none_there : Obj
@@ -58,6 +58,22 @@ field_there graph o i w at =
     let all = ap fields_of (is_object graph o held.0 held.1) in
     let inside = slice_get_within (values_of held.0) i w held.2 in
     subst (λ all. i < length all) (parts_same held.0 ∙ sym all) inside
+
+fields_as_many : (object : Obj) (i : ℕ) (v : Val) → length (fields_of (with_field object i v)) ≡ length (fields_of object)
+fields_as_many (objects.Block tag values) i v = length-set values i v
+fields_as_many object i v = refl
+
+-- the place is there after a value was put at it
+pub there_after : (spot : Spot) (v w : Val) (graph : List Obj) (root : Val) (one : List Obj) (one_root : Val)
+    → StandsAt graph root spot w → ◌≡◌ {A = List Obj × Val} (one, one_root) (put_at spot v graph root) → IsThere one spot
+there_after spots.Root v w graph root one one_root at is = tt
+there_after (spots.Field o i) v w graph root one one_root at is =
+    let held = held_in graph o i w at in
+    let new : Obj = with_field (object_at graph o) i v in
+    let inside = slice_get_within graph o held.0 held.1 in
+    subst (λ (m : List Obj × Val). i < length (fields_of (object_at m.0 o))) (sym is)
+    (subst (λ object. i < length (fields_of object)) (sym (get_or-set_same graph o new none_there inside))
+    (subst (λ n. i < n) (sym (fields_as_many (object_at graph o) i v)) (field_there graph o i w at)))
 
 -- what stood there is put back
 pub put_back : (spot : Spot) (v w : Val) (graph : List Obj) (root : Val) → StandsAt graph root spot w
