@@ -13,10 +13,10 @@ use Rattle.om_edit.proofs.edit.put_if_typed.Goals as goal
 
 pub returns-in-Ok-Yes-clause-kept : goal.returns-in-Ok-Yes-clause-kept
 returns-in-Ok-Yes-clause-kept c = (
-    c.put.ensures,
-    subst (λ (m : List Obj × Val). HasType (table_shapes (table_of c.args.table.now)) m.0 m.1 0) c.put.ensures
-    (subst (λ v. IsVerdict (table_of c.args.table.now) c.put.new.heap c.put.new.root v) c.in-Ok-Yes.field-0-is c.in-Ok-Yes.ensures.verdict).0,
-  )
+  c.put.ensures,
+  subst (λ (m : List Obj × Val). HasType (table_shapes (table_of c.args.table.now)) m.0 m.1 0) c.put.ensures
+      (subst (λ v. IsVerdict (table_of c.args.table.now) c.put.new.heap c.put.new.root v) c.in-Ok-Yes.field-0-is c.in-Ok-Yes.ensures.verdict).0,
+)
 
 pub put-requires-2-clause-there : goal.put-requires-2-clause-there
 put-requires-2-clause-there c =
