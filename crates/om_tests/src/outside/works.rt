@@ -1,10 +1,12 @@
-//! Small commands, run over an input and sinks in memory.
+//! Small commands, run over an input and sinks in memory, and a stop that no stored run has.
 
 ghost use Rattle.std.specs.Prelude.{◌<◌, length};
 
 use om_edge::{MemSink, MemSource};
 use om_model::Memory;
 use om_outcome::status::Status;
+use om_stops::made::refused_type;
+use om_stops::stop::report_stop;
 use om_work::Work;
 use om_work_examples::{Telling, run_bytes, run_lines, run_telling};
 use std::alloc::{AllocError, Global};
@@ -89,6 +91,31 @@ fn feeds_nothing(alloc: Global, in_hand: &[u8]) -> Result<bool, Memory>
     let mut out = MemSink::new(alloc, 100, Vec::new(alloc))?;
     let fed = Telling { text: b"told" }.feed(alloc, in_hand, &mut out);
     Ok(matches!(fed, Ok(0)) && out.written().is_empty())
+}
+
+// The status of a run that stops at a type of too many types, with its line on err.
+fn reported(alloc: Global, err: &mut MemSink) -> Status {
+    let stop = refused_type(alloc, b"TooManyTypes");
+    report_stop(alloc, err, &stop)
+}
+
+// The code of that status, where err has the line. No stored run has such a type: its table takes
+// long.
+fn refused_code(alloc: Global) -> Result<Option<u8>, Memory> {
+    let mut err = MemSink::new(alloc, 100, Vec::new(alloc))?;
+    let code = code(reported(alloc, &mut err))?;
+    if err.written() == b"omarshal: type: TooManyTypes\n".as_slice() {
+        Ok(Some(code))
+    } else {
+        Ok(None)
+    }
+}
+
+// By the table of statuses.
+#[test]
+fn a_refused_type_is_told(rt: HostRuntime) -> Result<(), Fail> {
+    assert!(rt; refused_code(rt.alloc())? == Some(3));
+    Ok(())
 }
 
 #[test]
