@@ -1,5 +1,6 @@
 -- Tokens that are taken without the judge.
-use Rattle.std.proofs.Common.{ℕ, suc, ◌≡◌, ◌+◌, ◌-◌, ◌<◌, ◌≤◌, List, [], ◌∷◌, ◌++◌, length, take, drop, get_or, Option, Some, Ok, None, true, arith, ap, ◌∙◌, subst, subst₂}
+use Rattle.std.proofs.Common.{ℕ, suc, ◌≡◌, ◌+◌, ◌-◌, ◌<◌, ◌≤◌, List, [], ◌∷◌, ◌++◌, length, take, drop, get_or, Option, Some, Ok, None, true, arith, ap, ◌∙◌, subst, subst₂, take-take}
+use Rattle.std.proofs.lemmas.List.{length-take}
 use Rattle.om_model.specs.Bytes.{AreBytes}
 use Rattle.om_model.specs.declared.code.CodeKind.{CodeKind}
 use Rattle.om_model.specs.declared.code.Measure.{Measure}
@@ -49,7 +50,7 @@ module _ (header : List ℕ) (before : List (List ℕ)) (place next : Totals) (s
         λ none. absurd (omega arith),
         λ _. (
           omega (arith, p.next_is.taken),
-          p.more,
+          λ last. (p.ends last).taken,
           (j.0, j.1, next_leads header before place next state state' bytes valid is_open h j.0 j.1 j.2 (λ t s. adds t (spelled_after bytes kind t some k s))),
         ),
       )
@@ -69,14 +70,22 @@ one_taken limit taken bytes place next state state' n is_open l some takes =
     let m = takes.1 some in
     let r = token_is_read limit taken [] bytes l.0 l.1 place state l.2 is_open next state' m.2 in
     let e : next.taken - place.taken - 0 ≡ n = omega (arith, m.0) in
-    (omega (arith, e, r.1), m.1, subst (λ k. LeadsAs (Some next) limit (taken ++ take k bytes) state' []) e r.2)
+    (omega (arith, e, r.1), λ last. (some, m.1 last), subst (λ k. LeadsAs (Some next) limit (taken ++ take k bytes) state' []) e r.2)
 
-pub one_more_taken : (limit : ℕ) (taken bytes : List ℕ) (place next : Totals) (state state' : Bounded) (a n : ℕ) → (t : TakesCommon limit taken bytes place state a) → 0 < n
+pub one_more_taken : (limit : ℕ) (taken bytes : List ℕ) (place next : Totals) (state state' : Bounded) (a n : ℕ) → 0 < place.pending → (t : TakesCommon limit taken bytes place state a) → 0 < n
     → TakesOne t.2.0 t.2.1 (take (length bytes - a) (drop a bytes)) place state next state' n → TakesCommon limit taken bytes next state' (a + n)
-one_more_taken limit taken bytes place next state state' a n t some takes =
+one_more_taken limit taken bytes place next state state' a n is_open t some takes =
     let rest = take (length bytes - a) (drop a bytes) in
-    let r = one_taken limit (taken ++ take a bytes) rest place next state state' n t.1 t.2 some takes in
-    (omega (arith, r.0, t.0, length_rest bytes a), r.1, subst (λ xs. LeadsAs (Some next) limit xs state' []) (taken_on taken bytes a n) r.2)
+    let r = one_taken limit (taken ++ take a bytes) rest place next state state' n is_open t.2 some takes in
+    (omega (arith, r.0, t.0, length_rest bytes a), λ last. (omega (arith, some), (r.1 last).1), subst (λ xs. LeadsAs (Some next) limit xs state' []) (taken_on taken bytes a n) r.2)
+
+-- what is taken of the first bytes is taken of all
+pub front_taken : (limit : ℕ) (taken bytes : List ℕ) (most : ℕ) (next : Totals) (state : Bounded) (n : ℕ) → TakesCommon limit taken (take most bytes) next state n
+    → TakesCommon limit taken bytes next state n
+front_taken limit taken bytes most next state n t =
+    let few = length-take most bytes in
+    let same : take n (take most bytes) ≡ take n bytes = take-take n most bytes (omega (arith, t.0, few)) in
+    (omega (arith, t.0, few), t.1, subst (λ xs. LeadsAs (Some next) limit (taken ++ xs) state []) same t.2)
 
 -- ---- what a token of some kind says, by the bytes after its code
 
@@ -89,6 +98,6 @@ passes_from place next code kind rest len measure l within plain sound m a =
       whole = omega arith;
       plain = plain;
       sound = sound;
-      more = a.0;
+      ends = a.0;
       next_is = subst₂ (λ (k : ℕ) (o : Option Measure). AreTotals next (moved (context_of place) k o)) n m a.1;
     }

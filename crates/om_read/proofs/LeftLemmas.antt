@@ -1,15 +1,16 @@
 -- What is left for tokens that surely pass.
-use Rattle.std.proofs.Common.{ℕ, ◌≡◌, ◌+◌, ◌-◌, ◌^◌, ◌<◌, ◌≤◌, List, [], true, false, cond, Option, Some, None, arith, refl, ap, sym, subst, ◌∙◌}
+use Rattle.std.proofs.Common.{ℕ, ◌≡◌, inl, inr, ◌+◌, ◌-◌, ◌^◌, ◌<◌, ◌≤◌, List, [], true, false, cond, Option, Some, None, arith, refl, ap, sym, subst, ◌∙◌}
+use Rattle.std.proofs.lemmas.Bool.{cases_lt}
 use Rattle.om_model.specs.declared.header.Head.{Head}
 use Rattle.om_model.specs.declared.code.Measure.{Measure}
 use Rattle.om_format.specs.Words.{of_object, fields, words32, words64}
 use Rattle.om_format.specs.Front.{context}
 use Rattle.om_read.specs.declared.totals.Totals.{Totals}
 use Rattle.om_read.specs.declared.left.Left.{Left}
-use Rattle.om_read.specs.Totals.{AreTotals, AreFew, Advances, context_of}
+use Rattle.om_read.specs.Totals.{AreTotals, AreFew, Advances, Ends, context_of}
 use Rattle.om_read.specs.Build.{Bounded}
 use Rattle.om_read.specs.Pieces.{LeadsAs}
-use Rattle.om_read.specs.Left.{Leaves, Spends, limit_of}
+use Rattle.om_read.specs.Left.{Leaves, Spends, IsSpent, limit_of}
 use Rattle.om_read.proofs.TotalsLemmas.{totals_are}
 
 -- a token makes one object at most
@@ -22,6 +23,7 @@ limit_small head e = ap (λ b. cond b (2 ^ 62) head.w32) e
 
 -- what is spent is that by which the place goes on
 module _ (first place : Totals) (n k : ℕ) (left left' : Left) (measure : Option Measure) (leaves : Leaves first n place left) (is_open : 0 < left.pending) (some : 0 < k) (spends : Spends left k measure left')
+    (spent : left'.pending ≡ 0 → IsSpent first.head (place.objects + of_object (λ _. 1) measure) left')
     (few32 : AreFew words32 measure k) (few64 : AreFew words64 measure k) where
   next_place : Totals
   next_place = record {
@@ -42,6 +44,18 @@ module _ (first place : Totals) (n k : ℕ) (left left' : Left) (measure : Optio
     within64 = omega (arith, leaves.w64, spends.w64);
   }
 
+  ends : next_place.pending ≡ 0 → Ends next_place
+  unfolding next_place
+  ends last =
+      let s = spent (omega (arith, leaves.pending, spends.pending, last)) in
+      let objects_is = ap (λ (h : Head). h.objects) leaves.head in
+      record {
+        taken = omega (arith, leaves.slack, leaves.pending, spends.slack, s.slack, last);
+        w32 = λ small. omega (arith, leaves.w32, spends.w32, s.w32 (sym (ap (λ (h : Head). h.big) leaves.head) ∙ small), limit_small place.head small);
+        w64 = omega (arith, leaves.w64, spends.w64, s.w64);
+        count = λ some. objects_is ∙ s.count (omega (arith, objects_is, some));
+      }
+
   pub goes_on : (next : Totals) × Leaves first (n + k) next left' × Advances place k measure next true
   unfolding next_place
   goes_on = (
@@ -56,10 +70,19 @@ module _ (first place : Totals) (n k : ℕ) (left left' : Left) (measure : Optio
       w64 = omega (arith, leaves.w64, spends.w64);
     },
     (
-      omega (arith, leaves.pending, spends.pending, spends.more),
+      ends,
       record { head = refl; start = refl; taken = refl; objects = refl; pending = refl; w32 = refl; w64 = refl },
     ),
   )
+
+-- where data of the value are left a value is to come
+pub still_open : (first place : Totals) (n m : ℕ) (left : Left) → Leaves first n place left → (place.pending ≡ 0 → place.taken ≡ place.head.length)
+    → first.taken + m ≤ first.head.length → n < m → 0 < left.pending
+still_open first place n m left leaves ends within lt =
+    elim (cases_lt 0 left.pending) [
+      | inl some ↦ some
+      | inr none ↦ absurd (omega (arith, ends (omega (arith, leaves.pending)), leaves.taken, ap (λ (h : Head). h.length) leaves.head))
+    ]
 
 -- a place with the same numbers serves as well
 pub same_place : (limit : ℕ) (taken : List ℕ) (place place' : Totals) (state : Bounded) → AreTotals place' (context_of place) → LeadsAs (Some place) limit taken state [] → LeadsAs (Some place') limit taken state []

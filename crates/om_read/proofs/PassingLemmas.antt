@@ -1,5 +1,6 @@
 -- A token that surely passes is the next one.
-use Rattle.std.proofs.Common.{ℕ, ◌≡◌, ◌+◌, ◌<◌, ◌≤◌, List, [], ◌∷◌, length, take, drop, get_or, Option, Some, Ok, arith, ap, sym, ◌∙◌, subst}
+use Rattle.std.proofs.Common.{ℕ, ◌≡◌, ◌⊎◌, inl, inr, ◌+◌, ◌<◌, ◌≤◌, List, [], ◌∷◌, length, take, drop, get_or, Option, Some, Ok, arith, ap, sym, ◌∙◌, subst}
+use Rattle.std.proofs.lemmas.Bool.{cases_lt}
 use Rattle.om_model.specs.declared.code.CodeKind.{CodeKind}
 use Rattle.om_model.specs.declared.code.CodeKind.TheVariants as kinds
 use Rattle.om_model.specs.declared.code.CustomKind.{CustomKind}
@@ -18,11 +19,16 @@ variable_fits : (c : Context) (kind : CodeKind) (custom : Option CustomKind) (re
 variable_fits c (kinds.Custom old) (Some customs.Native) rest plain h = absurd plain
 variable_fits c kind custom rest plain h = omega arith
 
+-- a count that is none or this
+none_or : (m n : ℕ) → (0 < m → m ≡ n) → (m ≡ 0) ⊎ (m ≡ n)
+none_or m n h = elim (cases_lt 0 m) [ inl some ↦ inr (h some) | inr none ↦ inl (omega arith) ]
+
 -- what its steps ask holds
 facts_from_place : (place next : Totals) (code : ℕ) (kind : CodeKind) (rest : List ℕ) → PassesTo place code kind rest next → TokenFacts (context_of place) kind rest
 facts_from_place place next code kind rest p =
     let c : Context = context_of place in
     let length_is = ap (λ (h : Head). h.length) p.next_is.head in
+    let objects_is = ap (λ (h : Head). h.objects) p.next_is.head in
     let big_is = ap (λ (h : Head). h.big) p.next_is.head in
     let w32_is = ap (λ (h : Head). h.w32) p.next_is.head in
     let w64_is = ap (λ (h : Head). h.w64) p.next_is.head in
@@ -34,7 +40,14 @@ facts_from_place place next code kind rest p =
       room = omega (arith, length_is, p.next_is.taken, p.next_is.pending, next.room);
       w32 = λ small. omega (arith, w32_is, p.next_is.w32, next.within32 (sym big_is ∙ small));
       w64 = omega (arith, w64_is, p.next_is.w64, next.within64);
-      end = λ last. absurd (omega (arith, p.more, p.next_is.pending, last));
+      end = λ last.
+          let e = p.ends (omega (arith, p.next_is.pending, last)) in
+          record {
+            left = omega (arith, length_is, p.next_is.taken, e.taken);
+            w32 = λ small. omega (arith, w32_is, p.next_is.w32, e.w32 (sym big_is ∙ small));
+            w64 = omega (arith, w64_is, p.next_is.w64, e.w64);
+            count = none_or _ _ (λ some. objects_is ∙ e.count (omega (arith, objects_is, some)) ∙ sym p.next_is.objects);
+          };
     }
 
 pub passes_next : (place next : Totals) (bytes : List ℕ) (kind : CodeKind) → 0 < length bytes → kind_of (get_or bytes 0 0) ≡ Ok kind

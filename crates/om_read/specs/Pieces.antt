@@ -48,10 +48,11 @@ NextRead limit taken part more new (Err NeedMore) =
     LeadsAs new.totals limit (taken ++ more) new.builder (part ++ more)
 NextRead limit taken part more new (Err (Refused refusal)) = RefusedIn limit (taken ++ more) refusal
 
--- tokens of so many bytes are taken, and the last is still to come
+-- tokens of so many bytes are taken, and after the last one of the value all data
 abbrev pub TakesCommon : ℕ → List ℕ → List ℕ → Totals → Bounded → ℕ → Type 0
 TakesCommon limit taken bytes next new n =
-    (n ≤ length bytes) × (0 < next.pending)
+    (n ≤ length bytes)
+    × (next.pending ≡ 0 → (0 < n) × (next.taken ≡ next.head.length))
     × LeadsAs (Some next) limit (taken ++ take n bytes) new []
 
 -- ---- pieces

@@ -40,13 +40,14 @@ NextOf header before rest state (Ok next) =
     (first_refusal (length rest) (token_steps (context header before) rest) ≡ None)
     × (raw_length rest ≤ length rest) × Builds header (with_next before rest) next state
 
--- one token is taken and leads on, not to the end; or nothing is taken and all stays
+-- one token is taken and leads on, by the last value to the end of the data; or nothing is taken
+-- and all stays
 abbrev pub TakesOne : List ℕ → List (List ℕ) → List ℕ → Totals → Bounded → Totals → Bounded → ℕ
     → Type 0
 TakesOne header before bytes place state next new n =
     (n ≡ 0 → (next ≡ place) × (new ≡ state))
     × (0 < n
-    → (n ≡ next.taken - place.taken) × (0 < next.pending)
+    → (n ≡ next.taken - place.taken) × (next.pending ≡ 0 → next.taken ≡ next.head.length)
     × NextOf header before bytes new (Ok next))
 
 -- ---- a whole value

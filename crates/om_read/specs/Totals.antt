@@ -63,10 +63,17 @@ after_kind c kind rest =
 abbrev pub AreFew : (Measure → ℕ) → Option Measure → ℕ → Type 0
 AreFew words measure n = of_object words measure + 1 ≤ 3 * n + of_object fields measure
 
--- the place goes on so, and is not at the end; or it stays
+-- all data, words and objects that the header states were taken
+pub record Ends (place : Totals) : Type 0 where
+  pub taken : place.taken ≡ place.head.length
+  pub w32 : place.head.big ≡ false → place.w32 ≡ place.head.w32
+  pub w64 : place.w64 ≡ place.head.w64
+  pub count : 0 < place.head.objects → place.head.objects ≡ place.objects
+
+-- the place goes on so, and after the last value all that the header states was taken; or it stays
 abbrev pub Advances : Totals → ℕ → Option Measure → Totals → Bool → Type 0
 Advances old n measure new true =
-    (0 < new.pending) × AreTotals new (moved (context_of old) n measure)
+    (new.pending ≡ 0 → Ends new) × AreTotals new (moved (context_of old) n measure)
 Advances old n measure new false = new ≡ old
 
 -- all kinds but customs
@@ -74,12 +81,12 @@ abbrev pub IsPlain : CodeKind → Type 0
 IsPlain (kinds.Custom old) = ⊥
 IsPlain kind = Unit {0}
 
--- a token of this kind is whole in the bytes after its code, its fields are sound, and it leads on
--- to the next place
+-- a token of this kind is whole in the bytes after its code, its fields are sound, and it leads to
+-- the next place, at which after the last value all that the header states was taken
 pub record PassesTo (place : Totals) (code : ℕ) (kind : CodeKind) (rest : List ℕ) (next : Totals)
     : Type 0 where
   pub whole : fixed_bytes kind + variable_bytes kind rest ≤ length rest
   pub plain : IsPlain kind
   pub sound : field_refusal (context_of place) code kind rest ≡ None
-  pub more : 0 < next.pending
+  pub ends : next.pending ≡ 0 → Ends next
   pub next_is : AreTotals next (after_kind (context_of place) kind rest)

@@ -1,8 +1,8 @@
 //! Most tokens pass for sure, by few tests, and need no memory: they are taken here, one after
 //! another. What is in doubt is left to the judge.
 
-ghost use Rattle.std.specs.Prelude.{◌≡◌, ◌≤◌, ◌<◌, ◌+◌, ℕ, List, [], length, slice_index, None};
-ghost use Rattle.std.specs.Prelude.{Some, Ok, IfSome, OnSome};
+ghost use Rattle.std.specs.Prelude.{◌≡◌, ◌≤◌, ◌<◌, ◌+◌, ◌-◌, ℕ, List, [], length, take};
+ghost use Rattle.std.specs.Prelude.{slice_index, Some, None, Ok, IfSome, OnSome};
 ghost use Rattle.om_format.specs.Code.{kind_of};
 ghost use Rattle.om_format.specs.Raw.{fixed_bytes, variable_bytes};
 ghost use Rattle.om_format.specs.Step.{Context, field_refusal};
@@ -75,11 +75,16 @@ fn take_kind(
 {
     let rest = skip(bytes, 1);
     let known = Known { kind };
-    let Some(len) = sound_len(first.head.objects, builder.count(), known, rest) else {
+    let objects = builder.count();
+    let Some(len) = sound_len(first.head.objects, objects, known, rest) else {
         return 0;
     };
+    let measure = measure_at(known, rest);
     let mut next = *left;
-    if !next.spend(1 + len as u64, measure_at(known, rest)) {
+    if !next.spend(1 + len as u64, measure) {
+        return 0;
+    }
+    if !next.is_sound(first, objects, measure) {
         return 0;
     }
     if !decode_in_room(builder, known, &rest[..len]) {
@@ -125,10 +130,12 @@ fn take_one(first: &Totals, left: &mut Left, builder: &mut Builder, bytes: &[u8]
     }
 }
 
-/// Takes tokens that surely pass and need no memory: how many bytes they have.
+/// Takes tokens that surely pass and need no memory: how many bytes they have. The bytes are data
+/// of the value, so that none is left after its last token.
 #[inline(always)]
 fn take_all(first: &Totals, left: &mut Left, builder: &mut Builder, bytes: &[u8]) -> usize
     requires open { 0 < first.now.pending }
+    requires within { first.now.taken + length bytes.now ≤ first.now.head.length }
     requires leaves { Leaves first.now 0 first.now left.old }
     requires leads { (limit : ℕ) × (taken : List ℕ)
         × LeadsAs (Some first.now) limit taken builder.old [] }
@@ -146,6 +153,19 @@ fn take_all(first: &Totals, left: &mut Left, builder: &mut Builder, bytes: &[u8]
     at
 }
 
+/// Those of the bytes that are data of the value.
+#[inline(always)]
+fn data_in<'a>(first: &Totals, bytes: &'a [u8]) -> &'a [u8]
+    ensures { result.now ≡ take (first.now.head.length - first.now.taken) bytes.now }
+{
+    let left = (first.head.length - first.taken) as usize;
+    if bytes.len() < left {
+        bytes
+    } else {
+        &bytes[..left]
+    }
+}
+
 /// Takes tokens that surely pass and need no memory: how many bytes they have.
 pub fn take_common(totals: &mut Totals, builder: &mut Builder, bytes: &[u8]) -> usize
     requires open { 0 < totals.old.pending }
@@ -156,7 +176,7 @@ pub fn take_common(totals: &mut Totals, builder: &mut Builder, bytes: &[u8]) -> 
 {
     let first = *totals;
     let mut left = Left::at(&first);
-    let n = take_all(&first, &mut left, builder, bytes);
+    let n = take_all(&first, &mut left, builder, data_in(&first, bytes));
     *totals = left.place(&first, n as u64, builder.count());
     n
 }

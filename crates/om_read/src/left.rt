@@ -1,7 +1,7 @@
 //! What is left for tokens that surely pass, in few numbers, so that each test of a token is one
 //! subtraction.
 
-ghost use Rattle.std.specs.Prelude.{◌≡◌, ◌+◌, ◌<◌, ◌^◌, MatchBool};
+ghost use Rattle.std.specs.Prelude.{◌≡◌, ◌+◌, ◌<◌, ◌^◌, true, MatchBool};
 ghost use Rattle.std.specs.Option.{ForSome};
 ghost use Rattle.om_format.specs.Words.{of_object, fields};
 ghost use Rattle.om_headers.specs.Counting.{IsCountable};
@@ -32,10 +32,24 @@ fn fields_of(measure: Measure) -> u64
     }
 }
 
+/// The header states as many objects as there are with the one of this measure, or none.
+#[inline(always)]
+fn is_count(stated: u64, objects: u64, measure: Option<Measure>) -> bool
+    ensures { result ≡ true → 0 < stated → stated ≡ objects + of_object (λ _. 1) measure }
+{
+    if stated == 0 {
+        return true;
+    }
+    match measure {
+        None => stated == objects,
+        Some(_) => stated - 1 == objects,
+    }
+}
+
 impl Left {
     ghost use Rattle.om_read.specs.declared.totals.Totals.{Totals};
     ghost use Rattle.om_read.specs.Totals.{AreTotals, context_of};
-    ghost use Rattle.om_read.specs.Left.{Leaves, Spends, limit_of};
+    ghost use Rattle.om_read.specs.Left.{Leaves, Spends, IsSpent, limit_of};
 
     /// The words on 32 bits that a header allows. A big one states none, and this is more than its
     /// data can come to.
@@ -57,8 +71,7 @@ impl Left {
         }
     }
 
-    /// Goes on after a token of `n` bytes whose object has this measure, if it fits and is not the
-    /// last.
+    /// Goes on after a token of `n` bytes whose object has this measure, if it fits.
     #[inline(always)]
     pub fn spend(&mut self, n: u64, measure: Option<Measure>) -> bool
         requires open { 0 < self.old.pending }
@@ -69,7 +82,7 @@ impl Left {
         ensures { MatchBool result (Spends self.old n measure self.new) (self.new ≡ self.old) }
     {
         let Some(measure) = measure else {
-            if self.slack < n - 1 || self.pending == 1 {
+            if self.slack < n - 1 {
                 return false;
             }
             *self = Left {
@@ -86,9 +99,6 @@ impl Left {
         if self.slack < need || self.w32 < w32 || self.w64 < w64 {
             return false;
         }
-        if fields == 0 && self.pending == 1 {
-            return false;
-        }
         *self = Left {
             slack: self.slack - need,
             pending: self.pending - 1 + fields,
@@ -96,6 +106,22 @@ impl Left {
             w64: self.w64 - w64,
         };
         true
+    }
+
+    /// A value is to come; or nothing is left, and with the object of this measure there are as
+    /// many as the header states.
+    #[inline(always)]
+    pub fn is_sound(&self, first: &Totals, objects: u64, measure: Option<Measure>) -> bool
+        ensures { result ≡ true → self.now.pending ≡ 0
+            → IsSpent first.now.head (objects + of_object (λ _. 1) measure) self.now }
+    {
+        if self.pending > 0 {
+            return true;
+        }
+        if self.slack > 0 || self.w64 > 0 || !first.head.big && self.w32 > 0 {
+            return false;
+        }
+        is_count(first.head.objects, objects, measure)
     }
 
     /// The place that is reached, n bytes and so many objects after the first.

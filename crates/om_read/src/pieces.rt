@@ -78,6 +78,7 @@ impl Pieces {
 
     /// Takes the rest of the header or the token whose part waits, or joins some of the bytes to
     /// it.
+    #[inline(never)]
     fn join_next(&mut self, alloc: Global, rest: &[u8]) -> Result<usize, ReadRefusal>
         requires some { 0 < length rest.now }
         requires open { IsWhole self.old.reading.totals → ⊥ }

@@ -19,11 +19,6 @@ pub struct Reading {
     pub builder: Builder,
 }
 
-/// The first byte is the code of a small block with fields.
-fn opens_block(bytes: &[u8]) -> bool {
-    !bytes.is_empty() && bytes[0] >= 0x90
-}
-
 impl Reading {
     ghost use Rattle.om_read.specs.Pieces.{LeadsAs, IsWhole, NextRead};
 
@@ -80,22 +75,20 @@ impl Reading {
     }
 
     /// Takes tokens after the header that surely pass and need no memory: how many bytes they have.
-    /// A last token does not, so it is left to the judge at once.
     pub fn take_common(&mut self, bytes: &[u8]) -> usize
         requires open { IsWhole self.old.totals → ⊥ }
         requires leads { (taken : List ℕ)
             × LeadsAs self.old.totals self.old.limit taken self.old.builder [] }
         ensures limit { self.new.limit ≡ self.old.limit }
-        ensures open { IsWhole self.new.totals → ⊥ }
+        ensures open { result ≡ 0 → IsWhole self.new.totals → ⊥ }
         ensures takes { (taken : List ℕ)
             → LeadsAs self.old.totals self.old.limit taken self.old.builder []
             → (result ≤ length bytes.now)
             × LeadsAs self.new.totals self.old.limit (taken ++ take result bytes.now)
             self.new.builder [] }
     {
-        let mut totals = match &self.totals {
-            Some(totals) if totals.pending > 1 || opens_block(bytes) => *totals,
-            _ => return 0,
+        let Some(mut totals) = self.totals else {
+            return 0;
         };
         let n = take_common(&mut totals, &mut self.builder, bytes);
         self.totals = Some(totals);

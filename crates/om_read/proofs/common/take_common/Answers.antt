@@ -1,16 +1,18 @@
-use Rattle.std.proofs.Common.{ℕ, List, [], Some, ◌≡◌, ◌++◌, take, arith, subst, ◌∙◌}
+use Rattle.std.proofs.Common.{ℕ, List, [], Some, ◌≡◌, ◌-◌, ◌++◌, take, arith, ap, sym, subst, ◌∙◌}
+use Rattle.om_model.specs.declared.header.Head.{Head}
 use Rattle.om_read.specs.declared.totals.Totals.{Totals}
 use Rattle.om_read.specs.Pieces.{LeadsAs, TakesCommon}
 use Rattle.om_read.specs.Left.{Leaves}
 use Rattle.om_read.proofs.LeftLemmas.{same_place}
 use Rattle.om_read.proofs.NextLemmas.{objects_built}
+use Rattle.om_read.proofs.CommonLemmas.{front_taken}
 use Rattle.om_read.proofs.common.take_common.Goals as goal
 use Rattle.om_read.proofs.common.take_common.Goals.{After-count}
 
 -- the place that is reached
 reached : (c : After-count) (limit : ℕ) (taken : List ℕ) → LeadsAs (Some c.args.totals.now) limit taken c.args.builder.now []
     → (place : Totals) × Leaves c.args.totals.now c.take_all-n.result place c.take_all-n.new.left × (c.count.result ≡ place.objects)
-    × TakesCommon limit taken c.args.bytes.now place c.take_all-n.new.builder c.take_all-n.result
+    × TakesCommon limit taken c.data_in.result.now place c.take_all-n.new.builder c.take_all-n.result
 reached c limit taken h =
     let t = c.take_all-n.ensures limit taken h in
     let w = t.2.2 in
@@ -27,4 +29,9 @@ pub returns : goal.returns
 returns c = λ limit taken h.
     let r = reached (goal.at.returns c).After-count limit taken h in
     let same = c.place.ensures r.0 r.1 r.2 in
-    (r.3.0, omega (arith, r.3.1, same.pending), same_place limit (taken ++ take c.take_all-n.result c.args.bytes.now) r.0 c.place.result c.take_all-n.new.builder same r.3.2)
+    let t = front_taken limit taken c.args.bytes.now (c.args.totals.now.head.length - c.args.totals.now.taken) r.0 c.take_all-n.new.builder c.take_all-n.result
+    (subst (λ xs. TakesCommon limit taken xs r.0 c.take_all-n.new.builder c.take_all-n.result) c.data_in.ensures r.3) in (
+      t.0,
+      λ last. let e = t.1 (same.pending ∙ last) in (e.0, sym same.taken ∙ e.1 ∙ ap (λ (h : Head). h.length) same.head),
+      same_place limit (taken ++ take c.take_all-n.result c.args.bytes.now) r.0 c.place.result c.take_all-n.new.builder same t.2,
+    )

@@ -4,11 +4,11 @@ use Rattle.om_read.specs.Pieces.{LeadsAs}
 use Rattle.om_read.proofs.reading.Reading.take_common.Goals as goal
 
 pub returns-clause-open : goal.returns-clause-open
-returns-clause-open c = λ e.
+returns-clause-open c = λ none e.
     let self = c.args.self.now in
     let x = c.requires.leads in
     let t = c.take_common-n.ensures self.limit x.0 (subst (λ (o : Option Totals). LeadsAs o self.limit x.0 self.builder []) c.in-Some.is x.1) in
-    absurd (omega (arith, t.1, e))
+    absurd (omega (arith, (t.1 e).0, none))
 
 pub returns-clause-takes : goal.returns-clause-takes
 returns-clause-takes c = λ taken h.
