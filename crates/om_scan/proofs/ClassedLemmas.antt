@@ -1,6 +1,6 @@
 -- Objects with classes, of which more come.
 use Rattle.std.proofs.Common.{ℕ, suc, ◌≡◌, ◌∙◌, ◌⊎◌, inl, inr, ⊎_elim, Bool, true, false, not, List, Some, refl, sym, ap, subst, arith}
-use Rattle.std.specs.Prelude.{slice_get, slice_set, IsTrue, MatchBool}
+use Rattle.std.specs.Prelude.{◌↔◌, slice_get, slice_set, IsTrue, MatchBool}
 use Rattle.std.specs.List.{list_any}
 use Rattle.std.specs.BTreeMap.{is_at}
 use Rattle.std.specs.BTreeSet.{contains, Updates}
@@ -10,7 +10,7 @@ use Rattle.om_model.proofs.Options.{same_or_not}
 use Rattle.om_scan.specs.declared.classed.Classed.{Classed}
 use Rattle.om_scan.specs.Classed.{pair_cmp, IsInCell, Has, IsUntouched, AreAlike, Inserts}
 use Rattle.om_scan.proofs.PlaceLemmas.{slice_set_here, slice_set_other, slice_set_at}
-use Rattle.om_scan.proofs.SetLemmas.{later_before, later_kept}
+use Rattle.om_scan.proofs.SetLemmas.{later_before, later_kept, less_before, less_kept}
 
 pub untouched_none : (classed : Classed) → IsUntouched classed → (o c : ℕ) → ¬ Has classed o c
 untouched_none classed untouched o c has = ⊎_elim
@@ -23,6 +23,60 @@ untouched_none classed untouched o c has = ⊎_elim
 -- a free one has no class
 pub free_has_none : (cells : List ℕ) (o c : ℕ) → slice_get cells o ≡ Some 0 → ¬ IsInCell cells o c
 free_has_none cells o c free cell = let is = same_Some 0 (suc c) (sym free ∙ cell) in omega (arith, is)
+
+-- one that was free gets a class
+module _ (cells : List ℕ) (o c : ℕ) where
+  cell_before : (p d : ℕ) → IsInCell (slice_set cells o (suc c)) p d → IsInCell cells p d ⊎ ((o ≡ p) × (c ≡ d))
+  cell_before p d one = ⊎_elim
+      (λ same.
+      let is = slice_set_here cells o (suc d) (suc c) (subst (λ q. IsInCell (slice_set cells o (suc c)) q d) same one) in
+      inr (sym same, omega (arith, is)))
+      (λ other. inl (sym (slice_set_other cells o p (suc c) other) ∙ one))
+      (same_or_not p o)
+
+  cell_kept : (p d : ℕ) → slice_get cells o ≡ Some 0 → IsInCell cells p d → IsInCell (slice_set cells o (suc c)) p d
+  cell_kept p d free one = ⊎_elim
+      (λ same. absurd (free_has_none cells o d free (subst (λ q. IsInCell cells q d) same one)))
+      (λ other. slice_set_other cells o p (suc c) other ∙ one)
+      (same_or_not p o)
+
+-- ---- one that is in no cell comes into its cell
+
+module _ (old new : Classed) (o c : ℕ) (free : slice_get old.cells.items o ≡ Some 0) (put : new.cells.items ≡ slice_set old.cells.items o (suc c))
+    (there : IsTrue (contains pair_cmp old.more (o, c))) (gone : Updates pair_cmp old.more new.more (o, c) false) where
+  pub shifts : (p d : ℕ) → Has old p d ↔ Has new p d
+  shifts p d = (
+    λ has. ⊎_elim
+        (λ one. inl (ap (λ all. slice_get all p) put ∙ cell_kept old.cells.items o c p d free one))
+        (λ other. ⊎_elim
+        (λ still. inr still)
+        (λ own. inl (here p d (ap (λ (x : ℕ × ℕ). x.0) own) (ap (λ (x : ℕ × ℕ). x.1) own)))
+        (less_kept old.more new.more (o, c) (p, d) gone other))
+        has,
+    λ has. ⊎_elim
+        (λ one. ⊎_elim
+        (λ before. inl before)
+        (λ own. inr (subst (λ e. IsTrue (contains pair_cmp old.more (p, e))) own.1 (subst (λ q. IsTrue (contains pair_cmp old.more (q, c))) own.0 there)))
+        (cell_before old.cells.items o c p d (subst (λ all. IsInCell all p d) put one)))
+        (λ other. inr (less_before old.more new.more (o, c) (p, d) gone other))
+        has,
+  ) where
+    here : (p d : ℕ) → o ≡ p → c ≡ d → IsInCell new.cells.items p d
+    here p d object class = subst (λ e. IsInCell new.cells.items p e) class
+        (subst (λ q. IsInCell new.cells.items q c) object
+        (ap (λ all. slice_get all o) put ∙ slice_set_at old.cells.items o (suc c) (slice_get_within old.cells.items o 0 free)))
+
+module _ (old mid : Classed) (o c : ℕ) (alike : (p d : ℕ) → Has old p d ↔ Has mid p d) where
+  pub inserts_after : (new : Classed) → Inserts mid new o c → Inserts old new o c
+  inserts_after new inserts = record {
+    here = inserts.here;
+    kept = λ p d has. inserts.kept p d ((alike p d).0 has);
+    only = λ p d has. ⊎_elim (λ before. inl ((alike p d).1 before)) (λ own. inr own) (inserts.only p d has);
+  }
+
+  pub added_after : (added : Bool) → MatchBool added (¬ Has mid o c) (Has mid o c) → MatchBool added (¬ Has old o c) (Has old o c)
+  added_after true none = λ has. none ((alike o c).0 has)
+  added_after false has = (alike o c).1 has
 
 -- ---- one more
 
@@ -54,29 +108,18 @@ module _ (old : Classed) (cells : List ℕ) (o c : ℕ) (alike : AreAlike old.ce
 
     -- its cell was free
     module _ (free : slice_get cells o ≡ Some 0) (put : new.cells.items ≡ slice_set cells o (suc c)) (more : new.more ≡ old.more) where
-      put_before : (p d : ℕ) → IsInCell (slice_set cells o (suc c)) p d → IsInCell old.cells.items p d ⊎ ((o ≡ p) × (c ≡ d))
-      put_before p d one = ⊎_elim
-          (λ same.
-          let is = slice_set_here cells o (suc d) (suc c) (subst (λ q. IsInCell (slice_set cells o (suc c)) q d) same one) in
-          inr (sym same, omega (arith, is)))
-          (λ other. inl ((alike p d).1 (sym (slice_set_other cells o p (suc c) other) ∙ one)))
-          (same_or_not p o)
-
-      put_kept : (p d : ℕ) → IsInCell old.cells.items p d → IsInCell (slice_set cells o (suc c)) p d
-      put_kept p d one = ⊎_elim
-          (λ same. absurd (free_has_none cells o d free (subst (λ q. IsInCell cells q d) same ((alike p d).0 one))))
-          (λ other. slice_set_other cells o p (suc c) other ∙ (alike p d).0 one)
-          (same_or_not p o)
-
       pub inserts_in_cell : Inserts old new o c
       inserts_in_cell = record {
         here = inl (ap (λ all. slice_get all o) put ∙ slice_set_at cells o (suc c) (slice_get_within cells o 0 free));
         kept = λ p d has. ⊎_elim
-            (λ one. inl (ap (λ all. slice_get all p) put ∙ put_kept p d one))
+            (λ one. inl (ap (λ all. slice_get all p) put ∙ cell_kept cells o c p d free ((alike p d).0 one)))
             (λ other. inr (subst (λ set. IsTrue (contains pair_cmp set (p, d))) (sym more) other))
             has;
         only = λ p d has. ⊎_elim
-            (λ one. ⊎_elim (λ before. inl (inl before)) (λ own. inr own) (put_before p d (subst (λ all. IsInCell all p d) put one)))
+            (λ one. ⊎_elim
+            (λ before. inl (inl ((alike p d).1 before)))
+            (λ own. inr own)
+            (cell_before cells o c p d (subst (λ all. IsInCell all p d) put one)))
             (λ other. inl (inr (subst (λ set. IsTrue (contains pair_cmp set (p, d))) more other)))
             has;
       }

@@ -1,10 +1,11 @@
--- Sets of objects with classes that grow.
-use Rattle.std.proofs.Common.{ℕ, ◌≡◌, ◌∙◌, ◌⊎◌, inl, inr, ⊎_elim, Bool, true, false, cond, refl, sym}
+-- Sets of objects with classes that grow, or lose one.
+use Rattle.std.proofs.Common.{ℕ, ◌≡◌, ◌∙◌, ◌⊎◌, inl, inr, ⊎_elim, Bool, true, false, cond, refl, sym, ap}
 use Rattle.std.specs.Prelude.{IsTrue}
 use Rattle.std.specs.declared.cmp.Ordering.{Ordering}
 use Rattle.std.specs.declared.cmp.Ordering.TheVariants.{Equal}
 use Rattle.std.specs.Ordering.{is_eq, nat_cmp}
 use Rattle.std.specs.Cmp.{Equal-is}
+use Rattle.std.proofs.lemmas.Bool.{false≢true}
 use Rattle.std.specs.BTreeMap.{is_at}
 use Rattle.std.specs.BTreeSet.{BTreeSet, contains, Updates}
 use Rattle.std.proofs.lemmas.Map.Lookups.{exact_pairs, exact_unsigned}
@@ -36,3 +37,22 @@ pub later_kept :
     (old new : BTreeSet (ℕ × ℕ)) (k q : ℕ × ℕ) → Updates pair_cmp old new k true → IsTrue (contains pair_cmp old q)
     → IsTrue (contains pair_cmp new q)
 later_kept old new k q updates is = updates.0 q ∙ cond_kept (is_at (pair_cmp k) q) (contains pair_cmp old q) is
+
+-- ---- one less
+
+pub cond_false : (test other : Bool) → cond test false other ≡ true → other ≡ true
+cond_false true other is = absurd (false≢true is)
+cond_false false other is = is
+
+pub less_before :
+    (old new : BTreeSet (ℕ × ℕ)) (k q : ℕ × ℕ) → Updates pair_cmp old new k false → IsTrue (contains pair_cmp new q)
+    → IsTrue (contains pair_cmp old q)
+less_before old new k q updates is = cond_false (is_at (pair_cmp k) q) (contains pair_cmp old q) (sym (updates.0 q) ∙ is)
+
+pub less_kept :
+    (old new : BTreeSet (ℕ × ℕ)) (k q : ℕ × ℕ) → Updates pair_cmp old new k false → IsTrue (contains pair_cmp old q)
+    → IsTrue (contains pair_cmp new q) ⊎ (k ≡ q)
+less_kept old new k q updates is = by_test (is_at (pair_cmp k) q) refl where
+  by_test : (test : Bool) → is_at (pair_cmp k) q ≡ test → IsTrue (contains pair_cmp new q) ⊎ (k ≡ q)
+  by_test true same = inr (same_pair k q same)
+  by_test false other = inl (updates.0 q ∙ ap (λ test. cond test false (contains pair_cmp old q)) other ∙ is)

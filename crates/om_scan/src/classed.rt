@@ -1,6 +1,7 @@
 //! Objects with classes.
 
-ghost use Rattle.std.specs.Prelude.{◌≡◌, ◌<◌, ◌↔◌, Some, slice_get, IsTrue, OnOk, IfOk, MatchBool};
+ghost use Rattle.std.specs.Prelude.{ℕ, ◌≡◌, ◌<◌, ◌↔◌, Some, slice_get, IsTrue, OnOk, IfOk};
+ghost use Rattle.std.specs.Prelude.{MatchBool};
 ghost use Rattle.om_scan.specs.Classed.{Has, Inserts, IsUntouched, IsInCell, AreAlike};
 
 use om_model::Memory;
@@ -10,7 +11,8 @@ use std::collections::BTreeSet;
 /// Objects with classes. Of each object one class has a cell of its own.
 #[derive(Drop)]
 pub struct Classed {
-    /// For each object one more than its class, or 0. There are none before the first pair comes.
+    /// For each object one more than its class, or 0. There are none before so many pairs came that
+    /// the cells take no more room than these.
     pub cells: Vec<u16>,
     /// What is in no cell.
     pub more: BTreeSet<(u64, usize)>,
@@ -40,7 +42,35 @@ impl Classed {
         ensures added { IfOk result
             (λ added. MatchBool added (¬ Has self.old object class) (Has self.old object class)) }
     {
-        make_cells(&mut self.cells, objects)?;
+        self.shift();
+        let added = self.put(objects, object, class)?;
+        Ok(added)
+    }
+
+    /// Puts the first pair that is in no cell into its object's cell, if that is free. So pairs
+    /// that came before there were cells are in no one's way for long.
+    fn shift(&mut self)
+        ensures { (o c : ℕ) → Has self.old o c ↔ Has self.new o c }
+    {
+        if self.cells.is_empty() {
+            return;
+        }
+        let Some(pair) = self.more.first() else {
+            return;
+        };
+        let (object, class) = *pair;
+        if has_free_cell(&self.cells, object, class) && self.more.remove(&(object, class)) {
+            self.cells[object as usize] = class as u16 + 1;
+        }
+    }
+
+    /// Puts in one of so many objects with a class, as the cells stand: whether it was not there.
+    fn put(&mut self, objects: usize, object: u64, class: usize) -> Result<bool, Memory>
+        ensures inserts { OnOk result (Inserts self.old self.new object class) }
+        ensures added { IfOk result
+            (λ added. MatchBool added (¬ Has self.old object class) (Has self.old object class)) }
+    {
+        make_cells(&mut self.cells, self.more.len(), objects)?;
         if is_in_cell(&self.cells, object, class) {
             return Ok(false);
         }
@@ -52,11 +82,12 @@ impl Classed {
     }
 }
 
-/// Makes a cell for each object, if there is none.
-fn make_cells(cells: &mut Vec<u16>, objects: usize) -> Result<(), Memory>
+/// Makes a cell for each object, if there is none: as long as few pairs are there, they take less
+/// room than the cells would.
+fn make_cells(cells: &mut Vec<u16>, pairs: usize, objects: usize) -> Result<(), Memory>
     ensures { OnOk result (AreAlike cells.old.items cells.new.items) }
 {
-    if cells.is_empty() {
+    if cells.is_empty() && pairs >= objects / 64 {
         cells.resize(objects, 0)?;
     }
     Ok(())

@@ -301,11 +301,11 @@ fn take_object(
     if !fits_mark(heap, fitting, o, word, ty) {
         return Ok(Some(Stop::Misfits));
     }
+    types.set(o as usize, ty as u64)?;
     let Some(needs) = known_needs(heap, o, fitting.table.shape(ty)) else {
         return Ok(Some(Stop::Misfits));
     };
     let many = needs.len();
-    types.set(o as usize, ty as u64)?;
     if let Some(unmet) = meet_all(heap, fitting, marks, notes, o, word, ty, needs, taken)? {
         return Ok(Some(Stop::Needs(ty, unmet)));
     }
