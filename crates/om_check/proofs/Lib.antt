@@ -15,3 +15,4 @@ pub mod SettleLemmas
 pub mod SettledLemmas
 pub mod MetLemmas
 pub mod AskedLemmas
+pub mod FlatLemmas

@@ -11,3 +11,4 @@ pub mod Clash
 pub mod Verdict
 pub mod ByHand
 pub mod Met
+pub mod Flat

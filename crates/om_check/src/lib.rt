@@ -4,6 +4,7 @@
 mod asked;
 mod clash;
 mod decide;
+mod flat;
 mod laws;
 mod meetings;
 mod path;
@@ -17,6 +18,7 @@ mod verdict;
 mod visits;
 
 pub use decide::check;
+pub use flat::surely_has;
 pub use laws::items_take_61_steps;
 pub use meetings::{AllMet, met};
 pub use om_scan::Steps;
