@@ -38,7 +38,7 @@ use Rattle.om_misfit.specs.declared.way.Left.{Left}
 use Rattle.om_misfit.specs.declared.way.Left.TheVariants as lefts
 use Rattle.om_misfit.specs.declared.way.Way.{Way}
 use Rattle.om_misfit.specs.Judge.{IsSaid, IsSaidBy, IsNoBack, said_fields}
-use Rattle.om_misfit.specs.Way.{trail_of, trail_in, place_of, left_values, way_places, opened_places, unasked_place, IsWay}
+use Rattle.om_misfit.specs.Way.{trail_of, trail_in, place_of, left_values, way_places, opened_places, unasked_place, IsWay, OpensAt}
 use Rattle.om_misfit.specs.Find.{no_type, type_or_none, AreTypes, AreMarked, AlsoMarks, IsMissedAt, AreMissedAt, IsHeld, HasRoom, Passes, Adds, LeadsTo, Comes, Follows, Hastens, HastensBy, unasked_in}
 use Rattle.om_misfit.specs.Second.{Knows, Shows}
 use Rattle.om_misfit.proofs.WayLemmas.{none_opened}
@@ -104,7 +104,7 @@ module _ (table : Table) (back : List ℕ) (tokens : List Token) (made : List Ma
   -- what is held after an object, or none, was added
   held_after : (n : ℕ) (type : Option ℕ) (trail : List (ℕ × ℕ)) (later : List Missed) → Adds old n said left new → n ≡ type_or_none type → ((t : ℕ) → type ≡ Some t → t < no_type) → AreMissedAt new.found later → IsHeld (back ++ []) (made ++ made_in type trail token) later new
   held_after n type trail later adds same some found = record {
-    is_way = adds.is_way;
+    is_way = (adds.opens held.is_way).0;
     types = types_after made type trail token is old.types.items new.types.items held.types (adds.types token its ∙ ap (λ k. old.types.items ++ replicate (made_by token) k) same) some;
     marked = marked_still back old.again new.again held.marked adds.again;
     found = found;
@@ -125,7 +125,7 @@ module _ (table : Table) (back : List ℕ) (tokens : List Token) (made : List Ma
   fits_leads t some adds takes passed =
       let trail = trail_in old.way in
       let next = opened_places (length made) trail left in
-      let places : way_places new.way ≡ next ++ way_places old.way = adds.places ∙ ap (λ n. opened_places n trail left ++ way_places old.way) many_made in
+      let places : way_places new.way ≡ next ++ way_places old.way = (adds.opens held.is_way).1 ∙ ap (λ n. opened_places n trail left ++ way_places old.way) many_made in
       record {
         more = [];
         type = Some t;
@@ -139,7 +139,7 @@ module _ (table : Table) (back : List ℕ) (tokens : List Token) (made : List Ma
   -- nothing is asked of it
   pub below_leads : Adds old no_type said left new → unasked_in left token → PassedBut back table tokens made (unasked_place ∷ way_places old.way) missed → LeadsTo back table front tokens made token new
   below_leads adds fields passed =
-      let places : way_places new.way ≡ unasked token ++ way_places old.way = adds.places ∙ ap (λ ps. ps ++ way_places old.way) (fields (length old.types.items) (trail_in old.way)) in
+      let places : way_places new.way ≡ unasked token ++ way_places old.way = (adds.opens held.is_way).1 ∙ ap (λ ps. ps ++ way_places old.way) (fields (length old.types.items) (trail_in old.way)) in
       record {
         more = [];
         type = None;
@@ -165,8 +165,9 @@ miss_leads table back tokens made missed token is old middle new said left its h
     let later : missed ++ one ∷ [] ≡ one ∷ [] = ap (λ ms. ms ++ one ∷ []) first in
     let found_after : AreMissedAt new.found (missed ++ one ∷ []) = subst (λ (f : Option Found). AreMissedAt f (missed ++ one ∷ [])) (sym (adds.found ∙ some)) (one, later, at) in
     let types_held : AreTypes middle.types.items made = subst (λ (v : Vec ℕ). AreTypes v.items made) (sym types) held.types in
+    let opens = adds.opens (subst IsWay (sym way) held.is_way) in
     let places : way_places new.way ≡ unasked token ++ way_places old.way =
-    adds.places ∙ ap (λ ps. ps ++ way_places middle.way) (fields (length middle.types.items) (trail_in middle.way)) ∙ ap (λ (w : Way). unasked token ++ way_places w) way in
+    opens.1 ∙ ap (λ ps. ps ++ way_places middle.way) (fields (length middle.types.items) (trail_in middle.way)) ∙ ap (λ (w : Way). unasked token ++ way_places w) way in
     record {
       more = [];
       type = None;
@@ -176,7 +177,7 @@ miss_leads table back tokens made missed token is old middle new said left its h
           (subst (λ bs. PassedBut bs table (tokens ++ token ∷ []) (made ++ made_in None trail token) (unasked token ++ way_places old.way) (missed ++ one ∷ [])) (sym (append-nil back))
           (missing tokens made t trail (way_places old.way) missed token passed misses));
       held = record {
-        is_way = adds.is_way;
+        is_way = opens.0;
         types = types_after made None trail token is middle.types.items new.types.items types_held (adds.types token its) (λ u same. absurd (none-some u same));
         marked = marked_still back old.again new.again held.marked (adds.again ∙ again);
         found = found_after;
@@ -187,14 +188,13 @@ miss_leads table back tokens made missed token is old middle new said left its h
 -- ---- what is added
 
 -- no object is made
-pub adds_none : (old : Finding) (type : ℕ) (said : Said) (left : Left) → IsWay old.way → HasRoom said left → ((token : Token) → IsSaid said token → measure_of token ≡ None) → Adds old type said left old
-adds_none old type said left is room none =
+pub adds_none : (old : Finding) (type : ℕ) (said : Said) (left : Left) → HasRoom said left → ((token : Token) → IsSaid said token → measure_of token ≡ None) → Adds old type said left old
+adds_none old type said left room none =
     let some = some_token said in
     let no_object : (token : Token) → IsSaid said token → made_by token ≡ 0 = λ token its. ap (of_object (λ _. 1)) (none token its) in
     let no_left : left_values left ≡ 0 = room some.0 some.1 (no_object some.0 some.1) in
     record {
-      is_way = is;
-      places = sym (ap (λ ps. ps ++ way_places old.way) (none_opened (length old.types.items) (trail_in old.way) left no_left));
+      opens = λ is. (is, sym (ap (λ ps. ps ++ way_places old.way) (none_opened (length old.types.items) (trail_in old.way) left no_left)));
       found = refl;
       seconds = refl;
       types = λ token its. sym (ap (λ n. old.types.items ++ replicate n type) (no_object token its) ∙ append-nil old.types.items);
@@ -206,13 +206,12 @@ adds_none old type said left is room none =
 -- one object is made
 pub adds_one :
     (old new : Finding) (type : ℕ) (said : Said) (left : Left) (measure : Measure) → ((token : Token) → IsSaid said token → measure_of token ≡ Some measure)
-    → IsWay new.way → way_places new.way ≡ opened_places (length old.types.items) (trail_in old.way) left ++ way_places old.way
+    → (IsWay old.way → IsWay new.way × OpensAt old.way (length old.types.items) left new.way)
     → new.found ≡ old.found → new.seconds ≡ old.seconds → new.types.items ≡ old.types.items ++ type ∷ [] → new.again ≡ old.again → Spends old.words measure new.words → Adds old type said left new
-adds_one old new type said left measure is way places found seconds types again spends =
+adds_one old new type said left measure is opens found seconds types again spends =
     let one : (token : Token) → IsSaid said token → made_by token ≡ 1 = λ token its. ap (of_object (λ _. 1)) (is token its) in
     record {
-      is_way = way;
-      places = places;
+      opens = opens;
       found = found;
       seconds = seconds;
       types = λ token its. types ∙ ap (λ n. old.types.items ++ replicate n type) (sym (one token its));
@@ -304,13 +303,13 @@ comes_below table stated front old new said left refers fields adds = record {
 
 -- a reference in a place of which nothing is asked
 pub comes_below_back :
-    (table : Table) (stated : ℕ) (front : List ℕ) (old : Finding) (said : Said) (offset : ℕ) → IsWay old.way → said ≡ sayings.Shared offset → 0 < stated → 1 ≤ offset → offset ≤ length old.types.items → Comes table stated front old asks.Nothing said old
-comes_below_back table stated front old said offset is same some first few =
+    (table : Table) (stated : ℕ) (front : List ℕ) (old : Finding) (said : Said) (offset : ℕ) → said ≡ sayings.Shared offset → 0 < stated → 1 ≤ offset → offset ≤ length old.types.items → Comes table stated front old asks.Nothing said old
+comes_below_back table stated front old said offset same some first few =
     subst (λ s. Comes table stated front old asks.Nothing s old) (sym same)
     (comes_below table stated front old old (sayings.Shared offset) (lefts.Unasked 0)
     (λ token its. subst (May (length old.types.items) stated) (sym its) ((first, few), λ none. absurd (omega (arith, some, none))))
     (λ token its object trail. ap unasked (sym its))
-    (adds_none old no_type (sayings.Shared offset) (lefts.Unasked 0) is (λ token its none. refl) (λ token its. ap measure_of its)))
+    (adds_none old no_type (sayings.Shared offset) (lefts.Unasked 0) (λ token its none. refl) (λ token its. ap measure_of its)))
 
 pub comes_below_other :
     (table : Table) (stated : ℕ) (front : List ℕ) (old new : Finding) (said : Said) (left : Left) → IsNoBack said → ((token : Token) → IsSaid said token → unasked_in left token)
@@ -355,7 +354,7 @@ held_kept back made missed old new held is types again found =
 -- the hash of a tag
 pub comes_hash :
     (table : Table) (stated : ℕ) (front : List ℕ) (old new : Finding) (tags : Bor (List (PolyTag ℕ))) (said : Said) (z : ℤ) (tag : PolyTag ℕ) (t : ℕ) → said ≡ sayings.Integer z → tag_with tags.now z ≡ Some tag → tag.arg ≡ Some t
-    → IsWay new.way → way_places new.way ≡ place_of (asks.Type t) (field_after (trail_in old.way)) ∷ way_places old.way → new.types ≡ old.types → new.again ≡ old.again → new.seconds ≡ old.seconds → new.words ≡ old.words → new.found ≡ old.found
+    → (IsWay old.way → IsWay new.way) → way_places new.way ≡ place_of (asks.Type t) (field_after (trail_in old.way)) ∷ way_places old.way → new.types ≡ old.types → new.again ≡ old.again → new.seconds ≡ old.seconds → new.words ≡ old.words → new.found ≡ old.found
     → Comes table stated front old (asks.Hash tags) said new
 comes_hash table stated front old new tags said z tag t same has_hash has_argument is places types again seconds words found =
     subst (λ s. Comes table stated front old (asks.Hash tags) s new) (sym same) record {
@@ -377,7 +376,7 @@ comes_hash table stated front old new tags said z tag t same has_hash has_argume
             missed = missed;
             passed = subst (λ ps. PassedBut (back ++ []) table (tokens ++ integer z ∷ []) (made ++ []) ps missed) (sym places)
                 (subst (λ bs. PassedBut bs table (tokens ++ integer z ∷ []) (made ++ []) (next ++ way_places old.way) missed) (sym (append-nil back)) further);
-            held = held_kept back made missed old new held is types again found;
+            held = held_kept back made missed old new held (is held.is_way) types again found;
             known = subst (Knows table front tokens) (sym seconds) known;
           }
 
@@ -441,7 +440,7 @@ hastens_by table bytes old new said len quicks.Untold by h = tt
 
 -- ---- a reference
 
-module _ (table : Table) (stated : ℕ) (front : List ℕ) (old : Finding) (t offset : ℕ) (is : IsWay old.way) (some : 0 < stated) (first : 1 ≤ offset) (few : offset ≤ length old.types.items) where
+module _ (table : Table) (stated : ℕ) (front : List ℕ) (old : Finding) (t offset : ℕ) (some : 0 < stated) (first : 1 ≤ offset) (few : offset ≤ length old.types.items) where
   refers_back : (token : Token) → IsSaid (sayings.Shared offset) token → May (length old.types.items) stated token
   refers_back token its = subst (May (length old.types.items) stated) (sym its) ((first, few), λ none. absurd (omega (arith, some, none)))
 
@@ -463,7 +462,7 @@ module _ (table : Table) (stated : ℕ) (front : List ℕ) (old : Finding) (t of
           trail = [];
           missed = missed;
           passed = subst (λ bs. PassedBut bs table (tokens ++ shared offset ∷ []) (made ++ []) (way_places old.way) missed) (sym (append-nil back)) further;
-          held = held_kept back made missed old old held is refl refl refl;
+          held = held_kept back made missed old old held held.is_way refl refl refl;
           known = known;
         }
 
@@ -506,15 +505,15 @@ marked_more back marks new o are also p among =
 
 -- where it leads to an object that has the type, which is marked
 pub comes_back :
-    (table : Table) (stated : ℕ) (front : List ℕ) (old new : Finding) (t offset object : ℕ) → IsWay old.way → 0 < stated → 1 ≤ offset → offset ≤ length old.types.items
+    (table : Table) (stated : ℕ) (front : List ℕ) (old new : Finding) (t offset object : ℕ) → 0 < stated → 1 ≤ offset → offset ≤ length old.types.items
     → object ≡ length old.types.items - offset
     → ((tokens : List Token) (made : List Made) → AreTypes old.types.items made → Knows table front tokens old.seconds → (HasFirst table made object t ⊎ IsPlain table tokens object t) × Knows table front tokens new.seconds)
     → AlsoMarks old.again.marks.items object new.again.marks.items
     → new.way ≡ old.way → new.types ≡ old.types → new.words ≡ old.words → new.found ≡ old.found → Comes table stated front old (asks.Type t) (sayings.Shared offset) new
-comes_back table stated front old new t offset object is some first few its_object has marks way types words found = record {
+comes_back table stated front old new t offset object some first few its_object has marks way types words found = record {
   leads = λ back tokens made missed token is_token its held known passed.
       subst (λ u. LeadsTo back table front tokens made u new) (sym its) (leads back tokens made missed held known passed);
-  refers = refers_back table stated front old t offset is some first few;
+  refers = refers_back table stated front old t offset some first few;
   w32 = λ token its. let none : of_object words32 (measure_of token) ≡ 0 = ap (λ u. of_object words32 (measure_of u)) its in let kept = ap (λ (w : Words). w.w32) words in omega (arith, none, kept);
   w64 = λ token its. let none : of_object words64 (measure_of token) ≡ 0 = ap (λ u. of_object words64 (measure_of u)) its in let kept = ap (λ (w : Words). w.w64) words in omega (arith, none, kept);
 } where
@@ -539,7 +538,7 @@ comes_back table stated front old new t offset object is some first few its_obje
         missed = missed;
         passed = subst (λ (w : Way). PassedBut (back ++ object ∷ []) table (tokens ++ shared offset ∷ []) (made ++ []) (way_places w) missed) (sym way) further;
         held = record {
-          is_way = subst IsWay (sym way) is;
+          is_way = subst IsWay (sym way) held.is_way;
           types = subst (AreTypes new.types.items) (sym (append-nil made)) (subst (λ (v : Vec ℕ). AreTypes v.items made) (sym types) held.types);
           marked = marked_more back old.again.marks.items new.again.marks.items object held.marked marks;
           found = subst (λ f. AreMissedAt f missed) (sym found) held.found;

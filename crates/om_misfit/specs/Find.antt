@@ -30,7 +30,7 @@ use Rattle.om_misfit.specs.Judge.{IsSaid, IsSaidBy}
 use Rattle.om_misfit.specs.Second.{IsFresh, Knows}
 use Rattle.om_misfit.specs.declared.way.Left.{Left}
 use Rattle.om_misfit.specs.Way.{trail_of, trail_in, place_of, root_place, way_places, IsWay}
-use Rattle.om_misfit.specs.Way.{left_values, opened_places}
+use Rattle.om_misfit.specs.Way.{left_values, opened_places, OpensAt}
 
 -- ---- what is held
 
@@ -159,10 +159,8 @@ HasRoom said left =
 -- the object that the token makes, if it makes one, has the type, and these places are open
 pub record Adds (old : Finding) (type : ℕ) (said : Said) (left : Left) (new : Finding)
     : Type 0 where
-  pub is_way : IsWay new.way
-  pub places :
-      way_places new.way
-      ≡ opened_places (length old.types.items) (trail_in old.way) left ++ way_places old.way
+  pub opens :
+      IsWay old.way → IsWay new.way × OpensAt old.way (length old.types.items) left new.way
   pub found : new.found ≡ old.found
   pub seconds : new.seconds ≡ old.seconds
   pub types :
@@ -191,17 +189,15 @@ pub record LeadsTo
   pub held : IsHeld (back ++ more) (made ++ made_in type trail token) missed new
   pub known : Knows table front tokens new.seconds
 
--- a token that is what was said came after these bytes, in the place that was taken last
-pub record Comes
-    (table : Table) (stated : ℕ) (front : List ℕ) (old : Finding) (asked : Asked) (said : Said)
-    (new : Finding)
+-- a token that is what was said came after these bytes, in the first of these places
+pub record ComesIn
+    (places : List Place) (table : Table) (stated : ℕ) (front : List ℕ) (old : Finding)
+    (said : Said) (new : Finding)
     : Type 0 where
   pub leads :
       (back : List ℕ) (tokens : List Token) (made : List Made) (missed : List Missed)
       (token : Token) → IsToken token → IsSaid said token → IsHeld back made missed old
-      → Knows table front tokens old.seconds
-      → PassedBut back table tokens made
-      (place_of asked (trail_in old.way) ∷ way_places old.way) missed
+      → Knows table front tokens old.seconds → PassedBut back table tokens made places missed
       → LeadsTo back table front tokens made token new
   pub refers :
       (token : Token) → IsSaid said token
@@ -213,34 +209,27 @@ pub record Comes
       (token : Token) → IsSaid said token
       → new.words.w64 + of_object words64 (measure_of token) ≡ old.words.w64
 
--- a token that is what was said came after these bytes, in the first open place
-pub record Follows
-    (table : Table) (stated : ℕ) (front : List ℕ) (old : Finding) (said : Said) (new : Finding)
-    : Type 0 where
-  pub leads :
-      (back : List ℕ) (tokens : List Token) (made : List Made) (missed : List Missed)
-      (token : Token) → IsToken token → IsSaid said token → IsHeld back made missed old
-      → Knows table front tokens old.seconds
-      → PassedBut back table tokens made (way_places old.way) missed
-      → LeadsTo back table front tokens made token new
-  pub refers :
-      (token : Token) → IsSaid said token
-      → RefersBack token (length old.types.items) × (stated ≡ 0 → IsNoReference token)
-  pub w32 :
-      (token : Token) → IsSaid said token
-      → new.words.w32 + of_object words32 (measure_of token) ≡ old.words.w32
-  pub w64 :
-      (token : Token) → IsSaid said token
-      → new.words.w64 + of_object words64 (measure_of token) ≡ old.words.w64
+-- the same in the place that was taken last, before those that are open
+abbrev pub Comes : Table → ℕ → List ℕ → Finding → Asked → Said → Finding → Type 0
+Comes table stated front old asked said new =
+    ComesIn (place_of asked (trail_in old.way) ∷ way_places old.way) table stated front old said
+    new
 
--- what was said came in haste, or is still to come
+-- the same in the first open place
+abbrev pub Follows : Table → ℕ → List ℕ → Finding → Said → Finding → Type 0
+Follows table stated front old said new =
+    ComesIn (way_places old.way) table stated front old said new
+
+-- what was said came in the first open place, and has this length; or it is still to come, and
+-- nothing has changed; or nothing is said
 abbrev pub Hastens : Table → Finding → Said → ℕ → Finding → Quick → Type 0
 Hastens table old said len new (quicks.Took n) =
     (n ≡ len) × ((stated : ℕ) (front : List ℕ) → Follows table stated front old said new)
 Hastens table old said len new quicks.Kept = new ≡ old
 Hastens table old said len new quicks.Untold = Unit {0}
 
--- the token that begins the bytes did
+-- a token that begins the bytes came in the first open place, and has this length; or none came,
+-- and nothing has changed; or nothing is said
 abbrev pub HastensBy : Table → List ℕ → Finding → Finding → Quick → Type 0
 HastensBy table bytes old new (quicks.Took n) =
     (said : Said) × IsSaidBy bytes said n

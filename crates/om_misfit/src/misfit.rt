@@ -159,7 +159,6 @@ impl<'a> Finding<'a> {
     /// which so many values are to come.
     #[inline(always)]
     fn add(&mut self, ty: usize, said: Said, left: Left<'a>, values: u64) -> Result<bool, Memory>
-        requires is_way { IsWay self.old.way }
         requires room { HasRoom said left }
         requires many { left_values left ≡ values }
         requires fair { IsFair said }
@@ -266,8 +265,7 @@ impl<'a> Finding<'a> {
     ) -> Result<Quick, Memory>
         requires is_way { IsWay self.old.way }
         requires first { IsSplit self.old.way.now.left (asks.Type ty) others 1 }
-        requires some { 0 < length rest.now }
-        requires code { slice_index rest.now 0 ≡ code }
+        requires code { (0 < length rest.now) × (slice_index rest.now 0 ≡ code) }
         ensures { IfOk result
             (λ quick. HastensBy (table_of table.now) rest.now self.old self.new quick) }
     {
@@ -276,6 +274,33 @@ impl<'a> Finding<'a> {
             0x01 => self.hasten_kind(table, ty, others, CodeKind::Int(2), rest),
             0x0c => self.hasten_kind(table, ty, others, CodeKind::Double(true), rest),
             _ => Ok(Quick::Kept),
+        }
+    }
+
+    /// The same of the codes below those of small blocks.
+    #[tactic(auto, unfolding(om_format::specs::Code::kind_of))]
+    #[inline(always)]
+    fn hasten_other(
+        &mut self,
+        table: &'a TypeTable,
+        ty: usize,
+        others: Left<'a>,
+        code: u8,
+        rest: &[u8],
+    ) -> Result<Quick, Memory>
+        requires is_way { IsWay self.old.way }
+        requires first { IsSplit self.old.way.now.left (asks.Type ty) others 1 }
+        requires code { (0 < length rest.now) × (slice_index rest.now 0 ≡ code) }
+        requires small { code < 128 }
+        ensures { IfOk result
+            (λ quick. HastensBy (table_of table.now) rest.now self.old self.new quick) }
+    {
+        if code >= 0x40 {
+            self.hasten_kind(table, ty, others, CodeKind::SmallInt(code % 64), rest)
+        } else if code >= 0x20 {
+            self.hasten_kind(table, ty, others, CodeKind::SmallString(code % 32), rest)
+        } else {
+            self.hasten_large(table, ty, others, code, rest)
         }
     }
 
@@ -298,12 +323,8 @@ impl<'a> Finding<'a> {
         if code >= 0x80 {
             let kind = CodeKind::SmallBlock(code % 16, code / 16 % 8);
             self.hasten_kind(table, ty, others, kind, rest)
-        } else if code >= 0x40 {
-            self.hasten_kind(table, ty, others, CodeKind::SmallInt(code % 64), rest)
-        } else if code >= 0x20 {
-            self.hasten_kind(table, ty, others, CodeKind::SmallString(code % 32), rest)
         } else {
-            self.hasten_large(table, ty, others, code, rest)
+            self.hasten_other(table, ty, others, code, rest)
         }
     }
 
@@ -330,7 +351,6 @@ impl<'a> Finding<'a> {
         ty: usize,
         offset: u64,
     ) -> Result<bool, Memory>
-        requires is_way { IsWay self.old.way }
         ensures { IfOk result
             (λ came. OnTrue came
             (Comes (table_of table.now) stated front.now self.old (asks.Type ty)
@@ -354,8 +374,7 @@ impl<'a> Finding<'a> {
     /// A token comes of which nothing is asked.
     #[inline(always)]
     fn below(&mut self, stated: u64, said: Said) -> Result<bool, Memory>
-        requires is_way { IsWay self.old.way }
-        requires fair { IsFair said }
+        requires { IsFair said }
         ensures { IfOk result
             (λ came. OnTrue came
             ((table : Table) (front : List ℕ)
@@ -374,8 +393,7 @@ impl<'a> Finding<'a> {
     /// The token does not have the type that is asked for. It is the misfit, if it is the first.
     #[inline(always)]
     fn miss(&mut self, alloc: Global, ty: usize, said: Said) -> Result<bool, Memory>
-        requires is_way { IsWay self.old.way }
-        requires fair { IsFair said }
+        requires { IsFair said }
         ensures { IfOk result
             (λ came. OnTrue came
             ((table : Table) (stated : ℕ) (front : List ℕ)
@@ -393,8 +411,7 @@ impl<'a> Finding<'a> {
 
     /// The hash of a tag comes, after which its argument is asked for.
     fn hash(&mut self, tags: &'a [PolyTag<usize>], said: Said) -> bool
-        requires is_way { IsWay self.old.way }
-        requires hash { IsAfterHash self.old.way }
+        requires { IsAfterHash self.old.way }
         ensures { OnTrue result
             ((table : Table) (stated : ℕ) (front : List ℕ)
             → Comes table stated front self.old (asks.Hash tags.entry) said self.new) }
@@ -423,8 +440,7 @@ impl<'a> Finding<'a> {
         ty: usize,
         said: Said,
     ) -> Result<bool, Memory>
-        requires is_way { IsWay self.old.way }
-        requires fair { IsFair said }
+        requires { IsFair said }
         ensures { IfOk result
             (λ came. OnTrue came
             (Comes (table_of table.now) stated front.now self.old (asks.Type ty) said self.new)) }
@@ -452,7 +468,6 @@ impl<'a> Finding<'a> {
         asked: Asked<'a>,
         said: Said,
     ) -> Result<bool, Memory>
-        requires is_way { IsWay self.old.way }
         requires hash { OnHash asked (IsAfterHash self.old.way) }
         requires fair { IsFair said }
         ensures { IfOk result

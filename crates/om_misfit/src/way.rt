@@ -305,8 +305,7 @@ impl<'a> Way<'a> {
     /// The open places of the innermost block wait, if it has any.
     #[inline(always)]
     fn keep(&mut self) -> Result<(), Memory>
-        requires { IsWay self.old }
-        ensures { OnOk result (Keeps self.old self.new) }
+        ensures { OnOk result (IsWay self.old → Keeps self.old self.new) }
     {
         let left = values_left(self.now.left);
         if left == 0 {
@@ -322,8 +321,7 @@ impl<'a> Way<'a> {
     /// The same, where no room is left for it.
     #[inline(never)]
     fn keep_more(&mut self) -> Result<(), Memory>
-        requires { IsWay self.old }
-        ensures { OnOk result (Keeps self.old self.new) }
+        ensures { OnOk result (IsWay self.old → Keeps self.old self.new) }
     {
         self.waiting.push(self.now)?;
         Ok(())
@@ -333,11 +331,10 @@ impl<'a> Way<'a> {
     /// so many values are to come, come before all others, if the numbers have room.
     #[inline(always)]
     pub fn open(&mut self, object: usize, left: Left<'a>, values: u64) -> Result<bool, Memory>
-        requires is_way { IsWay self.old }
-        requires many { left_values left ≡ values }
+        requires { left_values left ≡ values }
         ensures { IfOk result
             (λ opened. OnTrue opened
-            (IsWay self.new × OpensAt self.old object left.entry self.new)) }
+            (IsWay self.old → IsWay self.new × OpensAt self.old object left.entry self.new)) }
     {
         if values == 0 {
             return Ok(true);
@@ -361,9 +358,8 @@ impl<'a> Way<'a> {
 
     /// The argument of a tag comes next, in the field after the hash, which was taken last.
     pub fn argument(&mut self, ty: usize)
-        requires is_way { IsWay self.old }
-        requires hash { IsAfterHash self.old }
-        ensures is_way { IsWay self.new }
+        requires { IsAfterHash self.old }
+        ensures is_way { IsWay self.old → IsWay self.new }
         ensures argument { way_places self.new
             ≡ place_of (asks.Type ty) (field_after (trail_in self.old)) ∷ way_places self.old }
     {

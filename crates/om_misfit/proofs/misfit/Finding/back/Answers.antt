@@ -9,7 +9,7 @@ returns-then-is_hidden c =
     let some : 0 < c.args.stated = search rules in
     let first : 1 ≤ c.args.offset = search rules in
     let few : c.args.offset ≤ length c.args.self.now.types.items = search rules in
-    comes_hidden (table_of c.args.table.now) c.args.stated c.args.front.now c.args.self.now c.args.ty c.args.offset c.requires.is_way some first few c.if-is_hidden.ensures
+    comes_hidden (table_of c.args.table.now) c.args.stated c.args.front.now c.args.self.now c.args.ty c.args.offset some first few c.if-is_hidden.ensures
 
 pub returns-then-is_first : goal.returns-then-is_first
 returns-then-is_first c =
@@ -20,7 +20,7 @@ returns-then-is_first c =
     let object : ℕ = length old.types.items - c.args.offset in
     let own : c.len-made.result - c.args.offset ≡ object = search rules in
     let has = if_true c.is_first.result c.if-is_first.true c.is_first.ensures in
-    comes_back (table_of c.args.table.now) c.args.stated c.args.front.now old _ c.args.ty c.args.offset (c.len-made.result - c.args.offset) c.requires.is_way some first few own
+    comes_back (table_of c.args.table.now) c.args.stated c.args.front.now old _ c.args.ty c.args.offset (c.len-made.result - c.args.offset) some first few own
     (has_first (table_of c.args.table.now) c.args.front.now old.types.items old.seconds old.seconds c.args.ty (c.len-made.result - c.args.offset) has.own has.at has.typed has.equal refl)
     c.in_ok-mark.ensures refl refl refl refl
 
@@ -34,7 +34,7 @@ returns c =
     let own : c.len-made.result - c.args.offset ≡ object = search rules in
     taken_weaker c.show.result
     (λ shows.
-    comes_back (table_of c.args.table.now) c.args.stated c.args.front.now old _ c.args.ty c.args.offset (c.len-made.result - c.args.offset) c.requires.is_way some first few own
+    comes_back (table_of c.args.table.now) c.args.stated c.args.front.now old _ c.args.ty c.args.offset (c.len-made.result - c.args.offset) some first few own
     (has_second (table_of c.args.table.now) c.args.front.now old.types.items old.seconds c.show.new.self c.args.ty (c.len-made.result - c.args.offset) shows)
     c.in_ok-mark.ensures refl refl refl refl)
     c.show.ensures

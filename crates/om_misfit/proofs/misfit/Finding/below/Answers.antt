@@ -8,7 +8,7 @@ returns-in-Shared c = λ table front.
     let some : 0 < c.args.stated = search rules in
     let first : 1 ≤ c.in-Shared.offset = search rules in
     let few : c.in-Shared.offset ≤ length c.args.self.now.types.items = search rules in
-    comes_below_back table c.args.stated front c.args.self.now c.args.said c.in-Shared.offset c.requires.is_way c.in-Shared.is some first few
+    comes_below_back table c.args.stated front c.args.self.now c.args.said c.in-Shared.offset c.in-Shared.is some first few
 
 pub returns : goal.returns
 returns c =

@@ -5,8 +5,8 @@ use Rattle.om_misfit.specs.Way.{IsAfterHash, OnHash}
 use Rattle.om_misfit.specs.Find.{Comes}
 use Rattle.om_misfit.proofs.misfit.Finding.come.Goals as goal
 
-pub hash-requires-clause-hash : goal.hash-requires-clause-hash
-hash-requires-clause-hash c = subst (λ asked. OnHash asked (IsAfterHash c.args.self.now.way)) c.in-Hash.is c.requires.hash
+pub hash-requires : goal.hash-requires
+hash-requires c = subst (λ asked. OnHash asked (IsAfterHash c.args.self.now.way)) c.in-Hash.is c.requires.hash
 
 pub returns-in-Block : goal.returns-in-Block
 returns-in-Block c =

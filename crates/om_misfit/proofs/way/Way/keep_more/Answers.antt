@@ -3,4 +3,4 @@ use Rattle.om_misfit.proofs.WayLemmas.{kept_some}
 use Rattle.om_misfit.proofs.way.Way.keep_more.Goals as goal
 
 pub returns : goal.returns
-returns c = kept_some c.args.self.now _ c.requires refl c.in_ok-push.ensures.items
+returns c = λ is. kept_some c.args.self.now _ is refl c.in_ok-push.ensures.items
