@@ -103,7 +103,7 @@ module _ (table : Tabled) (graph : List Obj) where
       ∙ ap (λ needs. parts_from (shape_in table) (names_in table) graph (meet table graph n) (frame_in block.frame) (vals.Ref block.object) (suc block.next) needs seen) (sym none)
 
   -- what remains after one more part is met
-  part_next : (n : ℕ) (block : OpenBlock) (next : Level) (seen : List ℕ) (i t : ℕ) (w : Val) → slice_get (needs_in block.needs) block.next ≡ Some (i, t) → typed_field graph block.object i ≡ Some w → IsAfter block next
+  pub part_next : (n : ℕ) (block : OpenBlock) (next : Level) (seen : List ℕ) (i t : ℕ) (w : Val) → slice_get (needs_in block.needs) block.next ≡ Some (i, t) → typed_field graph block.object i ≡ Some w → IsAfter block next
       → parts_left table graph n block seen
       ≡ led_by (Text (before_part (frame_in block.frame) block.next) ∷ []) (led_by (meet table graph n seen w t).pieces (level_left table graph n next (meet table graph n seen w t).seen))
   part_next n block next seen i t w at_next field after =

@@ -1,4 +1,5 @@
 pub mod DumpLemmas
+pub mod FlatLemmas
 pub mod LabelLemmas
 pub mod LeftLemmas
 pub mod LevelLemmas

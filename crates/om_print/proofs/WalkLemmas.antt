@@ -59,16 +59,15 @@ module _ (table : Tabled) (graph : List Obj) where
 
   -- ---- values of which nothing is asked
 
+  pub meet_hidden : (k : ℕ) (seen : List ℕ) (v : Val) (t : ℕ) → is_asked (shape_in table t) ≡ false → meet table graph (suc k) seen v t ≡ met (Text hidden_text ∷ []) seen
+  meet_hidden k seen v t hidden = ap (λ b. cond b (asked_met (shape_in table) (names_in table) graph (meet table graph k) seen v t) (met (Text hidden_text ∷ []) seen)) hidden
+
   pub hidden_goes : (walk : Walk) (v : Val) (t : ℕ) → IsWalk table graph walk → walk.value ≡ None → is_asked (shape_in table t) ≡ false
       → Goes table graph (left_of table graph (levels_of walk) (Some (v, t)) walk.order) walk.order steps.Hidden walk
   hidden_goes walk v t is none hidden =
-      let k = length graph - length (levels_of walk) in
-      let seen = reverse walk.order in
-      let meets : meet table graph (suc k) seen v t ≡ met (Text hidden_text ∷ []) seen =
-      ap (λ b. cond b (asked_met (shape_in table) (names_in table) graph (meet table graph k) seen v t) (met (Text hidden_text ∷ []) seen)) hidden in
-      value_goes walk walk v t steps.Hidden is refl none meets (sym (append-nil walk.order)) tt is
+      value_goes walk walk v t steps.Hidden is refl none (meet_hidden (length graph - length (levels_of walk)) (reverse walk.order) v t hidden) (sym (append-nil walk.order)) tt is
 
-  meet_asked : (k : ℕ) (seen : List ℕ) (v : Val) (t : ℕ) → IsTrue (is_asked (shape_in table t))
+  pub meet_asked : (k : ℕ) (seen : List ℕ) (v : Val) (t : ℕ) → IsTrue (is_asked (shape_in table t))
       → meet table graph (suc k) seen v t ≡ asked_met (shape_in table) (names_in table) graph (meet table graph k) seen v t
   meet_asked k seen v t asked = ap (λ b. cond b (asked_met (shape_in table) (names_in table) graph (meet table graph k) seen v t) (met (Text hidden_text ∷ []) seen)) asked
 
@@ -98,7 +97,7 @@ module _ (table : Tabled) (graph : List Obj) where
   met_marked : (k : ℕ) (seen : List ℕ) (o t : ℕ) → IsTrue (is_asked (shape_in table t)) → has seen o ≡ true → meet table graph (suc k) seen (vals.Ref o) t ≡ met (Again o ∷ []) seen
   met_marked k seen o t asked marked = meet_asked k seen (vals.Ref o) t asked ∙ ap (λ b. cond b (met (Again o ∷ []) seen) (first_met k seen o t)) marked
 
-  met_unmarked : (k : ℕ) (seen : List ℕ) (o t : ℕ) → IsTrue (is_asked (shape_in table t)) → has seen o ≡ false → meet table graph (suc k) seen (vals.Ref o) t ≡ first_met k seen o t
+  pub met_unmarked : (k : ℕ) (seen : List ℕ) (o t : ℕ) → IsTrue (is_asked (shape_in table t)) → has seen o ≡ false → meet table graph (suc k) seen (vals.Ref o) t ≡ first_met k seen o t
   met_unmarked k seen o t asked unmarked = meet_asked k seen (vals.Ref o) t asked ∙ ap (λ b. cond b (met (Again o ∷ []) seen) (first_met k seen o t)) unmarked
 
   pub again_goes : (walk : Walk) (v : Val) (o t : ℕ) → v ≡ vals.Ref o → IsWalk table graph walk → walk.value ≡ None → o < length graph → get_or walk.marks.items o false ≡ true → IsTrue (is_asked (shape_in table t))
@@ -147,6 +146,13 @@ module _ (table : Tabled) (graph : List Obj) where
   object_there : (o : ℕ) → o < length graph → slice_get graph o ≡ Some (object_at graph o)
   object_there o inside = slice_get-get_or graph o (objects.I32 (pos 0)) inside
 
+  pub met_leaf : (k : ℕ) (seen : List ℕ) (o t : ℕ) → o < length graph → IsTrue (is_asked (shape_in table t)) → has seen o ≡ false → ((tag : ℕ) (values : List Val) → object_at graph o ≡ objects.Block tag values → ⊥)
+      → meet table graph (suc k) seen (vals.Ref o) t ≡ met (First o ∷ Text (object_text (shape_in table t) (names_in table t) (object_at graph o)) ∷ []) (o ∷ seen)
+  met_leaf k seen o t inside asked unmarked no_block =
+      met_unmarked k seen o t asked unmarked
+      ∙ ap (object_met (shape_in table) (names_in table) graph (meet table graph k) (o ∷ seen) o t) (object_there o inside)
+      ∙ leaf_met (meet table graph k) (o ∷ seen) o t (object_at graph o) no_block
+
   pub leaf_goes : (walk new : Walk) (o t : ℕ) → IsWalk table graph walk → o < length graph → t < length table.nodes → get_or walk.marks.items o false ≡ false → IsMarked walk new o
       → ((tag : ℕ) (values : List Val) → object_at graph o ≡ objects.Block tag values → ⊥) → IsTrue (is_asked (shape_in table t))
       → Goes table graph (left_of table graph (levels_of walk) (Some (vals.Ref o, t)) walk.order) walk.order (steps.Leaf o t) new
@@ -156,13 +162,10 @@ module _ (table : Tabled) (graph : List Obj) where
       let p : List Piece = First o ∷ Text (object_text (shape_in table t) (names_in table t) (object_at graph o)) ∷ [] in
       let later : reverse new.order ≡ o ∷ seen = ap reverse marked.order ∙ reversed_more walk.order o in
       let meets : meet table graph (suc k) seen (vals.Ref o) t ≡ met p (reverse new.order) =
-      met_unmarked k seen o t asked (sym (is.marked o) ∙ unmet)
-      ∙ ap (object_met (shape_in table) (names_in table) graph (meet table graph k) (o ∷ seen) o t) (object_there o inside)
-      ∙ leaf_met (meet table graph k) (o ∷ seen) o t (object_at graph o) no_block
-      ∙ ap (met p) (sym later) in
+      met_leaf k seen o t inside asked (sym (is.marked o) ∙ unmet) no_block ∙ ap (met p) (sym later) in
       value_goes walk new (vals.Ref o) t (steps.Leaf o t) is (same_levels walk new marked.blocks marked.ends) marked.value meets marked.order (inside, number) (marked_walk walk new o is inside unmet marked)
 
-  opening_met : (k : ℕ) (seen : List ℕ) (o t tag : ℕ) (outside : ℕ) (block : OpenBlock) → o < length graph → object_at graph o ≡ objects.Block tag (fields_of (object_at graph o)) → IsBegun table graph o t tag outside block
+  pub opening_met : (k : ℕ) (seen : List ℕ) (o t tag : ℕ) (outside : ℕ) (block : OpenBlock) → o < length graph → object_at graph o ≡ objects.Block tag (fields_of (object_at graph o)) → IsBegun table graph o t tag outside block
       → first_met k seen o t ≡ led_by (First o ∷ Text (frame_in block.frame).opening ∷ []) (parts_left table graph k block (o ∷ seen))
   opening_met k seen o t tag outside block inside is begun =
       let S = shape_in table in
@@ -359,7 +362,7 @@ module _ (table : Tabled) (graph : List Obj) where
     pub part : v ≡ field_at graph block.object i
     pub last : IsLastEnd block end
 
-  still_open : (block : OpenBlock) (next : ℕ) → IsOpen table graph block → IsOpen table graph (with_next block next)
+  pub still_open : (block : OpenBlock) (next : ℕ) → IsOpen table graph block → IsOpen table graph (with_next block next)
   still_open block next is = record { inside = is.inside; words = is.words; valid = is.valid; parts = is.parts }
 
   open_after : (outer : List OpenBlock) (block : OpenBlock) (next : ℕ) (end : Option ℕ) → All (IsOpen table graph) outer → IsOpen table graph block → All (IsOpen table graph) (blocks_after outer (with_next block next) end)

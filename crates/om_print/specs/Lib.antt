@@ -1,3 +1,4 @@
+pub mod Flat
 pub mod Labels
 pub mod Levels
 pub mod Plain

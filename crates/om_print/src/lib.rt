@@ -5,6 +5,7 @@
 mod block;
 mod dumped;
 mod ends;
+mod flat;
 mod labels;
 mod order;
 mod plain;

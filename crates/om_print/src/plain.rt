@@ -159,9 +159,9 @@ fn put_in<'a>(
     Ok(fresh)
 }
 
-// The word of a field.
+/// The word of a field.
 #[inline(always)]
-fn word_at(fields: &[u64], i: u64) -> u64
+pub fn word_at(fields: &[u64], i: u64) -> u64
     requires { i < length fields.now }
     ensures { result ≡ slice_index fields.now i }
 {

@@ -14,6 +14,7 @@ ghost use Rattle.om_print.specs.Put.{IsPut};
 ghost use Rattle.om_print.specs.Walking.{IsStep, step_pieces};
 
 use crate::ends::put_end;
+use crate::flat::put_flat;
 use crate::labels::{Labels, mark_again, objects_again, put_label};
 use crate::plain::{put_leaf, put_until_again};
 use crate::walk::{Step, Walk};
@@ -42,6 +43,10 @@ pub fn put_shown_at(
         value.now.root at) }
 {
     let before = text.len();
+    if put_flat(text, value, table, at)? {
+        return Ok(());
+    }
+    text.truncate(before);
     let Some(objects) = put_without_labels(text, alloc, value, table, at)? else {
         return Ok(());
     };
@@ -84,6 +89,7 @@ fn put_without_labels(
 }
 
 // Puts the text with these labels.
+#[inline(never)]
 fn put_with_labels(
     text: &mut Vec<u8>,
     alloc: Global,

@@ -1,0 +1,200 @@
+-- Values that are put without a walk.
+use Rattle.std.proofs.Common.{ℕ, suc, ◌≡◌, ◌+◌, ◌-◌, ◌<◌, ◌≤◌, ◌∙◌, ⊎_elim, Bool, true, false, List, [], ◌∷◌, ◌++◌, length, refl, sym, ap, subst, arith, append_assoc, append-nil, Some, None, ℤ}
+use Rattle.std.specs.Prelude.{◌||◌, All, IsTrue, slice_get, codes}
+use Rattle.std.specs.List.{flat_map}
+use Rattle.std.proofs.lemmas.Bool.Decides.{eqb_tells}
+use Rattle.std.proofs.lemmas.Grind.{flat_map-append}
+use Rattle.std.proofs.lemmas.List.Elements.{All-nil, All-cons, All-head, All-tail, All-weaker}
+use Rattle.om_model.specs.declared.value.Val.{Val}
+use Rattle.om_model.specs.declared.value.Val.TheVariants as vals
+use Rattle.om_model.specs.declared.value.Obj.{Obj}
+use Rattle.om_model.specs.declared.value.Obj.TheVariants as objects
+use Rattle.om_types.specs.Fitting.{is_asked}
+use Rattle.om_types.specs.Typing.{field_at as typed_field}
+use Rattle.om_type_table.specs.declared.tabled.Tabled.{Tabled}
+use Rattle.om_heap.specs.Heap.{object_at, fields_of}
+use Rattle.om_fits.specs.Needs.{needs_in}
+use Rattle.om_leaves.specs.Frames.{before_part, int_text, object_text, hidden_text}
+use Rattle.om_leaves.specs.FrameView.{frame_in}
+use Rattle.om_show.specs.Pieces.{Piece, Text, First, has, agains, piece_text, text_of}
+use Rattle.om_show.specs.Shown.{Met, met, led_by, shown_text, pieces_of}
+use Rattle.om_show.specs.Tables.{shape_in, names_in}
+use Rattle.om_show.proofs.PieceLemmas.{agains-append}
+use Rattle.om_print.specs.declared.block.OpenBlock.{OpenBlock}
+use Rattle.om_print.specs.Flat.{PutsWhole, IsMetAs, IsPutFlat, ArePutFlat, PutsParts}
+use Rattle.om_print.specs.Levels.{Open, end_text, with_next}
+use Rattle.om_print.specs.Put.{IsGrown}
+use Rattle.om_print.specs.Walking.{meet, parts_left, IsBegun}
+use Rattle.om_print.proofs.LeftLemmas.{is_after, no_parts, part_next}
+use Rattle.om_print.proofs.PlainLemmas.{no_labels, one_text, then_text}
+use Rattle.om_print.proofs.WalkLemmas.{meet_asked, meet_hidden, met_leaf, met_unmarked, opening_met, still_open}
+
+-- ---- texts that are longer
+
+not_grown : (text : List ℕ) → IsGrown text text
+not_grown text = ([], sym (append-nil text))
+
+pub grown_more : (old text bytes between all : List ℕ) → IsGrown old text → between ≡ text ++ bytes → IsGrown between all → IsGrown old all
+grown_more old text bytes between all grown put more =
+    (grown.0 ++ (bytes ++ more.0), then_text old text all grown.0 (bytes ++ more.0) grown.1 (then_text text between all bytes more.0 put more.1))
+
+-- ---- objects that were not met
+
+not_met : (last o : ℕ) (seen : List ℕ) → last < o → All (λ x. x ≤ last) seen → has seen o ≡ false
+not_met last o [] above few = refl
+not_met last o (x ∷ seen) above few = ⊎_elim
+    (λ same. let first = All-head (λ y. y ≤ last) x seen few in absurd (omega (arith, same.1, above, first)))
+    (λ other. ap (λ b. b || has seen o) other.0 ∙ not_met last o seen above (All-tail (λ y. y ≤ last) x seen few))
+    (eqb_tells x o)
+
+module _ (table : Tabled) (graph : List Obj) where
+  -- ---- one value
+
+  -- one of which there is only a text
+  text_flat : (v : Val) (t last : ℕ) (bytes old text : List ℕ) → last < length graph → ((n : ℕ) (seen : List ℕ) → meet table graph (suc n) seen v t ≡ met (Text bytes ∷ []) seen) → text ≡ old ++ bytes
+      → IsPutFlat table graph v t last last old text
+  text_flat v t last bytes old text inside meets put = record {
+    pieces = Text bytes ∷ [];
+    fresh = refl;
+    put = one_text old text bytes put;
+    inside = inside;
+    met_as = λ n seen few. subst (IsMetAs (Text bytes ∷ []) last) (sym (meets n seen)) (refl, few);
+  }
+
+  pub hidden_flat : (v : Val) (t last : ℕ) (old text : List ℕ) → last < length graph → is_asked (shape_in table t) ≡ false → text ≡ old ++ hidden_text → IsPutFlat table graph v t last last old text
+  hidden_flat v t last old text inside hidden put = text_flat v t last hidden_text old text inside (λ n seen. meet_hidden table graph n seen v t hidden) put
+
+  pub int_flat : (z : ℤ) (t last : ℕ) (old text : List ℕ) → last < length graph → IsTrue (is_asked (shape_in table t)) → text ≡ old ++ int_text (shape_in table t) (names_in table t) z → IsPutFlat table graph (vals.Int z) t last last old text
+  int_flat z t last old text inside asked put =
+      text_flat (vals.Int z) t last (int_text (shape_in table t) (names_in table t) z) old text inside (λ n seen. meet_asked table graph n seen (vals.Int z) t asked) put
+
+  pub atom_flat : (tag t last : ℕ) (old text : List ℕ) → last < length graph → IsTrue (is_asked (shape_in table t)) → text ≡ old ++ codes "[||]" → IsPutFlat table graph (vals.Atom tag) t last last old text
+  atom_flat tag t last old text inside asked put = text_flat (vals.Atom tag) t last (codes "[||]") old text inside (λ n seen. meet_asked table graph n seen (vals.Atom tag) t asked) put
+
+  pub leaf_flat : (o t last : ℕ) (old text : List ℕ) → o < length graph → last < o → IsTrue (is_asked (shape_in table t)) → ((tag : ℕ) (values : List Val) → object_at graph o ≡ objects.Block tag values → ⊥)
+      → text ≡ old ++ object_text (shape_in table t) (names_in table t) (object_at graph o) → IsPutFlat table graph (vals.Ref o) t last o old text
+  leaf_flat o t last old text inside above asked no_block put =
+      let bytes = object_text (shape_in table t) (names_in table t) (object_at graph o) in
+      let p : List Piece = First o ∷ Text bytes ∷ [] in record {
+        pieces = p;
+        fresh = refl;
+        put = one_text old text bytes put;
+        inside = inside;
+        met_as = λ n seen few. subst (IsMetAs p o) (sym (met_leaf table graph n seen o t inside asked (not_met last o seen above few) no_block))
+            (refl, All-cons (λ x. x ≤ o) o seen (omega arith) (All-weaker (λ x. x ≤ last) (λ x. x ≤ o) (λ x is. omega (arith, is, above)) seen few));
+      }
+
+  -- ---- the parts of a block, one after the other
+
+  -- The parts before number k are put.
+  pub record ArePartlyPut (block : OpenBlock) (k last : ℕ) (old text : List ℕ) : Type 0 where
+    pub pieces : List Piece
+    pub fresh : agains pieces ≡ []
+    pub put : text ≡ old ++ flat_map (piece_text []) pieces
+    pub inside : last < length graph
+    pub met_so : (n : ℕ) → (seen : List ℕ) × All (λ o. o ≤ last) seen
+        × (parts_left table graph (suc n) (with_next block 0) (block.object ∷ []) ≡ led_by pieces (parts_left table graph (suc n) (with_next block k) seen))
+
+  pub none_put : (block : OpenBlock) (text : List ℕ) → block.object < length graph → ArePartlyPut block 0 block.object text text
+  none_put block text inside = record {
+    pieces = [];
+    fresh = refl;
+    put = sym (append-nil text);
+    inside = inside;
+    met_so = λ n. (block.object ∷ [], All-cons (λ x. x ≤ block.object) block.object [] (omega arith) (All-nil (λ x. x ≤ block.object)), refl);
+  }
+
+  pub grown_so : (block : OpenBlock) (k last : ℕ) (old text : List ℕ) → ArePartlyPut block k last old text → IsGrown old text
+  grown_so block k last old text partly = (flat_map (piece_text []) partly.pieces, partly.put)
+
+  pub more_put : (block : OpenBlock) (k last next i t : ℕ) (v : Val) (old text between all : List ℕ) → slice_get (needs_in block.needs) k ≡ Some (i, t) → typed_field graph block.object i ≡ Some v
+      → ArePartlyPut block k last old text → between ≡ text ++ before_part (frame_in block.frame) k → IsPutFlat table graph v t last next between all → ArePartlyPut block (k + 1) next old all
+  more_put block k last next i t v old text between all at_k field partly before here =
+      let f = piece_text [] in
+      let b = before_part (frame_in block.frame) k in
+      let new : List Piece = Text b ∷ here.pieces in record {
+        pieces = partly.pieces ++ new;
+        fresh = agains-append partly.pieces new ∙ ap (λ os. os ++ agains here.pieces) partly.fresh ∙ here.fresh;
+        put = then_text old text all (flat_map f partly.pieces) (b ++ flat_map f here.pieces) partly.put (then_text text between all b (flat_map f here.pieces) before here.put)
+            ∙ ap (λ bs. old ++ bs) (sym (flat_map-append f partly.pieces new));
+        inside = here.inside;
+        met_so = λ n.
+            let so = partly.met_so n in
+            let m = meet table graph (suc n) so.0 v t in
+            let then = here.met_as n so.0 so.1 in
+            let rest = parts_left table graph (suc n) (with_next block (k + 1)) m.seen in (
+              m.seen,
+              then.1,
+              so.2
+                  ∙ ap (led_by partly.pieces) (part_next table graph (suc n) (with_next block k) (Open (with_next block (k + 1))) so.0 i t v at_k field (is_after table graph (with_next block k) None tt))
+                  ∙ ap (λ ps. led_by partly.pieces (led_by (Text b ∷ []) (led_by ps rest))) then.0
+                  ∙ ap (λ ps. met ps rest.seen) (sym (append_assoc partly.pieces new rest.pieces)),
+            );
+      }
+
+  pub all_put : (block : OpenBlock) (k last end : ℕ) (old text all : List ℕ) → length (needs_in block.needs) ≤ k → end_text end ≡ (frame_in block.frame).closing
+      → ArePartlyPut block k last old text → all ≡ text ++ end_text end → ArePutFlat table graph block old all
+  all_put block k last end old text all past ends partly put =
+      let f = piece_text [] in
+      let new : List Piece = Text (end_text end) ∷ [] in record {
+        pieces = partly.pieces ++ new;
+        fresh = agains-append partly.pieces new ∙ ap (λ os. os ++ agains new) partly.fresh;
+        put = then_text old text all (flat_map f partly.pieces) (flat_map f new) partly.put (one_text text all (end_text end) put) ∙ ap (λ bs. old ++ bs) (sym (flat_map-append f partly.pieces new));
+        met_as = λ n. let so = partly.met_so n in
+            ap (λ (m : Met). m.pieces) (so.2 ∙ ap (led_by partly.pieces) (no_parts table graph (with_next block k) end past ends (suc n) so.0));
+      }
+
+  -- ---- the whole
+
+  whole : length graph + 1 ≡ suc (length graph)
+  whole = omega arith
+
+  plain_shown : (v : Val) (t : ℕ) (pieces : List Piece) → pieces_of (shape_in table) (names_in table) graph v t ≡ pieces → agains pieces ≡ []
+      → shown_text (shape_in table) (names_in table) graph v t ≡ flat_map (piece_text []) pieces
+  unfolding shown_text
+  plain_shown v t pieces is fresh = ap text_of is ∙ ap (λ os. flat_map (piece_text os) pieces) (no_labels pieces fresh)
+
+  -- an integer of which something is asked
+  pub int_shown : (z : ℤ) (t : ℕ) → IsTrue (is_asked (shape_in table t)) → shown_text (shape_in table) (names_in table) graph (vals.Int z) t ≡ int_text (shape_in table t) (names_in table t) z
+  int_shown z t asked =
+      let bytes = int_text (shape_in table t) (names_in table t) z in
+      plain_shown (vals.Int z) t (Text bytes ∷ [])
+      (ap (λ n. (meet table graph n [] (vals.Int z) t).pieces) whole ∙ ap (λ (m : Met). m.pieces) (meet_asked table graph (length graph) [] (vals.Int z) t asked))
+      refl
+      ∙ append-nil bytes
+
+  -- an object without parts
+  pub leaf_shown : (o t : ℕ) → o < length graph → IsTrue (is_asked (shape_in table t)) → ((tag : ℕ) (values : List Val) → object_at graph o ≡ objects.Block tag values → ⊥)
+      → shown_text (shape_in table) (names_in table) graph (vals.Ref o) t ≡ object_text (shape_in table t) (names_in table t) (object_at graph o)
+  leaf_shown o t inside asked no_block =
+      let bytes = object_text (shape_in table t) (names_in table t) (object_at graph o) in
+      plain_shown (vals.Ref o) t (First o ∷ Text bytes ∷ [])
+      (ap (λ n. (meet table graph n [] (vals.Ref o) t).pieces) whole ∙ ap (λ (m : Met). m.pieces) (met_leaf table graph (length graph) [] o t inside asked refl no_block))
+      refl
+      ∙ append-nil bytes
+
+  -- a block whose parts are put
+  block_shown : (o t tag : ℕ) (outside : ℕ) (block : OpenBlock) (old between text : List ℕ) → o < length graph → IsTrue (is_asked (shape_in table t)) → object_at graph o ≡ objects.Block tag (fields_of (object_at graph o))
+      → IsBegun table graph o t tag outside block → between ≡ old ++ (frame_in block.frame).opening → ArePutFlat table graph block between text → text ≡ old ++ shown_text (shape_in table) (names_in table) graph (vals.Ref o) t
+  block_shown o t tag outside block old between text inside asked is_block begun opened parts =
+      let opening = (frame_in block.frame).opening in
+      let start = with_next block 0 in
+      let some : length graph ≡ suc (length graph - 1) = omega (arith, inside) in
+      let front = λ (ps : List Piece). First o ∷ Text opening ∷ ps in
+      let started : IsBegun table graph o t tag outside start =
+      record { object = begun.object; frame = begun.frame; needs = begun.needs; next = refl; outside = begun.outside; is_open = still_open table graph block 0 begun.is_open } in
+      let is : pieces_of (shape_in table) (names_in table) graph (vals.Ref o) t ≡ front parts.pieces =
+      ap (λ n. (meet table graph n [] (vals.Ref o) t).pieces) whole
+      ∙ ap (λ (m : Met). m.pieces) (met_unmarked table graph (length graph) [] o t asked refl ∙ opening_met table graph (length graph) [] o t tag outside start inside is_block started)
+      ∙ ap (λ n. front (parts_left table graph n start (o ∷ [])).pieces) some
+      ∙ ap (λ x. front (parts_left table graph (suc (length graph - 1)) start (x ∷ [])).pieces) (sym begun.object)
+      ∙ ap front (parts.met_as (length graph - 1)) in
+      then_text old between text opening (flat_map (piece_text []) parts.pieces) opened parts.put
+      ∙ ap (λ bs. old ++ bs) (sym (plain_shown (vals.Ref o) t (front parts.pieces) is parts.fresh))
+
+  -- the same where some parts may be put
+  pub block_told : (o t tag : ℕ) (outside : ℕ) (block : OpenBlock) (old between text : List ℕ) → o < length graph → IsTrue (is_asked (shape_in table t)) → object_at graph o ≡ objects.Block tag (fields_of (object_at graph o))
+      → IsBegun table graph o t tag outside block → between ≡ old ++ (frame_in block.frame).opening → (told : Bool) → PutsParts table graph block between text told
+      → PutsWhole (shown_text (shape_in table) (names_in table) graph (vals.Ref o) t) old text told
+  block_told o t tag outside block old between text inside asked is_block begun opened true parts = block_shown o t tag outside block old between text inside asked is_block begun opened parts
+  block_told o t tag outside block old between text inside asked is_block begun opened false grown = grown_more old old (frame_in block.frame).opening between text (not_grown old) opened grown

@@ -1,0 +1,169 @@
+//! The text of a value none of whose objects is met twice, as is plain to see, put without a walk.
+
+ghost use Rattle.std.specs.Prelude.{◌≡◌, ◌<◌, length, IfOk, IsTrue};
+ghost use Rattle.om_model.specs.declared.value.Val.TheVariants as vals;
+ghost use Rattle.om_types.specs.Fitting.{is_asked};
+ghost use Rattle.om_heap.specs.Heap.{word_of};
+ghost use Rattle.om_show.specs.Shown.{shown_text};
+ghost use Rattle.om_show.specs.Tables.{shape_in, names_in};
+ghost use Rattle.om_type_table.specs.Made.{table_of};
+ghost use Rattle.om_print.specs.Flat.{PutsWhole, PutsFlat, PutsParts};
+ghost use Rattle.om_print.specs.Typed.{IsTypedAt};
+ghost use Rattle.om_print.specs.Walking.{IsOpen};
+
+use crate::block::OpenBlock;
+use crate::ends::{end_of, put_end};
+use crate::plain::{put_leaf, word_at};
+use crate::walk::{open_block, value_at};
+use om_fits::is_asked;
+use om_heap::{Heap, Kind, Placed, Rooted};
+use om_leaves::{put_few, put_int_at};
+use om_model::Memory;
+use om_model::value::Val;
+use om_type_table::TypeTable;
+
+// How many parts an object has at most that is put without a walk.
+const FEW: u64 = 8;
+
+/// Puts the text of an integer, or of an object that has no parts or a few that have none, where
+/// the objects among them have rising numbers. It tells whether the whole text was put.
+pub fn put_flat(
+    text: &mut Vec<u8>,
+    value: &Rooted<'_>,
+    table: &TypeTable,
+    at: usize,
+) -> Result<bool, Memory>
+    requires typed { IsTypedAt (table_of table.now) value.now.heap.now value.now.root at }
+    ensures { IfOk result
+        (PutsWhole (shown_text (shape_in table.now) (names_in table.now) value.now.heap.now
+        value.now.root at)
+        text.old.items text.new.items) }
+{
+    let shape = table.shape(at);
+    if !is_asked(shape) {
+        return Ok(false);
+    }
+    match value.root {
+        Val::Int(z) => {
+            put_int_at(text, z, shape, table.names(at))?;
+            Ok(true)
+        }
+        Val::Atom(_) => Ok(false),
+        Val::Ref(o) => {
+            let placed = Placed {
+                heap: value.heap,
+                object: o,
+            };
+            put_flat_object(text, &placed, table, at)
+        }
+    }
+}
+
+// The same of an object.
+#[inline(always)]
+fn put_flat_object(
+    text: &mut Vec<u8>,
+    placed: &Placed<'_>,
+    table: &TypeTable,
+    at: usize,
+) -> Result<bool, Memory>
+    requires typed { IsTypedAt (table_of table.now) placed.now.heap.now
+        (vals.Ref placed.now.object) at }
+    requires asked { IsTrue (is_asked (shape_in table.now at)) }
+    ensures { IfOk result
+        (PutsWhole (shown_text (shape_in table.now) (names_in table.now) placed.now.heap.now
+        (vals.Ref placed.now.object) at)
+        text.old.items text.new.items) }
+{
+    let heap = placed.heap;
+    let word = heap.word(Val::Ref(placed.object));
+    let Kind::Block(tag, _) = heap.kind_at(word) else {
+        put_leaf(text, heap, table, placed.object, word, at)?;
+        return Ok(true);
+    };
+    let block = open_block(placed, table, word, tag, at, 0);
+    if block.needs.len() > FEW {
+        return Ok(false);
+    }
+    block.frame.put_opening(text)?;
+    let whole = put_flat_parts(text, heap, table, &block)?;
+    Ok(whole)
+}
+
+// Puts the parts of a block and what stands after them, up to a part that is not flat.
+#[inline(always)]
+fn put_flat_parts(
+    text: &mut Vec<u8>,
+    heap: &Heap,
+    table: &TypeTable,
+    block: &OpenBlock<'_>,
+) -> Result<bool, Memory>
+    requires open { IsOpen table.now heap.now block.now }
+    ensures { IfOk result
+        (PutsParts table.now heap.now block.now text.old.items text.new.items) }
+{
+    let _count = heap.count();
+    let many = block.needs.len();
+    let mut last = block.object;
+    let mut k = 0;
+    while k < many {
+        let (i, at) = block.needs.get(k);
+        block.frame.put_before(text, k)?;
+        let v = value_at(heap, block.fields, i, last + 1);
+        let word = word_at(block.fields, i);
+        let value = Rooted { heap, root: v };
+        let Some(next) = put_flat_part(text, &value, table, word, at, last)? else {
+            return Ok(false);
+        };
+        last = next;
+        k += 1;
+    }
+    put_end(text, end_of(&block.frame))?;
+    Ok(true)
+}
+
+// Puts a value of this word that has no parts, if it is no object up to the last number, and tells
+// up to which number objects may have been met.
+#[inline(always)]
+fn put_flat_part(
+    text: &mut Vec<u8>,
+    value: &Rooted<'_>,
+    table: &TypeTable,
+    word: u64,
+    at: usize,
+    last: u64,
+) -> Result<Option<u64>, Memory>
+    requires last { last < length value.now.heap.now }
+    requires word { word ≡ word_of value.now.heap.now value.now.root }
+    requires typed { IsTypedAt (table_of table.now) value.now.heap.now value.now.root at }
+    ensures { IfOk result
+        (PutsFlat table.now value.now.heap.now value.now.root at last text.old.items
+        text.new.items) }
+{
+    let heap = value.heap;
+    let shape = table.shape(at);
+    if !is_asked(shape) {
+        put_few(text, b"_")?;
+        return Ok(Some(last));
+    }
+    match value.root {
+        Val::Int(z) => {
+            put_int_at(text, z, shape, table.names(at))?;
+            Ok(Some(last))
+        }
+        Val::Atom(_) => {
+            put_few(text, b"[||]")?;
+            Ok(Some(last))
+        }
+        Val::Ref(o) => {
+            if o <= last {
+                return Ok(None);
+            }
+            let Kind::Block(_, _) = heap.kind_at(word) else {
+                put_leaf(text, heap, table, o, word, at)?;
+                return Ok(Some(o));
+            };
+            Ok(None)
+        }
+    }
+}
