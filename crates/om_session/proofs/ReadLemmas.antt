@@ -365,9 +365,9 @@ last_well-snoc well (s ∷ said) next = last_well-snoc s.well said next
 -- the reader waits for the next one
 pub value_put : (w : Job) (taken : List ℕ) (said : List Said) (values : Values) (v : IsValueRead w values taken said) (tree : Tree) → SpelledUnder (word_limit w) v.whole tree
     → (next : Said) → Says declared_types (work_of w) v.trees tree next → (reader : Reader) → Leads (word_limit w) [] reader → (well : Bool) → well ≡ (values.well && next.well) → (last : Bool) → last ≡ next.well
-    → (kept : Vec Value Global) (earlier : Vec Earlier Global) → IsKept w (v.trees ++ tree ∷ []) kept.items earlier.items
-    → HasRead w (record { reader = reader; well = well; last = last; count = values.count + 1; kept = kept; earlier = earlier }) taken (said ++ next ∷ [])
-value_put w taken said values v tree spelled next it_says reader leads well is_well last is_last kept earlier are = record {
+    → (kept : Vec Value Global) (earlier : Vec Earlier Global) → IsKept w (v.trees ++ tree ∷ []) kept.items earlier.items → (line : Vec ℕ Global)
+    → HasRead w (record { reader = reader; well = well; last = last; count = values.count + 1; kept = kept; earlier = earlier; line = line }) taken (said ++ next ∷ [])
+value_put w taken said values v tree spelled next it_says reader leads well is_well last is_last kept earlier are line = record {
   ready = v.ready;
   trees = v.trees ++ tree ∷ [];
   front = [];
@@ -390,12 +390,13 @@ zip_push (v ∷ kept) (t ∷ trees) value tree are is = (are.0, zip_push kept tr
 -- it is kept
 pub value_kept : (most : ℕ) (taken : List ℕ) (said : List Said) (values : Values) (v : IsValueRead (jobs.Compare most) values taken said) (value : Value) (f : Finishes most v.whole value)
     → (kept : Vec Value Global) → kept.items ≡ values.kept.items ++ value ∷ [] → (reader : Reader) → Leads most [] reader
-    → HasRead (jobs.Compare most) (record { reader = reader; well = values.well; last = true; count = values.count + 1; kept = kept; earlier = values.earlier }) taken (said ++ nothing_said ∷ [])
+    → HasRead (jobs.Compare most) (record { reader = reader; well = values.well; last = true; count = values.count + 1; kept = kept; earlier = values.earlier; line = values.line }) taken (said ++ nothing_said ∷ [])
 value_kept most taken said values v value f kept same reader leads =
     value_put (jobs.Compare most) taken said values v f.tree f.spelled nothing_said (v.may, refl) reader leads values.well (sym (and_true values.well)) true refl kept values.earlier
     (let few = v.may in
     let size = length-append v.trees (f.tree ∷ []) in
     (subst (λ k. AllZip IsValueOf k (v.trees ++ f.tree ∷ [])) (sym same) (zip_push values.kept.items v.trees value f.tree v.kept.0 f.is_value), omega (arith, few, size)))
+    values.line
 
 -- where the work is known by an equation
 pub kept_next : (w : Job) (most : ℕ) (taken : List ℕ) (said : List Said) (values : Values) → IsValueRead w values taken said → w ≡ jobs.Compare most → (new : Values) (o : ByteState)
@@ -534,7 +535,7 @@ module _ (e : Edits) (most : ℕ) (taken : List ℕ) (said : List Said) (values 
       → EditsAll e.requested.now v.kept.others values.count e.script.now.lines value new
       → (reader : Reader) → Leads most [] reader → (earlier : Vec Earlier Global) → AreMade (all_made new) earlier.items → AreEarlier e.script.now.lines (values.count + 1) earlier.items
       → (next : Said)
-      × HasRead (jobs.Edit e most) (record { reader = reader; well = values.well; last = true; count = values.count + 1; kept = values.kept; earlier = earlier }) taken (said ++ next ∷ [])
+      × HasRead (jobs.Edit e most) (record { reader = reader; well = values.well; last = true; count = values.count + 1; kept = values.kept; earlier = earlier; line = values.line }) taken (said ++ next ∷ [])
       × Puts out next.text
   edited_put new out (bytes, it, put) all reader leads earlier are needed = (
     edited_said bytes,
@@ -544,7 +545,8 @@ module _ (e : Edits) (most : ℕ) (taken : List ℕ) (said : List Said) (values 
           done = made_last new all;
           kept = are;
           needed = subst (λ n. AreEarlier e.script.now.lines n earlier.items) (ap (λ n. n + 1) v.counted ∙ sym (length-append v.trees (f.tree ∷ []))) needed;
-        }),
+        })
+        values.line,
     put,
   )
 

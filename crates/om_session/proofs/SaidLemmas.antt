@@ -1,6 +1,7 @@
 -- What is said of a value, put, and what of that is said of the values so far.
 use Rattle.std.proofs.Common.{◌≡◌, ℕ, ◌+◌, Bool, List, [], ◌∷◌, ◌++◌, Result, Ok, Err, inl, refl, sym, subst}
-use Rattle.std.specs.Prelude.{◌&&◌, IsErrAnd}
+use Rattle.std.specs.Prelude.{◌&&◌, IsErrAnd, Vec}
+use Rattle.std.specs.declared.alloc.Global.{Global}
 use Rattle.om_model.specs.declared.value.Val.{Val}
 use Rattle.om_model.specs.declared.value.Obj.{Obj}
 use Rattle.om_edge.specs.Sink.{Puts, PutsPart}
@@ -36,10 +37,11 @@ module _ (speech : Speech) (most : ℕ) (taken : List ℕ) (said : List Said) (v
     (f : Finishes most v.whole value) where
   -- it was put, and the reader waits for the next value
   pub said_put : (out : Change ByteState) (well : Bool) → PutsSaid speech value.heap value.root out (Ok well) → (reader : Reader) → Leads most [] reader → (all : Bool) → all ≡ (values.well && well)
-      → (next : Said) × HasRead (jobs.Say speech most) (record { reader = reader; well = all; last = well; count = values.count + 1; kept = values.kept; earlier = values.earlier }) taken (said ++ next ∷ []) × Puts out next.text
-  said_put out well (text, it, put) reader leads all is =
+      → (line : Vec ℕ Global)
+      → (next : Said) × HasRead (jobs.Say speech most) (record { reader = reader; well = all; last = well; count = values.count + 1; kept = values.kept; earlier = values.earlier; line = line }) taken (said ++ next ∷ []) × Puts out next.text
+  said_put out well (text, it, put) reader leads all is line =
       let next : Said = record { text = text; well = well } in
-      (next, value_put (jobs.Say speech most) taken said values v f.tree f.spelled next (says_read speech v.trees value f.tree text well f.is_value it) reader leads all is well refl values.kept values.earlier tt, put)
+      (next, value_put (jobs.Say speech most) taken said values v f.tree f.spelled next (says_read speech v.trees value f.tree text well f.is_value it) reader leads all is well refl values.kept values.earlier tt line, put)
 
   said_halt : (out : Change ByteState) (halt : Halt) (new : Values) → PutsSaid speech value.heap value.root out (Err halt)
       → PutsNext {U = Unit {0}} (jobs.Say speech most) taken said v.trees v.whole out new (Err halt)

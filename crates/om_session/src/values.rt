@@ -73,19 +73,32 @@ fn keep(kept: &mut Vec<Value>, value: Value) -> Result<(), Memory>
     Ok(kept.push(value)?)
 }
 
-/// Puts what is said of a value, and answers whether nothing is wrong with it.
+/// The memory of a line of no more bytes is kept for the lines to come.
+const ROOM_KEPT: usize = 1 << 20;
+
+/// Gives the memory of a longer line back.
+fn give_back(line: &mut Vec<u8>, alloc: Global) {
+    if line.capacity() > ROOM_KEPT {
+        *line = Vec::new(alloc);
+    }
+}
+
+/// Puts what is said of a value, and answers whether nothing is wrong with it. The line is made in
+/// the memory of the line before.
 fn put_said<K: Sink>(
     alloc: Global,
     value: &Rooted<'_>,
     speech: Speech<'_>,
+    line: &mut Vec<u8>,
     out: &mut K,
 ) -> Result<bool, Halt>
     ensures { PutsSaid speech.entry value.now.heap.now value.now.root
         (change (K.state out.old) (K.state out.new)) result }
 {
-    let line = line_of(alloc, value, speech)?;
-    put_all(out, line.text.as_slice())?;
-    Ok(line.well)
+    let well = line_of(line, alloc, value, speech)?;
+    put_all(out, line.as_slice())?;
+    give_back(line, alloc);
+    Ok(well)
 }
 
 /// The line on two values.
@@ -111,8 +124,8 @@ fn compare<K: Sink>(alloc: Global, kept: &[Value], out: &mut K) -> Result<bool, 
 }
 
 /// The values so far: how many there are, whether nothing is wrong with any and with the last one,
-/// those that are kept to be compared, those that later lines copy parts of, and the reader of the
-/// next one.
+/// those that are kept to be compared, those that later lines copy parts of, the reader of the next
+/// one, and the line of the last one.
 #[derive(Drop)]
 pub struct Values {
     reader: Reader,
@@ -121,6 +134,7 @@ pub struct Values {
     pub count: u64,
     kept: Vec<Value>,
     earlier: Vec<Earlier>,
+    line: Vec<u8>,
 }
 
 impl Values {
@@ -136,6 +150,7 @@ impl Values {
             count: 0,
             kept: Vec::new(alloc),
             earlier: Vec::new(alloc),
+            line: Vec::new(alloc),
         }
     }
 
@@ -172,7 +187,7 @@ impl Values {
             heap: value.heap,
             root: value.root,
         };
-        let well = put_said(alloc, &lent, speech, out)?;
+        let well = put_said(alloc, &lent, speech, &mut self.line, out)?;
         self.reader.restart(limit);
         self.well &= well;
         self.last = well;

@@ -15,13 +15,12 @@ ghost use Rattle.om_outcome.specs.Outcome.{the_part, the_trees};
 ghost use Rattle.om_declared.specs.Verdict.{IsVerdictOf, PutsNo};
 ghost use Rattle.om_tree_check.specs.VerdictText.{is_sound as is_sound_verdict};
 
-use om_check::Verdict;
+use om_check::{Verdict, surely_has};
 use om_decimal_texts::put_decimal_text;
 use om_declared::{Requested, find_verdict, put_near_no, put_no};
 use om_fault::walk;
 use om_heap::Rooted;
 use om_model::Memory;
-use om_model::list::List;
 use om_model::path::Path;
 use om_outcome::style::Style;
 use om_pretty::put_pretty;
@@ -51,62 +50,53 @@ pub enum Speech<'a> {
     Dump,
 }
 
-/// What is said with its line feeds, and whether nothing is wrong with the value.
-#[derive(Drop)]
-pub struct Line {
-    pub text: List<u8>,
-    pub well: bool,
-}
-
-/// Most lines on small values have no more bytes.
-const ROOM: usize = 96;
-
-/// What is said of a value.
-pub fn line_of(alloc: Global, value: &Rooted<'_>, speech: Speech<'_>) -> Result<Line, Memory>
+/// Puts what is said of a value, with its line feeds, in place of what was there, and answers
+/// whether nothing is wrong with the value.
+pub fn line_of(
+    line: &mut Vec<u8>,
+    alloc: Global,
+    value: &Rooted<'_>,
+    speech: Speech<'_>,
+) -> Result<bool, Memory>
     ensures { IfOk result
-        (λ line. IsSaidOf speech.entry value.now.heap.now value.now.root line.text line.well) }
+        (IsSaidOf speech.entry value.now.heap.now value.now.root line.new.items) }
 {
     match speech {
-        Speech::Tell(requested, saying) => told_line(alloc, value, requested, saying),
-        Speech::Dump => dumped_lines(alloc, value),
+        Speech::Tell(requested, saying) => told_line(line, alloc, value, requested, saying),
+        Speech::Dump => dumped_lines(line, value),
     }
 }
 
-/// The lines of a value as it is.
-fn dumped_lines(alloc: Global, value: &Rooted<'_>) -> Result<Line, Memory>
+/// Puts the lines of a value as it is in place of what was there.
+fn dumped_lines(line: &mut Vec<u8>, value: &Rooted<'_>) -> Result<bool, Memory>
     ensures { IfOk result
-        (λ line. IsSaidOf speeches.Dump value.now.heap.now value.now.root line.text line.well) }
+        (IsSaidOf speeches.Dump value.now.heap.now value.now.root line.new.items) }
 {
-    let mut text = Vec::with_capacity(alloc, ROOM)?;
-    put_dump(&mut text, value)?;
-    Ok(Line {
-        text: List::of(text),
-        well: true,
-    })
+    line.clear();
+    put_dump(line, value)?;
+    Ok(true)
 }
 
-/// Checks a value against a type, and says what comes of that.
+/// Checks a value against a type, and puts what comes of that in place of what was there.
 fn told_line(
+    line: &mut Vec<u8>,
     alloc: Global,
     value: &Rooted<'_>,
     requested: &Requested,
     saying: Saying<'_>,
-) -> Result<Line, Memory>
+) -> Result<bool, Memory>
     ensures { IfOk result
-        (λ line. IsSaidOf (speeches.Tell requested.entry saying.entry) value.now.heap.now
-        value.now.root line.text line.well) }
+        (IsSaidOf (speeches.Tell requested.entry saying.entry) value.now.heap.now value.now.root
+        line.new.items) }
 {
-    let mut text = Vec::with_capacity(alloc, ROOM)?;
-    let well = put_checked(&mut text, alloc, value, requested, saying)?;
-    put(&mut text, b"\n")?;
-    Ok(Line {
-        text: List::of(text),
-        well,
-    })
+    line.clear();
+    let well = put_checked(line, alloc, value, requested, saying)?;
+    put(line, b"\n")?;
+    Ok(well)
 }
 
 /// Checks a value against a type, puts what is told of it at the end, and answers whether nothing
-/// is wrong with it.
+/// is wrong with it. Of most small values a few tests tell that they have the type.
 fn put_checked(
     text: &mut Vec<u8>,
     alloc: Global,
@@ -121,6 +111,9 @@ fn put_checked(
     let told = put_soon(text, alloc, value, requested, saying)?;
     if told {
         return Ok(false);
+    }
+    if surely_has(value.heap, value.root, requested.table()) {
+        return put_told(text, alloc, value, requested, saying);
     }
     let verdict = find_verdict(alloc, value, requested)?;
     put_line(text, alloc, value, requested, saying, &verdict)

@@ -24,4 +24,4 @@ pub returns : goal.returns
 returns g c = λ taken said v.
     let value : Value = record { heap = c.lend-value.result.heap.now; root = c.lend-value.result.root } in
     said_put c.args.speech c.args.limit taken said c.args.self.now v value (c.lend-value.ensures c.args.limit v.whole v.leads)
-    (change (g.K.Sink.state c.args.out.now) (g.K.Sink.state c.put_said.new.out)) c.in_ok-well.well c.in_ok-well.ensures c.restart.new.self c.restart.ensures.leads _ refl
+    (change (g.K.Sink.state c.args.out.now) (g.K.Sink.state c.put_said.new.out)) c.in_ok-well.well c.in_ok-well.ensures c.restart.new.self c.restart.ensures.leads _ refl c.put_said.new.line
