@@ -54,6 +54,7 @@ pub trait Sink {
 }
 
 /// Puts all the bytes, in as many calls as the sink asks for. For no bytes there is no call.
+#[inline(always)]
 pub fn put_all<K: Sink>(sink: &mut K, bytes: &[u8]) -> Result<(), Failed>
     ensures puts { MatchResult result
         (λ _. Puts (change (K.state sink.old) (K.state sink.new)) bytes.now)
