@@ -29,6 +29,7 @@ pub enum HeadFault {
 
 /// The step that the first bytes of a value decide (`intern.c`). Bytes may follow the header.
 #[tactic(auto, unfolding(om_format::specs::Header::head_of))]
+#[inline(always)]
 pub fn parse(bytes: &[u8]) -> Result<HeaderStep, HeadFault>
     ensures step { result ≡ header_step bytes.now }
     ensures says { MatchResult result (IsStep bytes.now) (IsFault bytes.now) }
