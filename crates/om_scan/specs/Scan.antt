@@ -1,7 +1,7 @@
 -- What a scan knows on its way.
 use Rattle.std.specs.Prelude.{ℕ, suc, ◌+◌, ◌^◌, ◌≡◌, ◌⊎◌, ◌<◌, ◌≤◌, List, [], length, take, Option}
-use Rattle.std.specs.Prelude.{Some, None, slice_get, slice_index, Contains, false, IsTrue}
-use Rattle.std.specs.Prelude.{MatchOption}
+use Rattle.std.specs.Prelude.{Some, None, slice_get, slice_index, Contains, IsTrue, MatchOption}
+use Rattle.std.specs.Prelude.{Bool, true, false}
 use Rattle.om_model.specs.declared.value.Val.{Val}
 use Rattle.om_model.specs.declared.value.Val.TheVariants as vals
 use Rattle.om_model.specs.declared.value.Obj.{Obj}
@@ -187,6 +187,17 @@ Stops table graph marks noted o (stops.Needs t unmet) =
     (mark_of graph marks o ≡ suc t)
     × ((table_shapes table).fits graph (vals.Ref o) t × IsUnmet table graph marks noted o t unmet)
 
+-- All needs of an object are met, or noted, in a step and one for each; or one is the first that is
+-- not, and no step is counted.
+abbrev pub IsTried :
+    Table → List Obj → List ℕ → List (ℕ × ℕ) → ℕ → ℕ → ℕ → ℕ → Stop → Bool → Type 0
+IsTried table graph marks noted o t old new stop true =
+    AreMet table graph marks noted o t (length (object_typed table graph o t))
+    × (new ≤ old + 1 + length (object_typed table graph o t))
+IsTried table graph marks noted o t old new stop false =
+    (unmet : Unmet) × (stop ≡ stops.Needs t unmet)
+    × (IsUnmet table graph marks noted o t unmet × (new ≡ old))
+
 -- an object that fits stands in the row with its type
 abbrev pub IsInRow : List ℕ → ℕ → Stop → Type 0
 IsInRow types o stops.Unmarked = Unit {0}
@@ -225,10 +236,3 @@ pub record IsStopped (table : Table) (graph : List Obj) (marks types : List ℕ)
   pub noted : AreNotes table graph marks types (o + 1) notes
   pub stops : Stops table graph marks (noted_in notes.seconds) o stop
   pub row : IsInRow types o stop
-
--- The object is taken too, or ends the scan.
-abbrev pub IsTurned : Table → List Obj → List ℕ → List ℕ → Notes → ℕ → ℕ → Option Stop → Type 0
-IsTurned table graph marks types notes o steps None =
-    IsGoing table graph marks types notes (o + 1) steps
-IsTurned table graph marks types notes o steps (Some stop) =
-    IsStopped table graph marks types notes o steps stop

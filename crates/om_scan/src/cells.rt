@@ -95,6 +95,7 @@ fn zeros(alloc: Global, places: usize, most: usize) -> Result<Row, Memory>
 }
 
 /// The number at a place of any row.
+#[cold]
 #[inline(never)]
 fn number_at(row: &Row, place: usize) -> u64
     requires { place < length (numbers_in row.now) }
@@ -121,6 +122,7 @@ fn put(row: &mut Row, place: usize, number: u64) -> Result<(), Memory>
 }
 
 /// Puts a number at a place of any row. One that is larger than any that was to come finds no room.
+#[cold]
 #[inline(never)]
 fn put_in_any(row: &mut Row, place: usize, number: u64) -> Result<(), Memory>
     requires { place < length (numbers_in row.old) }

@@ -11,8 +11,8 @@ use std::collections::BTreeSet;
 /// Objects with classes. Of each object one class has a cell of its own.
 #[derive(Drop)]
 pub struct Classed {
-    /// For each object one more than its class, or 0. There are none before so many pairs came that
-    /// the cells take no more room than these.
+    /// For each object one more than its class, or 0. There are no cells before one pair came for
+    /// each 64 objects.
     pub cells: Vec<u16>,
     /// What is in no cell.
     pub more: BTreeSet<(u64, usize)>,
@@ -47,8 +47,9 @@ impl Classed {
         Ok(added)
     }
 
-    /// Puts the first pair that is in no cell into its object's cell, if that is free. So pairs
-    /// that came before there were cells are in no one's way for long.
+    /// Puts the first pair that is in no cell into its object's cell, if that is free and has room
+    /// for the class. So pairs that came before there were cells go into them one by one, up to the
+    /// first that cannot.
     fn shift(&mut self)
         ensures { (o c : ℕ) → Has self.old o c ↔ Has self.new o c }
     {
@@ -82,8 +83,7 @@ impl Classed {
     }
 }
 
-/// Makes a cell for each object, if there is none: as long as few pairs are there, they take less
-/// room than the cells would.
+/// Makes a cell for each object, if there is none and one pair is there for each 64 objects.
 fn make_cells(cells: &mut Vec<u16>, pairs: usize, objects: usize) -> Result<(), Memory>
     ensures { OnOk result (AreAlike cells.old.items cells.new.items) }
 {

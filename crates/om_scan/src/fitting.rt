@@ -29,6 +29,7 @@ pub fn fits_type(heap: &Heap, fitting: Fitting<'_>, ty: usize, word: u64) -> boo
 }
 
 /// The same by the kind of the value.
+#[cold]
 #[inline(never)]
 fn fits_by_kind(heap: &Heap, table: &TypeTable, ty: usize, word: u64) -> bool
     requires word { IsFieldWord heap.now word }

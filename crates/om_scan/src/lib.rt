@@ -4,6 +4,7 @@
 mod cells;
 mod classed;
 mod fitting;
+mod listed;
 mod notes;
 mod pairs;
 mod passed;

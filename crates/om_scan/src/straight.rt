@@ -19,10 +19,12 @@ ghost use Rattle.om_scan.specs.Seconds.{noted_in, AreSeconds};
 ghost use Rattle.om_scan.specs.Scan.{mark_of, AreMarks, AreKept, IsMet, IsOther, AreMet, IsUnmet};
 ghost use Rattle.om_scan.specs.Scan.{AreNoted, AreStillNoted, IsNotedAt, first_or, first_of};
 ghost use Rattle.om_scan.specs.Scan.{Continues, IsUnfit, IsWhole, IsToldIn, IsInRow, IsStoppedAt};
-ghost use Rattle.om_scan.specs.Scan.{IsGoing, IsStopped, IsScanning, Stops, IsTurned};
+ghost use Rattle.om_scan.specs.Scan.{IsGoing, IsStopped, IsScanning, Stops, IsTried};
+ghost use Rattle.om_scan.specs.declared.straight.Stop.TheVariants as stops;
 
 use crate::cells::Cells;
 use crate::fitting::fits_type;
+use crate::listed::{listed_types, needs_nothing};
 use crate::notes::{First, Notes, Unmet};
 use crate::passed::hidden_type;
 use crate::rows::Fitting;
@@ -98,9 +100,10 @@ pub fn scan(
     let mut notes = Notes::none(alloc);
     let mut taken = Steps::new();
     let hidden = hidden_type(heap, fitting.table);
+    let mut stop = Stop::Unmarked;
     for o in 0..heap.count() {
-        if let Some(stop) = take_object(
-            heap, fitting, &mut marks, &mut notes, &mut types, o, hidden, &mut taken,
+        if !take_object(
+            heap, fitting, &mut marks, &mut notes, &mut types, o, hidden, &mut taken, &mut stop,
         )? {
             let (first, before) = stopped(
                 heap,
@@ -269,8 +272,8 @@ fn stop_at(
 }
 
 /// Takes object o at the type that it is marked with; one that is not marked is passed. Where it is
-/// not marked and cannot be passed, does not fit or a need is not met, it is not taken, and that is
-/// the answer.
+/// not marked and cannot be passed, does not fit or a need is not met, it is not taken: the answer
+/// is no, and `stop` says why.
 #[inline(always)]
 fn take_object(
     heap: &Heap,
@@ -281,41 +284,44 @@ fn take_object(
     o: u64,
     hidden: Option<usize>,
     taken: &mut Steps,
-) -> Result<Option<Stop>, Memory>
+    stop: &mut Stop,
+) -> Result<bool, Memory>
     requires object { o < length heap.now }
     requires many { length types.old ≡ length heap.now }
     requires going { IsGoing (table_in fitting) heap.now marks.old types.old notes.old o
         taken.old }
-    requires root { (table_shapes (table_in fitting)).fits heap.now (vals.Ref 0) 0 }
     requires hidden { IfSome hidden (IsHidden (table_in fitting)) }
     ensures many { OnOk result (length types.new ≡ length heap.now) }
-    ensures turned { IfOk result
-        (IsTurned (table_in fitting.entry) heap.now marks.new types.new notes.new o taken.new) }
+    ensures going { IfOk result
+        (λ going. OnTrue going
+        (IsGoing (table_in fitting.entry) heap.now marks.new types.new notes.new (o + 1)
+        taken.new)) }
+    ensures stopped { IfOk result
+        (λ going. OnFalse going
+        (IsStopped (table_in fitting.entry) heap.now marks.new types.new notes.new o taken.new
+        stop.new)) }
 {
     let word = heap.word(Val::Ref(o));
     let mark = marks.get(heap.key(word));
     if mark == 0 {
-        return pass_object(heap, fitting.table, marks, notes, types, o, hidden, taken);
+        *stop = Stop::Unmarked;
+        let passed = pass_object(heap, fitting.table, marks, notes, types, o, hidden, taken)?;
+        return Ok(passed);
     }
     let ty = mark as usize - 1;
-    if !fits_mark(heap, fitting, o, word, ty) {
-        return Ok(Some(Stop::Misfits));
+    if !fits_type(heap, fitting, ty, word) {
+        *stop = Stop::Misfits;
+        return Ok(false);
     }
     types.set(o as usize, ty as u64)?;
-    let Some(needs) = known_needs(heap, o, fitting.table.shape(ty)) else {
-        return Ok(Some(Stop::Misfits));
-    };
-    let many = needs.len();
-    if let Some(unmet) = meet_all(heap, fitting, marks, notes, o, word, ty, needs, taken)? {
-        return Ok(Some(Stop::Needs(ty, unmet)));
-    }
-    taken.raise();
-    taken.raise_by(many);
-    Ok(None)
+    let met = meet_all(heap, fitting, marks, notes, o, word, ty, taken, stop)?;
+    Ok(met)
 }
 
-/// Passes object o, which is not marked: it is told at a type of whose values nothing is asked, and
-/// no step is counted. A later need at another type finds it marked with that type, and is noted.
+/// Passes object o, which is not marked, where it can be: it is told at a type of whose values
+/// nothing is asked, and no step is counted. A later need at another type finds it marked with that
+/// type, and is noted.
+#[cold]
 #[inline(never)]
 fn pass_object(
     heap: &Heap,
@@ -326,7 +332,7 @@ fn pass_object(
     o: u64,
     hidden: Option<usize>,
     _taken: &Steps,
-) -> Result<Option<Stop>, Memory>
+) -> Result<bool, Memory>
     requires object { o < length heap.now }
     requires many { length types.old ≡ length heap.now }
     requires going { IsGoing (table_of _table.now) heap.now marks.old types.old _notes.now o
@@ -334,38 +340,28 @@ fn pass_object(
     requires unmarked { mark_of heap.now marks.old o ≡ 0 }
     requires hidden { IfSome hidden (IsHidden (table_of _table.now)) }
     ensures many { OnOk result (length types.new ≡ length heap.now) }
-    ensures turned { IfOk result
-        (IsTurned (table_of _table.now) heap.now marks.new types.new _notes.now o _taken.now) }
+    ensures going { IfOk result
+        (λ going. OnTrue going
+        (IsGoing (table_of _table.now) heap.now marks.new types.new _notes.now (o + 1)
+        _taken.now)) }
+    ensures stopped { IfOk result
+        (λ going. OnFalse going
+        (IsStopped (table_of _table.now) heap.now marks.new types.new _notes.now o _taken.now
+        stops.Unmarked)) }
 {
     let Some(ty) = hidden else {
-        return Ok(Some(Stop::Unmarked));
+        return Ok(false);
     };
     let Some(mark) = (ty as u64).checked_add(1) else {
         return Err(Memory);
     };
     marks.set(heap.key(heap.word(Val::Ref(o))), mark)?;
     types.set(o as usize, ty as u64)?;
-    Ok(None)
+    Ok(true)
 }
 
-/// Whether object o, which has this word, fits the type that it is marked with. The first one does.
-#[inline(always)]
-fn fits_mark(heap: &Heap, fitting: Fitting<'_>, o: u64, word: u64, ty: usize) -> bool
-    requires object { o < length heap.now }
-    requires word { word ≡ word_of heap.now (vals.Ref o) }
-    requires node { ty < length fitting.table.now.nodes }
-    requires root { o ≡ 0 → (table_shapes (table_in fitting)).fits heap.now (vals.Ref 0) ty }
-    ensures { IsTrue result
-        ↔ (table_shapes (table_in fitting.entry)).fits heap.now (vals.Ref o) ty }
-{
-    if o == 0 {
-        return true;
-    }
-    fits_type(heap, fitting, ty, word)
-}
-
-/// Tests the needs of an object, which has this word, at a type. The answer is the first that is
-/// not met.
+/// Tests the needs of an object, which has this word and fits, at a type, and counts the steps. The
+/// answer is whether all are met; where not, `stop` says the first that is not.
 #[inline(always)]
 fn meet_all(
     heap: &Heap,
@@ -375,9 +371,96 @@ fn meet_all(
     o: u64,
     word: u64,
     ty: usize,
+    taken: &mut Steps,
+    stop: &mut Stop,
+) -> Result<bool, Memory>
+    requires object { o < length heap.now }
+    requires word { word ≡ word_of heap.now (vals.Ref o) }
+    requires node { ty < length fitting.table.now.nodes }
+    requires fits { (table_shapes (table_in fitting)).fits heap.now (vals.Ref o) ty }
+    requires marks { AreMarks (table_in fitting) heap.now marks.old }
+    requires noted { AreNoted (table_in fitting) heap.now marks.old notes.old.seconds }
+    requires whole { IsWhole notes.old }
+    requires path { IsLed (table_in fitting) heap.now o ty }
+    ensures marks { OnOk result (AreMarks (table_in fitting.entry) heap.now marks.new) }
+    ensures kept { OnOk result (AreKept marks.old marks.new) }
+    ensures noted { OnOk result
+        (AreNoted (table_in fitting.entry) heap.now marks.new notes.new.seconds) }
+    ensures still { OnOk result
+        (AreStillNoted (noted_in notes.old.seconds) (noted_in notes.new.seconds)) }
+    ensures told { OnOk result
+        (IsToldIn (table_in fitting.entry) heap.now marks.new o ty taken.old notes.old notes.new) }
+    ensures tried { IfOk result
+        (IsTried (table_in fitting.entry) heap.now marks.new (noted_in notes.new.seconds) o ty
+        taken.old taken.new stop.new) }
+{
+    let shape = fitting.table.shape(ty);
+    if let Some(types) = listed_types(heap, o, word, shape) {
+        let needs = Needs::Listed(types);
+        let met = meet_counted(heap, fitting, marks, notes, o, word, ty, needs, taken, stop)?;
+        return Ok(met);
+    }
+    if needs_nothing(shape) {
+        let needs = Needs::Nothing;
+        let met = meet_counted(heap, fitting, marks, notes, o, word, ty, needs, taken, stop)?;
+        return Ok(met);
+    }
+    let met = meet_others(heap, fitting, marks, notes, o, word, ty, taken, stop)?;
+    Ok(met)
+}
+
+/// The same at any type.
+#[cold]
+#[inline(never)]
+fn meet_others(
+    heap: &Heap,
+    fitting: Fitting<'_>,
+    marks: &mut Cells,
+    notes: &mut Notes,
+    o: u64,
+    word: u64,
+    ty: usize,
+    taken: &mut Steps,
+    stop: &mut Stop,
+) -> Result<bool, Memory>
+    requires object { o < length heap.now }
+    requires word { word ≡ word_of heap.now (vals.Ref o) }
+    requires node { ty < length fitting.table.now.nodes }
+    requires fits { (table_shapes (table_in fitting)).fits heap.now (vals.Ref o) ty }
+    requires marks { AreMarks (table_in fitting) heap.now marks.old }
+    requires noted { AreNoted (table_in fitting) heap.now marks.old notes.old.seconds }
+    requires whole { IsWhole notes.old }
+    requires path { IsLed (table_in fitting) heap.now o ty }
+    ensures marks { OnOk result (AreMarks (table_in fitting.entry) heap.now marks.new) }
+    ensures kept { OnOk result (AreKept marks.old marks.new) }
+    ensures noted { OnOk result
+        (AreNoted (table_in fitting.entry) heap.now marks.new notes.new.seconds) }
+    ensures still { OnOk result
+        (AreStillNoted (noted_in notes.old.seconds) (noted_in notes.new.seconds)) }
+    ensures told { OnOk result
+        (IsToldIn (table_in fitting.entry) heap.now marks.new o ty taken.old notes.old notes.new) }
+    ensures tried { IfOk result
+        (IsTried (table_in fitting.entry) heap.now marks.new (noted_in notes.new.seconds) o ty
+        taken.old taken.new stop.new) }
+{
+    let needs = known_needs(heap, o, fitting.table.shape(ty)).unwrap();
+    meet_counted(heap, fitting, marks, notes, o, word, ty, needs, taken, stop)
+}
+
+/// The same where these are the needs.
+#[inline(always)]
+fn meet_counted(
+    heap: &Heap,
+    fitting: Fitting<'_>,
+    marks: &mut Cells,
+    notes: &mut Notes,
+    o: u64,
+    word: u64,
+    ty: usize,
     needs: Needs<'_>,
-    taken: &Steps,
-) -> Result<Option<Unmet>, Memory>
+    taken: &mut Steps,
+    stop: &mut Stop,
+) -> Result<bool, Memory>
     requires object { o < length heap.now }
     requires word { word ≡ word_of heap.now (vals.Ref o) }
     requires node { ty < length fitting.table.now.nodes }
@@ -393,30 +476,23 @@ fn meet_all(
     ensures still { OnOk result
         (AreStillNoted (noted_in notes.old.seconds) (noted_in notes.new.seconds)) }
     ensures told { OnOk result
-        (IsToldIn (table_in fitting.entry) heap.now marks.new o ty taken.now notes.old notes.new) }
-    ensures met { IfOk result
-        (λ unmet. MatchOption unmet
-        (AreMet (table_in fitting.entry) heap.now marks.new (noted_in notes.new.seconds) o ty
-        (length (object_typed (table_in fitting.entry) heap.now o ty)))
-        (IsUnmet (table_in fitting.entry) heap.now marks.new (noted_in notes.new.seconds) o ty)) }
+        (IsToldIn (table_in fitting.entry) heap.now marks.new o ty taken.old notes.old notes.new) }
+    ensures tried { IfOk result
+        (IsTried (table_in fitting.entry) heap.now marks.new (noted_in notes.new.seconds) o ty
+        taken.old taken.new stop.new) }
 {
-    match needs {
-        Needs::Listed(types) => meet_each(
-            heap,
-            fitting,
-            marks,
-            notes,
-            o,
-            word,
-            ty,
-            Needs::Listed(types),
-            taken,
-        ),
-        _ => meet_each(heap, fitting, marks, notes, o, word, ty, needs, taken),
+    let many = needs.len();
+    if let Some(unmet) = meet_each(heap, fitting, marks, notes, o, word, ty, needs, taken)? {
+        *stop = Stop::Needs(ty, unmet);
+        return Ok(false);
     }
+    taken.raise();
+    taken.raise_by(many);
+    Ok(true)
 }
 
-/// The same, compiled anew for each kind of needs.
+/// Tests the needs of an object, which has this word, at a type. The answer is the first that is
+/// not met.
 #[inline(always)]
 fn meet_each(
     heap: &Heap,
@@ -534,6 +610,7 @@ fn meet_need(
 
 /// Notes the object of a word, which was met before at another class, at a type. It is the value of
 /// a need of object o.
+#[cold]
 #[inline(never)]
 fn note(
     heap: &Heap,
@@ -640,6 +717,7 @@ fn meet(
 }
 
 /// Whether two types are equal.
+#[cold]
 #[inline(never)]
 fn is_same(table: &TypeTable, t: usize, u: usize) -> bool
     requires t { t < length table.now.classes }

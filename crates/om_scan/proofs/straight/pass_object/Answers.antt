@@ -7,8 +7,8 @@ use Rattle.om_scan.specs.Scan.{IsGoing}
 use Rattle.om_scan.proofs.NoteLemmas.{passed}
 use Rattle.om_scan.proofs.straight.pass_object.Goals as goal
 
-pub returns-clause-turned : goal.returns-clause-turned
-returns-clause-turned c =
+pub returns-clause-going : goal.returns-clause-going
+returns-clause-going c =
     let t = table_of c.args._table.now in
     let graph = c.args.heap.now in
     let ty = c.in-Some.ty in

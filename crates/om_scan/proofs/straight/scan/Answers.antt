@@ -1,16 +1,22 @@
 use Rattle.std.proofs.Common.{◌≡◌, ◌∙◌, length, refl, ap, subst, arith}
 use Rattle.std.specs.Prelude.{slice_set}
+use Rattle.std.proofs.lemmas.Bool.{OnTrue_at, OnFalse_at}
 use Rattle.std.proofs.lemmas.List.{length-replicate}
 use Rattle.om_type_table.specs.Made.{table_of}
-use Rattle.om_scan.specs.Scan.{IsGoing, IsTurned}
+use Rattle.om_scan.specs.Scan.{IsGoing}
 use Rattle.om_scan.proofs.ScanLemmas.{scanning_none}
 use Rattle.om_scan.proofs.NoteLemmas.{notes_none}
 use Rattle.om_scan.proofs.straight.scan.Goals as goal
 
 pub stopped-first-requires-clause-stopped : goal.stopped-first-requires-clause-stopped
-stopped-first-requires-clause-stopped c =
-    subst (IsTurned (table_of c.args.fitting.table.now) c.args.heap.now c.take_object.new.marks c.take_object.new.types c.take_object.new.notes c.loop-o.o c.take_object.new.taken)
-    c.in-Some.is c.in_ok-stop.ensures.turned
+stopped-first-requires-clause-stopped c = OnFalse_at c.if-not-branch.true c.in_ok-take_object.ensures.stopped
+
+pub loop-o-preserved : goal.loop-o-preserved
+loop-o-preserved c = (
+  c.in_ok-take_object.ensures.many,
+  c.loop-o.invariant.1,
+  OnTrue_at c.if-not-branch.false c.in_ok-take_object.ensures.going,
+)
 
 pub told-requires-clause-going : goal.told-requires-clause-going
 told-requires-clause-going c =

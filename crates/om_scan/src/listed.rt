@@ -1,0 +1,77 @@
+//! The needs of the objects of most types.
+
+ghost use Rattle.std.specs.Prelude.{◌≡◌, ◌<◌, List, length, slice_get, option_map, Some, []};
+ghost use Rattle.std.specs.Prelude.{IsSome, IsTrue, IfSome};
+ghost use Rattle.om_model.specs.declared.value.Obj.{Obj};
+ghost use Rattle.om_model.specs.declared.value.Val.{Val};
+ghost use Rattle.om_model.specs.declared.value.Val.TheVariants as vals;
+ghost use Rattle.om_types.specs.Fitting.{fields_of, numbered_from};
+ghost use Rattle.om_heap.specs.Heap.{word_of};
+ghost use Rattle.om_fits.specs.Needs.{first_fields, constr_needed};
+
+use om_heap::Heap;
+use om_types::shape::{Constr, ShapeOf};
+
+/// The types of the fields of an object, which has this word and fits a shape, where the shape is
+/// one of constructors or of a product.
+#[inline(always)]
+pub fn listed_types<'a>(
+    heap: &Heap,
+    o: u64,
+    word: u64,
+    shape: &'a ShapeOf<usize>,
+) -> Option<&'a [usize]>
+    requires object { o < length heap.now }
+    requires word { word ≡ word_of heap.now (vals.Ref o) }
+    requires fits { IsSome (fields_of heap.now (vals.Ref o) shape.now) }
+    ensures { IfSome result
+        (λ types. fields_of heap.now (vals.Ref o) shape.now
+        ≡ Some (numbered_from 0 types.now)) }
+{
+    let _count = heap.count();
+    if let ShapeOf::Sum(_, blocks) = shape {
+        if blocks.len() == 1 {
+            return Some(first_types(blocks.as_slice()));
+        }
+        return tagged_types(blocks.as_slice(), heap.header_at(word) % 1024);
+    }
+    if let ShapeOf::Product(_, types) = shape {
+        return Some(types.as_slice());
+    }
+    None
+}
+
+/// The types of the fields of the first constructor.
+#[inline(always)]
+fn first_types(blocks: &[Constr<usize>]) -> &[usize]
+    requires { 0 < length blocks.now }
+    ensures { result.now ≡ first_fields blocks.now }
+{
+    blocks[0].fields.as_slice()
+}
+
+/// The types of the fields of the constructor of a tag.
+#[inline(always)]
+fn tagged_types(blocks: &[Constr<usize>], tag: u64) -> Option<&[usize]>
+    ensures { option_map (λ types. numbered_from 0 types.now) result
+        ≡ option_map constr_needed (slice_get blocks.now tag) }
+{
+    if (tag as usize) < blocks.len() {
+        Some(blocks[tag as usize].fields.as_slice())
+    } else {
+        None
+    }
+}
+
+/// Whether no field of an object that fits the shape has a type, which the shape alone says.
+#[inline(always)]
+pub fn needs_nothing(shape: &ShapeOf<usize>) -> bool
+    ensures { (heap : List Obj) (v : Val) → IsTrue result → IsSome (fields_of heap v shape.now)
+        → fields_of heap v shape.now ≡ Some [] }
+{
+    // These stand together, so that one comparison tells them.
+    matches!(
+        shape,
+        ShapeOf::Bytes(_) | ShapeOf::Double | ShapeOf::Int32 | ShapeOf::Int64 | ShapeOf::Native
+    )
+}
