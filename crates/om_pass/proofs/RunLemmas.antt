@@ -26,7 +26,7 @@ use Rattle.om_pass.proofs.AgainLemmas.{marks_more, marks_push, no_marks}
 use Rattle.om_pass.specs.Again.{AreMarks, IsReference, IsKnown}
 use Rattle.om_pass.specs.declared.words.Words.{Words}
 use Rattle.om_pass.specs.declared.state.State.{State}
-use Rattle.om_pass.specs.State.{types_in, needs_in, stated32, TookFront, TookFirst, TookTurn, BeginsAs, AreNoted, Leads, IsMarked, IsSpent}
+use Rattle.om_pass.specs.State.{IsLeft, types_in, needs_in, stated32, TookFront, TookFirst, TookTurn, BeginsAs, AreNoted, Leads, IsMarked, IsSpent}
 
 pub words32_push : (tokens : List Token) (token : Token) → all_words32 (map measure_of (tokens ++ token ∷ [])) ≡ all_words32 (map measure_of tokens) + of_object words32 (measure_of token)
 words32_push tokens token = ap all_words32 (map-append measure_of tokens (token ∷ [])) ∙ sum_by_push (of_object words32) (map measure_of tokens) (measure_of token)
@@ -45,7 +45,7 @@ pub start_is : (bytes : List ℕ) → ◌≡◌ {A = ℕ} (if (head_of bytes).bi
 unfolding head_of
 start_is bytes = start_by (magic bytes == big_magic) bytes
 
-pub leads_start :
+leads_start :
     (table : Table) (limit : ℕ) (bytes : List ℕ) (head : Head) (start : ℕ) (state : State) → BeginsAs limit bytes head → start ≡ header_length bytes → types_in state ≡ [] → needs_in state ≡ of_type 0 ∷ []
     → state.words.w32 ≡ stated32 head → state.words.w64 ≡ head.w64 → Leads table limit bytes head start start [] [] state
 leads_start table limit bytes head start state b start' none root w32 w64 =
@@ -87,6 +87,13 @@ leads_marked table limit bytes head start n marks after notes state is l =
           is;
       are_known = l.are_known;
     }
+
+-- before the first token, whose byte is marked
+pub leads_begun :
+    (table : Table) (limit : ℕ) (bytes : List ℕ) (head : Head) (start : ℕ) (state : State) → BeginsAs limit bytes head → start ≡ header_length bytes → types_in state ≡ [] → needs_in state ≡ of_type 0 ∷ []
+    → state.words.w32 ≡ stated32 head → state.words.w64 ≡ head.w64 → Leads table limit bytes head start start (start ∷ []) [] state
+leads_begun table limit bytes head start state b start' none root w32 w64 =
+    leads_marked table limit bytes head start start [] (start ∷ []) [] state (inr (ap (length {A = ℕ}) none, refl)) (leads_start table limit bytes head start state b start' none root w32 w64)
 
 -- ---- one token more
 
@@ -142,12 +149,6 @@ leads_same table limit bytes head start n marks notes first last l types needs w
     }
 
 -- ---- what is left of the bytes
-
--- the bytes before what is left lead to here
-pub record IsLeft (table : Table) (limit : ℕ) (bytes : List ℕ) (head : Head) (start : ℕ) (marks : List ℕ) (notes : List (ℕ × ℕ)) (state : State) (rest : List ℕ) : Type 0 where
-  pub rest_is : rest ≡ drop (length bytes - length rest) bytes
-  pub short : length rest ≤ length bytes
-  pub leads : Leads table limit bytes head start (length bytes - length rest) marks notes state
 
 -- n bytes further
 pub left_further :

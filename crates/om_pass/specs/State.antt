@@ -164,6 +164,16 @@ pub record Leads
   pub are_marks : AreMarks (take n bytes) marks tokens
   pub are_known : (o t : ℕ) → Contains notes (o, t) → Contains noted (o, t)
 
+-- the bytes before those that are left lead to here
+pub record IsLeft
+    (table : Table) (limit : ℕ) (bytes : List ℕ) (head : Head) (start : ℕ) (marks : List ℕ)
+    (notes : List (ℕ × ℕ)) (state : State) (rest : List ℕ)
+    : Type 0 where
+  pub rest_is : rest ≡ drop (length bytes - length rest) bytes
+  pub short : length rest ≤ length bytes
+  pub leads :
+      Leads table limit bytes head start (length bytes - length rest) marks notes state
+
 -- the byte was marked where 64 objects more had been made
 abbrev pub IsMarked : List ℕ → ℕ → ℕ → List ℕ → Type 0
 IsMarked old at made new =

@@ -47,6 +47,36 @@ pub fn fits_int(shape: &ShapeOf<usize>, z: i64) -> bool
     }
 }
 
+/// The same by tests one after another, with what is common first.
+#[inline(always)]
+pub fn fits_hot_int(shape: &ShapeOf<usize>, z: i64) -> bool
+    ensures { result ≡ fitting.fits_int shape.now z }
+{
+    match shape {
+        ShapeOf::Sum(constants, _) => is_below(*constants, z),
+        _ => fits_plain_int(shape, z),
+    }
+}
+
+/// The same where it is no sum.
+#[inline(always)]
+fn fits_plain_int(shape: &ShapeOf<usize>, z: i64) -> bool
+    ensures { result ≡ fitting.fits_int shape.now z }
+{
+    match shape {
+        ShapeOf::AnyInt => true,
+        _ => fits_other_int(shape, z),
+    }
+}
+
+/// The same where integers are rare. It is called.
+#[inline(never)]
+fn fits_other_int(shape: &ShapeOf<usize>, z: i64) -> bool
+    ensures { result ≡ fitting.fits_int shape.now z }
+{
+    fits_int(shape, z)
+}
+
 /// Whether an integer is from 0 and below the limit.
 #[inline(always)]
 fn is_below(limit: u64, z: i64) -> bool
@@ -123,6 +153,42 @@ pub fn places_at(shape: &ShapeOf<usize>, ty: usize, tag: u8, size: u64) -> Optio
         ShapeOf::Anything => Some(Open::Each(size, ty)),
         _ => block_places(shape, tag, size),
     }
+}
+
+/// The same by tests one after another, with what is common first.
+#[inline(always)]
+pub fn hot_places(shape: &ShapeOf<usize>, ty: usize, tag: u8, size: u64) -> Option<Open<'_>>
+    ensures { option_map open_needs result ≡ shape_asks shape.now ty tag size }
+{
+    match shape {
+        ShapeOf::Sum(_, blocks) => constr_places(blocks.as_slice(), tag, size),
+        _ => product_places(shape, ty, tag, size),
+    }
+}
+
+/// The same where it is no sum.
+#[inline(always)]
+fn product_places(shape: &ShapeOf<usize>, ty: usize, tag: u8, size: u64) -> Option<Open<'_>>
+    ensures { option_map open_needs result ≡ shape_asks shape.now ty tag size }
+{
+    match shape {
+        ShapeOf::Product(_, types) => {
+            if tag == 0 && types.len() as u64 == size {
+                Some(Open::Listed(types.as_slice()))
+            } else {
+                None
+            }
+        }
+        _ => other_places(shape, ty, tag, size),
+    }
+}
+
+/// The same where blocks are rare. It is called.
+#[inline(never)]
+fn other_places(shape: &ShapeOf<usize>, ty: usize, tag: u8, size: u64) -> Option<Open<'_>>
+    ensures { option_map open_needs result ≡ shape_asks shape.now ty tag size }
+{
+    places_at(shape, ty, tag, size)
 }
 
 /// Whether nothing is asked of the values of a type.

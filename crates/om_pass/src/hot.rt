@@ -18,8 +18,9 @@ ghost use Rattle.std.specs.Global.{Vec};
 ghost use Rattle.om_pass.specs.declared.places.Open.{Open};
 ghost use Rattle.om_pass.specs.Hot.{held, IsLeafAdded};
 ghost use Rattle.om_pass.specs.Places.{open_needs, need_of, waiting_needs};
+ghost use Rattle.om_pass.specs.declared.places.Open.TheVariants as opens;
 
-use crate::fits::{fits_int, is_equal, is_hidden, places_at, shape_of, type_at};
+use crate::fits::{fits_hot_int, hot_places, is_equal, is_hidden, shape_of, type_at};
 use crate::piece::piece_len;
 use crate::places::{Asked, Open, is_done};
 use crate::words::{Words, offset_of, signed_few};
@@ -27,12 +28,13 @@ use om_model::code::{CodeKind, Measure};
 use om_type_table::TypeTable;
 use om_types::shape::ShapeOf;
 
-/// Whether there is room for the type of one more object, and none is to be marked.
+/// Whether there is room for the type of one more object, and its byte is not to be marked. That of
+/// the first one is marked at the begin.
 #[inline(always)]
 fn has_room(types: &Vec<u16>, ty: usize) -> bool
     ensures { OnTrue result ((ty < 2 ^ 16) × (vec_len types.now < vec_capacity types.now)) }
 {
-    if ty >= 1 << 16 || types.len() % 64 == 0 {
+    if ty >= 1 << 16 || types.len() > 0 && types.len() % 64 == 0 {
         return false;
     }
     types.len() < types.capacity()
@@ -79,7 +81,7 @@ fn hot_block<'a>(
     let Some(shape) = shape_of(table, ty) else {
         return None;
     };
-    let Some(inside) = places_at(shape, ty, tag, size) else {
+    let Some(inside) = hot_places(shape, ty, tag, size) else {
         return None;
     };
     if words.w32 <= size || words.w64 <= size || !has_room(types, ty) {
@@ -100,8 +102,7 @@ fn is_hot_int(table: &TypeTable, ty: usize, z: i64) -> bool
     ensures { OnTrue result (IsTrue (fitting.fits_int (shape_at (table_of table.now) ty) z)) }
 {
     match shape_of(table, ty) {
-        Some(ShapeOf::AnyInt) => true,
-        Some(shape) => fits_int(shape, z),
+        Some(shape) => fits_hot_int(shape, z),
         None => false,
     }
 }
@@ -140,10 +141,12 @@ fn hot_bytes(
         (held now waiting types.new words.new) (of_type ty) (leaf (objects.Bytes all)) }
     ensures kept { (IsTrue result → ⊥) → (types.new ≡ types.old) × (words.new ≡ words.old) }
 {
-    match shape_of(table, ty) {
-        Some(ShapeOf::Bytes(_)) => hot_leaf(ty, Measure::Bytes(size), types, words),
-        Some(ShapeOf::Anything) => hot_leaf(ty, Measure::Bytes(size), types, words),
-        _ => false,
+    let Some(shape) = shape_of(table, ty) else {
+        return false;
+    };
+    match shape {
+        ShapeOf::Bytes(_) => hot_leaf(ty, Measure::Bytes(size), types, words),
+        _ => is_hidden(table, ty) && hot_leaf(ty, Measure::Bytes(size), types, words),
     }
 }
 
@@ -156,10 +159,12 @@ fn hot_double(table: &TypeTable, ty: usize, types: &mut Vec<u16>, words: &mut Wo
         (held now waiting types.new words.new) (of_type ty) (leaf (objects.Double bits)) }
     ensures kept { (IsTrue result → ⊥) → (types.new ≡ types.old) × (words.new ≡ words.old) }
 {
-    match shape_of(table, ty) {
-        Some(ShapeOf::Double) => hot_leaf(ty, Measure::Double, types, words),
-        Some(ShapeOf::Anything) => hot_leaf(ty, Measure::Double, types, words),
-        _ => false,
+    let Some(shape) = shape_of(table, ty) else {
+        return false;
+    };
+    match shape {
+        ShapeOf::Double => hot_leaf(ty, Measure::Double, types, words),
+        _ => is_hidden(table, ty) && hot_leaf(ty, Measure::Double, types, words),
     }
 }
 
@@ -309,7 +314,8 @@ fn hot_kind<'a>(
     }
 }
 
-/// The same of the codes below 0x20. As `hot_typed`, it has one caller for each value of `LISTED`.
+/// The same of the other codes below 0x20. As `hot_typed`, it has one caller for each value of
+/// `LISTED`.
 #[tactic(auto, unfolding(om_format::specs::Code::kind_of))]
 #[inline(always)]
 fn hot_large<'a, const LISTED: bool>(
@@ -361,10 +367,6 @@ fn hot_large<'a, const LISTED: bool>(
             let kind = CodeKind::Str(1);
             hot_kind(table, stated, ty, others, kind, rest, types, waiting, words)
         }
-        0x0c => {
-            let kind = CodeKind::Double(true);
-            hot_kind(table, stated, ty, others, kind, rest, types, waiting, words)
-        }
         _ => None,
     }
 }
@@ -394,7 +396,8 @@ fn hot_typed<'a, const LISTED: bool>(
         return None;
     }
     let code = rest[0];
-    // Each of these codes gets code of its own, and blocks come first.
+    // Each of these codes gets code of its own, and blocks come first. The room is asked for in
+    // between so that the test of a double is not made one with the choice among the others.
     if code >= 0x80 {
         let kind = CodeKind::SmallBlock(code % 16, code / 16 % 8);
         hot_kind(table, stated, ty, others, kind, rest, types, waiting, words)
@@ -404,6 +407,11 @@ fn hot_typed<'a, const LISTED: bool>(
     } else if code >= 0x20 {
         let kind = CodeKind::SmallString(code % 32);
         hot_kind(table, stated, ty, others, kind, rest, types, waiting, words)
+    } else if code == 0x0c {
+        let kind = CodeKind::Double(true);
+        hot_kind(table, stated, ty, others, kind, rest, types, waiting, words)
+    } else if rest.len() < 2 {
+        None
     } else {
         hot_large::<LISTED>(table, stated, ty, others, code, rest, types, waiting, words)
     }
@@ -452,22 +460,19 @@ fn split_listed<'a>(places: &'a [usize]) -> Option<(usize, Open<'a>)>
 pub fn hot_listed<'a>(
     table: &'a TypeTable,
     stated: u64,
-    now: Open<'a>,
+    places: &'a [usize],
     rest: &[u8],
     types: &mut Vec<u16>,
     waiting: &mut Vec<Open<'a>>,
     words: &mut Words,
 ) -> Option<(usize, Open<'a>)>
     ensures { MatchOption result
-        (held now.entry waiting.new types.new words.new
-        ≡ held now.entry waiting.old types.old words.old)
+        (held (opens.Listed places.entry) waiting.new types.new words.new
+        ≡ held (opens.Listed places.entry) waiting.old types.old words.old)
         (λ took. TookFirst (table_of table.now) stated
-        (held now.entry waiting.old types.old words.old)
+        (held (opens.Listed places.entry) waiting.old types.old words.old)
         (held took.1 waiting.new types.new words.new) rest.now took.0) }
 {
-    let Open::Listed(places) = now else {
-        return None;
-    };
     let Some((ty, others)) = split_listed(places) else {
         return None;
     };

@@ -7,6 +7,7 @@ mod back;
 pub mod fits;
 pub mod flat;
 mod hot;
+mod listed;
 mod passing;
 pub mod piece;
 mod places;

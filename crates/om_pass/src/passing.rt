@@ -83,6 +83,7 @@ impl<'a> Passing<'a> {
         self.state.types.reserve(room_for(&head, bytes.len()))?;
         self.state.words = Words::stated(&head);
         self.marks.clear();
+        self.marks.push(start)?;
         self.notes.clear();
         self.seen = 0;
         self.left = 0;

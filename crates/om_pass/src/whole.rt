@@ -7,9 +7,10 @@ ghost use Rattle.om_pass.specs.Places.{need_of, open_needs};
 ghost use Rattle.om_pass.specs.State.{Leads, IsSpent, BeginsAs, StopsAt};
 
 use crate::back::{mark, turn};
-use crate::hot::{hot, hot_listed};
+use crate::hot::hot;
+use crate::listed::take_listed;
 use crate::piece::piece_len;
-use crate::places::{Asked, Open, first_place, innermost};
+use crate::places::{Asked, Open, first_place};
 use crate::state::State;
 use om_codes::code_kind;
 use om_headers::{HeaderStep, parse};
@@ -18,6 +19,7 @@ use om_model::header::Head;
 use om_type_table::TypeTable;
 
 /// What the header states, if it is whole and states no more words and data than may be.
+#[inline(always)]
 pub fn head_of(bytes: &[u8], limit: u64) -> Option<Head>
     ensures { IfSome result (λ head. BeginsAs limit bytes.now head) }
 {
@@ -72,7 +74,9 @@ fn again(asked: Asked<'_>) -> Open<'_>
 }
 
 /// Takes token after token, from one of the bytes on, to the end of the value or to a token that is
-/// not whole. What may be looked at again is counted down.
+/// not whole. What may be looked at again is counted down. It is called, for the loop is to have
+/// all registers.
+#[inline(never)]
 pub fn run<'a>(
     table: &'a TypeTable,
     limit: u64,
@@ -93,25 +97,20 @@ pub fn run<'a>(
 {
     table.holds();
     let mut rest = &bytes[first..];
-    let mut now = state.places.now;
-    let mut words = state.words;
     'tokens: loop {
-        now = innermost(now, &mut state.places.waiting);
-        if let Some((n, next)) = hot_listed(
+        rest = take_listed(
             table,
-            head.objects,
-            now,
+            limit,
+            head,
+            start,
+            state,
+            marks.as_slice(),
+            notes.as_slice(),
+            bytes,
             rest,
-            &mut state.types,
-            &mut state.places.waiting,
-            &mut words,
-        ) {
-            rest = &rest[n..];
-            now = next;
-            continue;
-        }
+        );
+        let now = state.places.now;
         let Some((asked, others)) = first_place(now, &mut state.places.waiting) else {
-            state.words = words;
             let at = bytes.len() - rest.len();
             if is_spent(head, start, at, state) {
                 return Ok(Stop::Typed(at));
@@ -126,14 +125,13 @@ pub fn run<'a>(
             rest,
             &mut state.types,
             &mut state.places.waiting,
-            &mut words,
+            &mut state.words,
         ) {
             rest = &rest[n..];
-            now = next;
+            state.places.now = next;
             continue;
         }
         state.places.now = others;
-        state.words = words;
         let at = bytes.len() - rest.len();
         if is_cut(rest) {
             state.places.open(again(asked))?;
@@ -155,7 +153,5 @@ pub fn run<'a>(
             return Ok(Stop::Untold(at));
         }
         rest = &rest[n..];
-        now = state.places.now;
-        words = state.words;
     }
 }

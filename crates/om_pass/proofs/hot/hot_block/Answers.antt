@@ -9,14 +9,14 @@ use Rattle.om_pass.proofs.hot.hot_block.Goals as goal
 
 pub returns : goal.returns
 returns c =
-    let inside = c.in-Some-places_at.inside in
+    let inside = c.in-Some-hot_places.inside in
     let kept : waiting_needs c.keep_reserved.new.waiting.items ≡ open_needs c.args.others ++ waiting_needs c.args.waiting.now.items = search rules in
     let w32 : (c.args.words.now.w32 - (1 + c.args.size)) + (1 + c.args.size) ≡ c.args.words.now.w32 = search rules in
     let w64 : (c.args.words.now.w64 - (1 + c.args.size)) + (1 + c.args.size) ≡ c.args.words.now.w64 = search rules in
     took_block (table_of c.args.table.now) (held c.args.others c.args.waiting.now c.args.types.now c.args.words.now)
     (held inside c.keep_reserved.new.waiting c.push_reserved.new.self record { w32 = c.args.words.now.w32 - (1 + c.args.size); w64 = c.args.words.now.w64 - (1 + c.args.size) })
     c.args.ty c.args.tag c.args.size (open_needs inside)
-    (ap (λ s. shape_asks s c.args.ty c.args.tag c.args.size) (sym c.in-Some.ensures) ∙ sym c.places_at.ensures ∙ ap (option_map open_needs) c.in-Some-places_at.is)
+    (ap (λ s. shape_asks s c.args.ty c.args.tag c.args.size) (sym c.in-Some.ensures) ∙ sym c.hot_places.ensures ∙ ap (option_map open_needs) c.in-Some-hot_places.is)
     c.push_reserved.ensures.items
     (ap (λ needs. open_needs inside ++ needs) kept)
     w32 w64

@@ -1,14 +1,13 @@
 use Rattle.std.proofs.Common.{length}
 use Rattle.om_type_table.specs.Made.{table_of}
-use Rattle.om_pass.specs.Hot.{held}
-use Rattle.om_pass.proofs.RunLemmas.{IsLeft}
+use Rattle.om_pass.specs.State.{IsLeft}
 use Rattle.om_pass.proofs.whole.run.Given as goal
 
 -- the bytes before those that are left lead to what is held
 abbrev pub invariant-tokens : goal.invariant-tokens
 invariant-tokens l =
-    IsLeft (table_of l.table) l.limit l.bytes l.head l.start l.marks.items l.notes.items
-    (held l.now l.state.places.waiting l.state.types l.words) l.rest
+    IsLeft (table_of l.table) l.limit l.bytes l.head l.start l.marks.items l.notes.items l.state
+    l.rest
 
 abbrev pub decreases-tokens : goal.decreases-tokens
 decreases-tokens l = length l.rest

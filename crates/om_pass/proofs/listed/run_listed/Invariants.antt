@@ -1,0 +1,15 @@
+use Rattle.std.proofs.Common.{length, ◌≤◌}
+use Rattle.om_type_table.specs.Made.{table_of}
+use Rattle.om_pass.specs.Hot.{held}
+use Rattle.om_pass.specs.State.{IsLeft}
+use Rattle.om_pass.proofs.listed.run_listed.Given as goal
+
+-- the bytes before those that are left lead to what is held, and no more are left
+abbrev pub invariant-listed : goal.invariant-listed
+invariant-listed l =
+    IsLeft (table_of l.table) l.limit l.bytes l.head l.start l.marks l.notes
+    (held l.now l.state.places.waiting l.state.types l.words) l.left
+    × (length l.left ≤ length l.rest)
+
+abbrev pub decreases-listed : goal.decreases-listed
+decreases-listed l = length l.left
