@@ -71,6 +71,7 @@ impl<'a> Glance<'a> {
     }
 
     /// Takes a piece where no byte of the value was taken before.
+    #[inline(always)]
     fn first(
         &mut self,
         alloc: Global,
@@ -104,6 +105,7 @@ impl<'a> Glance<'a> {
     }
 
     /// The same where bytes of the value were taken, and kept.
+    #[inline(never)]
     fn next(
         &mut self,
         alloc: Global,
@@ -140,6 +142,7 @@ impl<'a> Glance<'a> {
 
     /// Takes a piece, up to the end of the value in hand, or all of it, or nothing. No byte of a
     /// value is copied that lies whole in the piece.
+    #[inline(always)]
     pub fn feed(
         &mut self,
         alloc: Global,

@@ -242,7 +242,7 @@ impl<'a> Looking<'a> {
     ) -> Result<Shown, Memory>
         ensures { IfOk result (IsShown (table_of table.now) limit bytes.now self.new) }
     {
-        if !self.seeking.begin(bytes, limit) || self.seeking.head.length > most {
+        if !self.seeking.begin(bytes, limit)? || self.seeking.head.length > most {
             return Ok(Shown::Untold);
         }
         self.seek(alloc, table, limit, bytes)

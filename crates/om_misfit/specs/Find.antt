@@ -189,7 +189,8 @@ pub record LeadsTo
   pub held : IsHeld (back ++ more) (made ++ made_in type trail token) missed new
   pub known : Knows table front tokens new.seconds
 
--- a token that is what was said came after these bytes, in the first of these places
+-- A token that is what was said came after these bytes, in the first of these places, in a value
+-- whose header states so many objects.
 pub record ComesIn
     (places : List Place) (table : Table) (stated : ℕ) (front : List ℕ) (old : Finding)
     (said : Said) (new : Finding)

@@ -184,11 +184,13 @@ impl<'a> Finding<'a> {
         Ok(true)
     }
 
-    /// The token comes in the first open place, if it has the type that is asked for there, and is
-    /// no reference. Where the byte of the next object is to be marked it is kept.
+    /// The token comes in the first open place, if it is no reference, nor an integer that does not
+    /// have the type that is asked for there. Where the byte of the next object is to be marked it
+    /// is kept; that of the first one is marked at the begin.
     #[inline(always)]
     fn settle(
         &mut self,
+        alloc: Global,
         table: &'a TypeTable,
         ty: usize,
         others: Left<'a>,
@@ -207,7 +209,8 @@ impl<'a> Finding<'a> {
             }
             return Ok(Quick::Kept);
         }
-        if ty >= NO_TYPE || self.types.len() % 64 == 0 {
+        let made = self.types.len();
+        if ty >= NO_TYPE || made > 0 && made % 64 == 0 {
             return Ok(Quick::Kept);
         }
         match judge(table, ty, said) {
@@ -223,6 +226,12 @@ impl<'a> Finding<'a> {
                     return Ok(Quick::Took(len));
                 }
             }
+            Judged::Misses => {
+                self.way.take_type(ty, others);
+                if self.miss(alloc, ty, said)? {
+                    return Ok(Quick::Took(len));
+                }
+            }
             _ => return Ok(Quick::Kept),
         }
         Ok(Quick::Untold)
@@ -232,6 +241,7 @@ impl<'a> Finding<'a> {
     #[inline(always)]
     fn hasten_kind(
         &mut self,
+        alloc: Global,
         table: &'a TypeTable,
         ty: usize,
         others: Left<'a>,
@@ -248,7 +258,7 @@ impl<'a> Finding<'a> {
         let Some((said, len)) = said_kind(kind, rest) else {
             return Ok(Quick::Kept);
         };
-        let quick = self.settle(table, ty, others, said, len)?;
+        let quick = self.settle(alloc, table, ty, others, said, len)?;
         Ok(quick)
     }
 
@@ -257,6 +267,7 @@ impl<'a> Finding<'a> {
     #[inline(always)]
     fn hasten_large(
         &mut self,
+        alloc: Global,
         table: &'a TypeTable,
         ty: usize,
         others: Left<'a>,
@@ -270,9 +281,9 @@ impl<'a> Finding<'a> {
             (λ quick. HastensBy (table_of table.now) rest.now self.old self.new quick) }
     {
         match code {
-            0x00 => self.hasten_kind(table, ty, others, CodeKind::Int(1), rest),
-            0x01 => self.hasten_kind(table, ty, others, CodeKind::Int(2), rest),
-            0x0c => self.hasten_kind(table, ty, others, CodeKind::Double(true), rest),
+            0x00 => self.hasten_kind(alloc, table, ty, others, CodeKind::Int(1), rest),
+            0x01 => self.hasten_kind(alloc, table, ty, others, CodeKind::Int(2), rest),
+            0x0c => self.hasten_kind(alloc, table, ty, others, CodeKind::Double(true), rest),
             _ => Ok(Quick::Kept),
         }
     }
@@ -282,6 +293,7 @@ impl<'a> Finding<'a> {
     #[inline(always)]
     fn hasten_other(
         &mut self,
+        alloc: Global,
         table: &'a TypeTable,
         ty: usize,
         others: Left<'a>,
@@ -296,11 +308,25 @@ impl<'a> Finding<'a> {
             (λ quick. HastensBy (table_of table.now) rest.now self.old self.new quick) }
     {
         if code >= 0x40 {
-            self.hasten_kind(table, ty, others, CodeKind::SmallInt(code % 64), rest)
+            self.hasten_kind(
+                alloc,
+                table,
+                ty,
+                others,
+                CodeKind::SmallInt(code % 64),
+                rest,
+            )
         } else if code >= 0x20 {
-            self.hasten_kind(table, ty, others, CodeKind::SmallString(code % 32), rest)
+            self.hasten_kind(
+                alloc,
+                table,
+                ty,
+                others,
+                CodeKind::SmallString(code % 32),
+                rest,
+            )
         } else {
-            self.hasten_large(table, ty, others, code, rest)
+            self.hasten_large(alloc, table, ty, others, code, rest)
         }
     }
 
@@ -308,7 +334,7 @@ impl<'a> Finding<'a> {
     /// of the innermost block are listed. Each kind gets code of its own.
     #[tactic(auto, unfolding(om_format::specs::Code::kind_of))]
     #[inline(always)]
-    fn hasten(&mut self, table: &'a TypeTable, rest: &[u8]) -> Result<Quick, Memory>
+    fn hasten(&mut self, alloc: Global, table: &'a TypeTable, rest: &[u8]) -> Result<Quick, Memory>
         requires { IsWay self.old.way }
         ensures { IfOk result
             (λ quick. HastensBy (table_of table.now) rest.now self.old self.new quick) }
@@ -322,9 +348,9 @@ impl<'a> Finding<'a> {
         let code = rest[0];
         if code >= 0x80 {
             let kind = CodeKind::SmallBlock(code % 16, code / 16 % 8);
-            self.hasten_kind(table, ty, others, kind, rest)
+            self.hasten_kind(alloc, table, ty, others, kind, rest)
         } else {
-            self.hasten_other(table, ty, others, code, rest)
+            self.hasten_other(alloc, table, ty, others, code, rest)
         }
     }
 
@@ -391,7 +417,7 @@ impl<'a> Finding<'a> {
     }
 
     /// The token does not have the type that is asked for. It is the misfit, if it is the first.
-    #[inline(always)]
+    #[inline(never)]
     fn miss(&mut self, alloc: Global, ty: usize, said: Said) -> Result<bool, Memory>
         requires { IsFair said }
         ensures { IfOk result
@@ -563,20 +589,22 @@ impl<'a> Seeking<'a> {
 
     /// Begins with the value whose header begins the bytes, in the same memory, if the header is
     /// whole and states no more than may be.
-    pub fn begin(&mut self, bytes: &[u8], limit: u64) -> bool
-        ensures { OnTrue result ((table : Table) → IsSought table limit bytes.now self.new) }
+    pub fn begin(&mut self, bytes: &[u8], limit: u64) -> Result<bool, Memory>
+        ensures { IfOk result
+            (λ begun. OnTrue begun ((table : Table) → IsSought table limit bytes.now self.new)) }
     {
         let Some(head) = head_of(bytes, limit) else {
-            return false;
+            return Ok(false);
         };
         let start = if head.big { 32 } else { 20 };
         self.finding.restart(&head);
+        self.finding.seconds.mark(start, 0)?;
         self.start = start;
         self.at = start;
         self.seen = 0;
         self.left = 0;
         self.head = head;
-        true
+        Ok(true)
     }
 
     /// Goes on, with the bytes that were looked at and those that came since.
@@ -604,7 +632,7 @@ impl<'a> Seeking<'a> {
                 return Ok(End::Untold);
             }
             let rest = &bytes[self.at..];
-            match self.finding.hasten(table, rest)? {
+            match self.finding.hasten(alloc, table, rest)? {
                 Quick::Took(len) => {
                     self.at += len;
                     continue;

@@ -186,7 +186,7 @@ impl<'a> Way<'a> {
             now: Wait {
                 depth: 0,
                 next: 0,
-                left: Left::Asked(Open::Each(1, 0)),
+                left: Left::Asked(Open::Listed(&[0])),
             },
             waiting: Vec::new(alloc),
             links: Vec::new(alloc),
@@ -215,7 +215,7 @@ impl<'a> Way<'a> {
         self.now = Wait {
             depth: 0,
             next: 0,
-            left: Left::Asked(Open::Each(1, 0)),
+            left: Left::Asked(Open::Listed(&[0])),
         };
         self.waiting.clear();
         self.links.clear();

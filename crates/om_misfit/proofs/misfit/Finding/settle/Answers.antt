@@ -52,3 +52,14 @@ returns-then-branch-2 c =
           came_follows table stated front old c.add-in-Opens.new.self c.take_type-in-Opens.new.self (asks.Type c.args.ty) c.args.said c.take_type-in-Opens.ensures.is_way c.take_type-in-Opens.ensures.first
           (comes_fits table stated front taken c.add-in-Opens.new.self c.args.ty c.args.said (lefts.Asked c.in-Opens.places) some (no_back_block c.args.said block.0 block.1 block.2) c.in-Opens.ensures.judged adds),
     )
+
+pub returns-then-branch-3 : goal.returns-then-branch-3
+returns-then-branch-3 c =
+    let old = c.args.self.now in
+    let table = table_of c.args.table.now in
+    let comes = if_true c.in_ok-miss-in-Misses.field-0 c.if-branch-3.true c.in_ok-miss-in-Misses.ensures in (
+      refl,
+      λ stated front.
+          came_follows table stated front old c.miss.new.self c.take_type-in-Misses.new.self (asks.Type c.args.ty) c.args.said c.take_type-in-Misses.ensures.is_way c.take_type-in-Misses.ensures.first
+          (comes table stated front c.in-Misses.ensures.judged),
+    )
