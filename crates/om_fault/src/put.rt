@@ -107,7 +107,20 @@ pub fn put_step(text: &mut Vec<u8>, step: u64) -> Result<(), Memory>
     put_number(text, step)
 }
 
+/// Puts a number. Most have one digit.
+#[tactic(auto, using(std::proofs::lemmas::Fmt::decimal_digit))]
 fn put_number(text: &mut Vec<u8>, n: u64) -> Result<(), Memory>
+    ensures { OnOk result (text.new.items ≡ text.old.items ++ decimal n) }
+{
+    if n < 10 {
+        return Ok(text.push(b'0' + n as u8)?);
+    }
+    put_more_digits(text, n)
+}
+
+/// Puts a number of any number of digits.
+#[inline(never)]
+fn put_more_digits(text: &mut Vec<u8>, n: u64) -> Result<(), Memory>
     ensures { OnOk result (text.new.items ≡ text.old.items ++ decimal n) }
 {
     put(text, Buffer::new().format(n).as_bytes())
