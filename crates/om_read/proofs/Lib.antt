@@ -13,4 +13,5 @@ pub mod NextLemmas
 pub mod ReadingLemmas
 pub mod PiecesLemmas
 pub mod CommonLemmas
+pub mod RunLemmas
 pub mod ReaderLemmas

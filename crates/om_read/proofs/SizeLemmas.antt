@@ -1,5 +1,5 @@
 -- How large the object of a token is, by the token's bytes.
-use Rattle.std.proofs.Common.{ℕ, zero, suc, ◌≡◌, ◌+◌, ◌*◌, ◌/◌, ◌^◌, ◌<◌, ◌≤◌, List, take, Option, Some, None, arith, get_or, subst}
+use Rattle.std.proofs.Common.{ℕ, zero, suc, ◌≡◌, ◌+◌, ◌*◌, ◌/◌, ◌^◌, ◌<◌, ◌≤◌, List, take, Option, Some, None, arith, get_or, subst, length, [], ◌∷◌}
 use Rattle.std.specs.Option.{ForSome}
 use Rattle.om_model.specs.declared.code.CodeKind.{CodeKind}
 use Rattle.om_model.specs.declared.code.CodeKind.TheVariants as kinds
@@ -7,7 +7,8 @@ use Rattle.om_model.specs.declared.code.CustomKind.{CustomKind}
 use Rattle.om_model.specs.declared.code.CustomKind.TheVariants as customs
 use Rattle.om_model.specs.declared.code.Measure.{Measure}
 use Rattle.om_model.specs.declared.code.Measure.TheVariants as measures
-use Rattle.om_model.specs.Bytes.{number}
+use Rattle.std.specs.Int.{w64, from_le_bytes, from_be_bytes}
+use Rattle.om_model.specs.Bytes.{number, little_number}
 use Rattle.om_format.specs.Code.{custom_of}
 use Rattle.om_format.specs.Raw.{fixed_bytes, variable_bytes, measure_after, block_measure, custom_measure, custom_bytes}
 use Rattle.om_format.specs.Words.{of_object, fields, words32, words64}
@@ -123,3 +124,30 @@ few_words32 kind rest = few_by words32 (measure_after kind rest) _ words32-withi
 
 pub few_words64 : (kind : CodeKind) (rest : List ℕ) → AreFew words64 (measure_after kind rest) (1 + fixed_bytes kind + variable_bytes kind rest)
 few_words64 kind rest = few_by words64 (measure_after kind rest) _ words64-within (few_most kind rest)
+
+-- ---- eight bytes
+
+-- both readings of them
+pub little_eight : (bytes : List ℕ) → length bytes ≡ 8 → from_le_bytes w64 bytes ≡ little_number bytes
+little_eight (a ∷ b ∷ c ∷ d ∷ e ∷ f ∷ g ∷ h ∷ []) e8 = omega arith
+little_eight [] e8 = absurd (omega arith)
+little_eight (a ∷ []) e8 = absurd (omega arith)
+little_eight (a ∷ b ∷ []) e8 = absurd (omega arith)
+little_eight (a ∷ b ∷ c ∷ []) e8 = absurd (omega arith)
+little_eight (a ∷ b ∷ c ∷ d ∷ []) e8 = absurd (omega arith)
+little_eight (a ∷ b ∷ c ∷ d ∷ e ∷ []) e8 = absurd (omega arith)
+little_eight (a ∷ b ∷ c ∷ d ∷ e ∷ f ∷ []) e8 = absurd (omega arith)
+little_eight (a ∷ b ∷ c ∷ d ∷ e ∷ f ∷ g ∷ []) e8 = absurd (omega arith)
+little_eight (a ∷ b ∷ c ∷ d ∷ e ∷ f ∷ g ∷ h ∷ x ∷ xs) e8 = absurd (omega arith)
+
+pub big_eight : (bytes : List ℕ) → length bytes ≡ 8 → from_be_bytes w64 bytes ≡ number bytes
+big_eight (a ∷ b ∷ c ∷ d ∷ e ∷ f ∷ g ∷ h ∷ []) e8 = omega arith
+big_eight [] e8 = absurd (omega arith)
+big_eight (a ∷ []) e8 = absurd (omega arith)
+big_eight (a ∷ b ∷ []) e8 = absurd (omega arith)
+big_eight (a ∷ b ∷ c ∷ []) e8 = absurd (omega arith)
+big_eight (a ∷ b ∷ c ∷ d ∷ []) e8 = absurd (omega arith)
+big_eight (a ∷ b ∷ c ∷ d ∷ e ∷ []) e8 = absurd (omega arith)
+big_eight (a ∷ b ∷ c ∷ d ∷ e ∷ f ∷ []) e8 = absurd (omega arith)
+big_eight (a ∷ b ∷ c ∷ d ∷ e ∷ f ∷ g ∷ []) e8 = absurd (omega arith)
+big_eight (a ∷ b ∷ c ∷ d ∷ e ∷ f ∷ g ∷ h ∷ x ∷ xs) e8 = absurd (omega arith)

@@ -1,10 +1,11 @@
 -- What is left at a place for the tokens to come, and what a token spends of it.
-use Rattle.std.specs.Prelude.{ℕ, ◌≡◌, ◌+◌, ◌^◌, ◌<◌, false, List, Option, if◌then◌else◌}
+use Rattle.std.specs.Prelude.{ℕ, ◌≡◌, ◌+◌, ◌*◌, ◌^◌, ◌<◌, ◌≤◌, false, List, Option, if◌then◌else◌}
 use Rattle.om_model.specs.declared.header.Head.{Head}
 use Rattle.om_model.specs.declared.code.Measure.{Measure}
 use Rattle.om_format.specs.Words.{of_object, fields, words32, words64}
 use Rattle.om_read.specs.declared.totals.Totals.{Totals}
 use Rattle.om_read.specs.declared.left.Left.{Left}
+use Rattle.om_read.specs.declared.left.Run.{Run}
 use Rattle.om_read.specs.Build.{Bounded}
 use Rattle.om_read.specs.Reading.{Builds, TakesOne}
 use Rattle.om_read.specs.Pieces.{TakesCommon}
@@ -56,3 +57,59 @@ TakesLeft first n header before bytes place left state left' state' k =
 abbrev pub TakesAll : Totals → ℕ → ℕ → List ℕ → List ℕ → Left → Bounded → ℕ → Type 0
 TakesAll first n limit taken bytes left' state' k =
     (next : Totals) × Leaves first (n + k) next left' × TakesCommon limit taken bytes next state' k
+
+-- ---- runs
+
+-- at least so much of each is left
+abbrev pub AtLeast : ℕ → Left → Type 0
+AtLeast k left = (k ≤ left.slack) × (k ≤ left.w32) × (k ≤ left.w64)
+
+-- enough for a common token
+abbrev pub HasEnough : Left → Type 0
+HasEnough left = AtLeast 512 left
+
+-- enough for the common tokens that begin in so many bytes
+abbrev pub HasPlenty : Left → ℕ → Type 0
+HasPlenty left most = AtLeast (16 * most + 512) left
+
+-- a token of k bytes takes no more than this
+pub record Keeps (old : Left) (k : ℕ) (new : Left) : Type 0 where
+  pub slack : old.slack ≤ new.slack + 16 * k
+  pub w32 : old.w32 ≤ new.w32 + 16 * k
+  pub w64 : old.w64 ≤ new.w64 + 16 * k
+
+-- this was left where the run began and this is left now, of which the run keeps so much
+pub record Runs (from left : Left) (run : Run) : Type 0 where
+  pub pending : left.pending ≡ run.pending
+  pub short : from.w32 < 2 ^ 64
+  pub fewer : left.w64 ≤ from.w64
+  pub extra : from.w32 + left.w64 ≡ from.w64 + (left.w32 + run.extra)
+
+-- a value is still to come after a token whose object has this measure
+pub record Goes (old : Run) (measure : Option Measure) (new : Run) : Type 0 where
+  pub some : 0 < new.pending
+  pub pending : new.pending + 1 ≡ old.pending + of_object fields measure
+  pub extra : new.extra + of_object words64 measure ≡ old.extra + of_object words32 measure
+
+-- one token of k bytes is taken and leads on, and a value is still to come; or none is taken and
+-- all stays
+abbrev pub RunsOn : Totals → ℕ → List ℕ → List (List ℕ) → List ℕ → Totals → Left → Left → Run
+    → Bounded → Run → Bounded → ℕ → Type 0
+RunsOn first n header before bytes place from left run state run' state' k =
+    (k ≡ 0 → (run' ≡ run) × (state' ≡ state))
+    × (0 < k
+    → (next : Totals) × (left' : Left) × Leaves first (n + k) next left' × Runs from left' run'
+    × Keeps left k left' × (0 < run'.pending)
+    × TakesOne header before bytes place state next state' k)
+
+-- tokens of k bytes are taken in a run
+abbrev pub RunsAll : Totals → ℕ → List ℕ → List ℕ → Left → Run → Bounded → ℕ → Type 0
+RunsAll first limit taken bytes from run state' k =
+    (next : Totals) × (left : Left) × Leaves first (0 + k) next left × Runs from left run
+    × TakesCommon limit taken bytes next state' k
+
+-- so many bytes and words on 64 bits were spent in the run
+pub record IsAfter (from left : Left) (run : Run) (n spent : ℕ) : Type 0 where
+  pub runs : Runs from left run
+  pub taken : left.slack + left.pending + n ≡ from.slack + from.pending
+  pub words : left.w64 + spent ≡ from.w64

@@ -168,6 +168,14 @@ impl Builder {
         self.heap.count()
     }
 
+    /// How many words the objects have together.
+    #[inline(always)]
+    pub fn words(&self) -> u64
+        ensures { result ≡ heap_words self.now.built.objects }
+    {
+        self.heap.words()
+    }
+
     /// A value comes.
     #[inline(always)]
     fn fill(&mut self, v: Val)
@@ -195,8 +203,9 @@ impl Builder {
         self.fill(Val::Int(value));
     }
 
-    /// An atom.
+    /// An atom. They are rare.
     #[tactic(auto, using(crate::proofs::AbsorbLemmas::absorbed_atom))]
+    #[inline(never)]
     pub fn atom(&mut self, tag: u8)
         requires { tag ≤ 243 }
         ensures { self.new ≡ absorb_in self.old (atom_token tag) }
@@ -204,8 +213,10 @@ impl Builder {
         self.fill(Val::Atom(tag));
     }
 
-    /// A reference to the object so many places before the next one.
+    /// A reference to the object so many places before the next one. It is called, so that the
+    /// loop of a run keeps its registers.
     #[tactic(auto, using(crate::proofs::AbsorbLemmas::absorbed_shared))]
+    #[inline(never)]
     pub fn shared(&mut self, offset: u64)
         requires some { 1 ≤ offset }
         requires there { offset ≤ length self.old.built.objects }

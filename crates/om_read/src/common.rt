@@ -4,7 +4,8 @@
 ghost use Rattle.std.specs.Prelude.{◌≡◌, ◌≤◌, ◌<◌, ◌+◌, ◌-◌, ℕ, List, [], length, take};
 ghost use Rattle.std.specs.Prelude.{slice_index, Some, None, Ok, IfSome, OnSome};
 ghost use Rattle.om_format.specs.Code.{kind_of};
-ghost use Rattle.om_format.specs.Raw.{fixed_bytes, variable_bytes};
+ghost use Rattle.om_format.specs.Raw.{fixed_bytes, variable_bytes, measure_after};
+ghost use Rattle.om_format.specs.Words.{of_object, fields};
 ghost use Rattle.om_format.specs.Step.{Context, field_refusal};
 ghost use Rattle.om_read.specs.declared.totals.Totals.{Totals};
 ghost use Rattle.om_read.specs.Totals.{IsPlain};
@@ -14,6 +15,7 @@ ghost use Rattle.om_read.specs.Pieces.{LeadsAs, TakesCommon};
 use crate::build::Builder;
 use crate::decode::decode_in_room;
 use crate::left::Left;
+use crate::run::run;
 use crate::token::{measure_at, number_at};
 use crate::totals::Totals;
 use om_codes::{Known, code_kind};
@@ -22,11 +24,13 @@ use om_model::code::CodeKind;
 
 /// How many bytes the token has after its code, if its kind is a common one, it is whole and its
 /// fields are sound: a reference goes back to one of so many objects, where the header states some.
+#[tactic(auto, using(crate::proofs::RunLemmas::few_fields))]
 #[inline(always)]
-fn sound_len(stated: u64, objects: u64, kind: Known, rest: &[u8]) -> Option<usize>
+pub fn sound_len(stated: u64, objects: u64, kind: Known, rest: &[u8]) -> Option<usize>
     ensures len { IfSome result
         (λ len. (len ≡ fixed_bytes kind.kind + variable_bytes kind.kind rest.now) × (len < 32)
         × (len ≤ length rest.now) × IsPlain kind.kind) }
+    ensures few { OnSome result (of_object fields (measure_after kind.kind rest.now) < 8) }
     ensures sound { (c : Context) (code : ℕ) → c.head.objects ≡ stated → c.sums.objects ≡ objects
         → OnSome result (field_refusal c code kind.kind rest.now ≡ None) }
 {
@@ -166,6 +170,26 @@ fn data_in<'a>(first: &Totals, bytes: &'a [u8]) -> &'a [u8]
     }
 }
 
+/// Takes tokens that surely pass and need no memory: how many bytes they have. While there is
+/// enough for each token, what is left is not compared at each.
+#[inline(always)]
+fn take_many(first: &Totals, left: &mut Left, builder: &mut Builder, bytes: &[u8]) -> usize
+    requires open { 0 < first.now.pending }
+    requires within { first.now.taken + length bytes.now ≤ first.now.head.length }
+    requires leaves { Leaves first.now 0 first.now left.old }
+    requires leads { (limit : ℕ) × (taken : List ℕ)
+        × LeadsAs (Some first.now) limit taken builder.old [] }
+    ensures { (limit : ℕ) (taken : List ℕ) → LeadsAs (Some first.now) limit taken builder.old [] →
+        TakesAll first.now 0 limit taken bytes.now left.new builder.new result }
+{
+    let most = left.plenty(bytes.len());
+    if most == 0 {
+        take_all(first, left, builder, bytes)
+    } else {
+        run(first, left, builder, bytes, most)
+    }
+}
+
 /// Takes tokens that surely pass and need no memory: how many bytes they have.
 pub fn take_common(totals: &mut Totals, builder: &mut Builder, bytes: &[u8]) -> usize
     requires open { 0 < totals.old.pending }
@@ -176,7 +200,7 @@ pub fn take_common(totals: &mut Totals, builder: &mut Builder, bytes: &[u8]) -> 
 {
     let first = *totals;
     let mut left = Left::at(&first);
-    let n = take_all(&first, &mut left, builder, data_in(&first, bytes));
+    let n = take_many(&first, &mut left, builder, data_in(&first, bytes));
     *totals = left.place(&first, n as u64, builder.count());
     n
 }

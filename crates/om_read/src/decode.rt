@@ -13,7 +13,7 @@ ghost use Rattle.om_read.specs.Contents.{SpellsTokenAfter};
 
 use crate::build::Builder;
 use crate::content::{custom_value, doubles_of};
-use crate::token::{number_at, signed_four};
+use crate::token::{double_bits, number_at, signed_four};
 use om_codes::Known;
 use om_model::Memory;
 use om_model::bytes::{big_endian, double, signed, skip};
@@ -89,7 +89,7 @@ pub fn decode_in_room(builder: &mut Builder, kind: Known, rest: &[u8]) -> bool
             builder.shared(big_endian(rest));
             true
         }
-        CodeKind::Double(little) => builder.double_in_room(double(rest, little)),
+        CodeKind::Double(little) => builder.double_in_room(double_bits(rest, little)),
         _ => false,
     }
 }

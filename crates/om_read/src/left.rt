@@ -1,9 +1,9 @@
 //! What is left for tokens that surely pass, in few numbers, so that each test of a token is one
 //! subtraction.
 
-ghost use Rattle.std.specs.Prelude.{◌≡◌, ◌+◌, ◌<◌, ◌^◌, true, MatchBool};
+ghost use Rattle.std.specs.Prelude.{◌≡◌, ◌+◌, ◌<◌, ◌≤◌, ◌^◌, true, MatchBool};
 ghost use Rattle.std.specs.Option.{ForSome};
-ghost use Rattle.om_format.specs.Words.{of_object, fields};
+ghost use Rattle.om_format.specs.Words.{of_object, fields, words32, words64};
 ghost use Rattle.om_headers.specs.Counting.{IsCountable};
 
 use crate::totals::Totals;
@@ -19,6 +19,14 @@ pub struct Left {
     pub w32: u64,
     pub w64: u64,
     ghost short: { slack + pending < 2 ^ 48 },
+}
+
+/// What a run of tokens keeps: the values to come, and by how much its words on 32 bits are more
+/// than those on 64.
+#[derive(Clone, Copy)]
+pub struct Run {
+    pub pending: u64,
+    pub extra: u64,
 }
 
 /// How many fields the object has.
@@ -49,7 +57,7 @@ fn is_count(stated: u64, objects: u64, measure: Option<Measure>) -> bool
 impl Left {
     ghost use Rattle.om_read.specs.declared.totals.Totals.{Totals};
     ghost use Rattle.om_read.specs.Totals.{AreTotals, context_of};
-    ghost use Rattle.om_read.specs.Left.{Leaves, Spends, IsSpent, limit_of};
+    ghost use Rattle.om_read.specs.Left.{Leaves, Spends, IsSpent, limit_of, HasPlenty, IsAfter};
 
     /// The words on 32 bits that a header allows. A big one states none, and this is more than its
     /// data can come to.
@@ -68,6 +76,42 @@ impl Left {
             pending: first.pending,
             w32: Left::limit32(&first.head) - first.w32,
             w64: first.head.w64 - first.w64,
+        }
+    }
+
+    /// For the tokens that begin in so many bytes there is enough. It is 0 where only few of them
+    /// are there: then the run does not pay.
+    #[inline(always)]
+    pub fn plenty(&self, len: usize) -> usize
+        ensures plenty { 0 < result → HasPlenty self.now result }
+        ensures short { self.now.w32 < 2 ^ 64 }
+    {
+        let words = if self.w32 < self.w64 {
+            self.w32
+        } else {
+            self.w64
+        };
+        let least = if words < self.slack {
+            words
+        } else {
+            self.slack
+        };
+        if len < 256 || least < 1024 {
+            return 0;
+        }
+        (least / 16 - 32) as usize
+    }
+
+    /// What is left where `n` bytes and so many words on 64 bits were spent in a run.
+    pub fn after(self, n: u64, spent: u64, run: Run) -> Left
+        requires { (left : Left) × IsAfter self left run n spent }
+        ensures { (left : Left) → IsAfter self left run n spent → result ≡ left }
+    {
+        Left {
+            slack: self.slack + self.pending - n - run.pending,
+            pending: run.pending,
+            w32: self.w32 - (spent + run.extra),
+            w64: self.w64 - spent,
         }
     }
 
@@ -139,5 +183,39 @@ impl Left {
             w32: Left::limit32(&first.head) - self.w32,
             w64: first.head.w64 - self.w64,
         }
+    }
+}
+
+impl Run {
+    ghost use Rattle.om_read.specs.Left.{Goes};
+
+    /// Goes on after a token whose object has this measure, if a value is still to come.
+    #[inline(always)]
+    pub fn spend(&mut self, measure: Option<Measure>) -> bool
+        requires open { 0 < self.old.pending }
+        requires short { self.old.pending < 2 ^ 48 }
+        requires small { of_object fields measure < 2 ^ 60 }
+        requires countable { ForSome measure IsCountable }
+        requires more { of_object words64 measure ≤ of_object words32 measure }
+        requires room { self.old.extra + of_object words32 measure < 2 ^ 64 }
+        ensures { MatchBool result (Goes self.old measure self.new) (self.new ≡ self.old) }
+    {
+        let Some(measure) = measure else {
+            if self.pending == 1 {
+                return false;
+            }
+            self.pending -= 1;
+            return true;
+        };
+        let fields = fields_of(measure);
+        if self.pending == 1 && fields == 0 {
+            return false;
+        }
+        let (w32, w64) = words_of(measure);
+        *self = Run {
+            pending: self.pending - 1 + fields,
+            extra: self.extra + (w32 - w64),
+        };
+        true
     }
 }

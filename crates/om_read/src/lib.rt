@@ -12,6 +12,7 @@ mod pieces;
 mod read;
 mod reader;
 mod reading;
+mod run;
 mod token;
 mod totals;
 mod unread;

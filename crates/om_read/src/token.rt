@@ -1,7 +1,7 @@
 //! What the code of a token and its first bytes say of its size (`intext.h` has the codes).
 
 ghost use Rattle.std.specs.Prelude.{◌≡◌, ◌≤◌, ◌<◌, ◌+◌, ◌*◌, ◌^◌, length, take};
-ghost use Rattle.om_model.specs.Bytes.{number, signed};
+ghost use Rattle.om_model.specs.Bytes.{number, number_in, signed};
 ghost use Rattle.om_format.specs.Code.{custom_of, native_bytes};
 ghost use Rattle.om_format.specs.Raw.{fixed_bytes, field_bytes, variable_bytes, measure_after};
 ghost use Rattle.om_format.specs.Raw.{custom_bytes, custom_measure, block_measure};
@@ -63,6 +63,22 @@ pub fn signed_four(bytes: &[u8]) -> i64
 {
     let value = u32::from_be_bytes([bytes[0], bytes[1], bytes[2], bytes[3]]);
     i64::from(value.cast_signed())
+}
+
+/// The bits of a double, whose eight bytes stand in either order. It is one load.
+#[tactic(auto, using(crate::proofs::SizeLemmas::little_eight, crate::proofs::SizeLemmas::big_eight))]
+#[inline(always)]
+pub fn double_bits(bytes: &[u8], little: bool) -> u64
+    requires { length bytes.now ≡ 8 }
+    ensures { result ≡ number_in little bytes.now }
+{
+    let mut all = [0u8; 8];
+    all.copy_from_slice(bytes);
+    if little {
+        u64::from_le_bytes(all)
+    } else {
+        u64::from_be_bytes(all)
+    }
 }
 
 /// The custom that the first three bytes name.

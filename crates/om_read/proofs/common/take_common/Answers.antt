@@ -11,13 +11,13 @@ use Rattle.om_read.proofs.common.take_common.Goals.{After-count}
 
 -- the place that is reached
 reached : (c : After-count) (limit : ℕ) (taken : List ℕ) → LeadsAs (Some c.args.totals.now) limit taken c.args.builder.now []
-    → (place : Totals) × Leaves c.args.totals.now c.take_all-n.result place c.take_all-n.new.left × (c.count.result ≡ place.objects)
-    × TakesCommon limit taken c.data_in.result.now place c.take_all-n.new.builder c.take_all-n.result
+    → (place : Totals) × Leaves c.args.totals.now c.take_many-n.result place c.take_many-n.new.left × (c.count.result ≡ place.objects)
+    × TakesCommon limit taken c.data_in.result.now place c.take_many-n.new.builder c.take_many-n.result
 reached c limit taken h =
-    let t = c.take_all-n.ensures limit taken h in
+    let t = c.take_many-n.ensures limit taken h in
     let w = t.2.2 in
-    let leaves = subst (λ k. Leaves c.args.totals.now k t.0 c.take_all-n.new.left) (omega arith) t.1 in
-    (t.0, leaves, c.count.ensures ∙ objects_built w.0 w.1 t.0 c.take_all-n.new.builder w.2.builds ∙ w.2.builds.sums.objects, t.2)
+    let leaves = subst (λ k. Leaves c.args.totals.now k t.0 c.take_many-n.new.left) (omega arith) t.1 in
+    (t.0, leaves, c.count.ensures ∙ objects_built w.0 w.1 t.0 c.take_many-n.new.builder w.2.builds ∙ w.2.builds.sums.objects, t.2)
 
 pub place-requires : goal.place-requires
 place-requires c =
@@ -29,9 +29,9 @@ pub returns : goal.returns
 returns c = λ limit taken h.
     let r = reached (goal.at.returns c).After-count limit taken h in
     let same = c.place.ensures r.0 r.1 r.2 in
-    let t = front_taken limit taken c.args.bytes.now (c.args.totals.now.head.length - c.args.totals.now.taken) r.0 c.take_all-n.new.builder c.take_all-n.result
-    (subst (λ xs. TakesCommon limit taken xs r.0 c.take_all-n.new.builder c.take_all-n.result) c.data_in.ensures r.3) in (
+    let t = front_taken limit taken c.args.bytes.now (c.args.totals.now.head.length - c.args.totals.now.taken) r.0 c.take_many-n.new.builder c.take_many-n.result
+    (subst (λ xs. TakesCommon limit taken xs r.0 c.take_many-n.new.builder c.take_many-n.result) c.data_in.ensures r.3) in (
       t.0,
       λ last. let e = t.1 (same.pending ∙ last) in (e.0, sym same.taken ∙ e.1 ∙ ap (λ (h : Head). h.length) same.head),
-      same_place limit (taken ++ take c.take_all-n.result c.args.bytes.now) r.0 c.place.result c.take_all-n.new.builder same t.2,
+      same_place limit (taken ++ take c.take_many-n.result c.args.bytes.now) r.0 c.place.result c.take_many-n.new.builder same t.2,
     )

@@ -1,0 +1,15 @@
+use Rattle.std.proofs.Common.{ℕ, List, [], Some, ◌-◌, ◌<◌}
+use Rattle.om_read.specs.declared.left.Left.{Left}
+use Rattle.om_read.specs.Left.{Leaves, Runs, HasPlenty}
+use Rattle.om_read.specs.Pieces.{LeadsAs}
+use Rattle.om_read.proofs.RunLemmas.{IsUnderway}
+use Rattle.om_read.proofs.run.run_all.Given as goal
+
+-- what led to the first place leads on with the tokens that were taken, and there is enough for
+-- those to come
+abbrev pub invariant-loop-at : goal.invariant-loop-at
+invariant-loop-at l = (0 < l.now.pending) × ((limit : ℕ) (taken : List ℕ) (from : Left) → LeadsAs (Some l.fn.first) limit taken l.fn.builder [] → Leaves l.fn.first 0 l.fn.first from
+    → Runs from from l.fn.begun → HasPlenty from l.fn.most → IsUnderway l.fn.first limit taken l.bytes from l.now l.builder l.at l.most)
+
+abbrev pub decreases-loop-at : goal.decreases-loop-at
+decreases-loop-at l = l.most - l.at

@@ -1,0 +1,206 @@
+//! Runs of common tokens, while there is enough for each of them: what is left is not compared at
+//! each token, and most of it is told at the end of the run. So few numbers are kept.
+
+ghost use Rattle.std.specs.Prelude.{◌≡◌, ◌<◌, ◌≤◌, ◌^◌, ℕ, List, [], length, drop};
+ghost use Rattle.std.specs.Prelude.{slice_index, Some, Ok};
+ghost use Rattle.om_format.specs.Code.{kind_of};
+ghost use Rattle.om_read.specs.declared.left.Left.{Left};
+ghost use Rattle.om_read.specs.declared.totals.Totals.{Totals};
+ghost use Rattle.om_read.specs.Left.{Leaves, Stands, TakesAll, Runs, HasEnough, HasPlenty};
+ghost use Rattle.om_read.specs.Left.{RunsOn, RunsAll};
+ghost use Rattle.om_read.specs.Pieces.{LeadsAs};
+
+use crate::build::Builder;
+use crate::common::sound_len;
+use crate::decode::decode_in_room;
+use crate::left::{Left, Run};
+use crate::token::measure_at;
+use crate::totals::Totals;
+use om_codes::Known;
+use om_model::code::CodeKind;
+
+/// The bytes after a token's code, of which it is known here that there is one.
+#[inline(always)]
+fn after_code(bytes: &[u8]) -> &[u8]
+    requires { 0 < length bytes.now }
+    ensures { result.now ≡ drop 1 bytes.now }
+{
+    &bytes[1..]
+}
+
+/// Takes the next token, which is of this kind, if it surely passes, is not the last one and needs
+/// no memory.
+#[tactic(auto, using(crate::proofs::SizeLemmas::measure_small))]
+#[inline(always)]
+fn run_kind(
+    first: &Totals,
+    now: &mut Run,
+    builder: &mut Builder,
+    kind: CodeKind,
+    bytes: &[u8],
+) -> usize
+    requires some { 0 < length bytes.now }
+    requires kind { kind_of (slice_index bytes.now 0) ≡ Ok kind }
+    requires open { 0 < now.old.pending }
+    requires runs { (n : ℕ) × (header : List ℕ) × (before : List (List ℕ)) × (place : Totals)
+        × (from : Left) × (left : Left) × Stands first.now n header before place left builder.old
+        × Runs from left now.old × HasEnough left }
+    ensures { (n : ℕ) (header : List ℕ) (before : List (List ℕ)) (place : Totals) (from left : Left)
+        → Stands first.now n header before place left builder.old → Runs from left now.old
+        → HasEnough left
+        → RunsOn first.now n header before bytes.now place from left now.old builder.old now.new
+        builder.new result }
+{
+    let rest = after_code(bytes);
+    let known = Known { kind };
+    let objects = builder.count();
+    let Some(len) = sound_len(first.head.objects, objects, known, rest) else {
+        return 0;
+    };
+    let mut next = *now;
+    if !next.spend(measure_at(known, rest)) {
+        return 0;
+    }
+    if !decode_in_room(builder, known, &rest[..len]) {
+        return 0;
+    }
+    *now = next;
+    1 + len
+}
+
+/// The same of one whose code is below those of small blocks, integers and strings.
+#[tactic(auto, unfolding(om_format::specs::Code::kind_of))]
+#[inline(always)]
+fn run_large(first: &Totals, now: &mut Run, builder: &mut Builder, bytes: &[u8]) -> usize
+    requires some { 0 < length bytes.now }
+    requires open { 0 < now.old.pending }
+    requires runs { (n : ℕ) × (header : List ℕ) × (before : List (List ℕ)) × (place : Totals)
+        × (from : Left) × (left : Left) × Stands first.now n header before place left builder.old
+        × Runs from left now.old × HasEnough left }
+    ensures { (n : ℕ) (header : List ℕ) (before : List (List ℕ)) (place : Totals) (from left : Left)
+        → Stands first.now n header before place left builder.old → Runs from left now.old
+        → HasEnough left
+        → RunsOn first.now n header before bytes.now place from left now.old builder.old now.new
+        builder.new result }
+{
+    match bytes[0] {
+        0x00 => run_kind(first, now, builder, CodeKind::Int(1), bytes),
+        0x01 => run_kind(first, now, builder, CodeKind::Int(2), bytes),
+        0x02 => run_kind(first, now, builder, CodeKind::Int(4), bytes),
+        0x04 => run_kind(first, now, builder, CodeKind::Shared(1), bytes),
+        0x05 => run_kind(first, now, builder, CodeKind::Shared(2), bytes),
+        0x06 => run_kind(first, now, builder, CodeKind::Shared(4), bytes),
+        0x0c => run_kind(first, now, builder, CodeKind::Double(true), bytes),
+        _ => 0,
+    }
+}
+
+/// Takes the next token, if it surely passes, is not the last one and needs no memory: how many
+/// bytes it has, or 0. The most common ones are told by one test each.
+#[tactic(auto, unfolding(om_format::specs::Code::kind_of))]
+#[inline(always)]
+fn run_one(first: &Totals, now: &mut Run, builder: &mut Builder, bytes: &[u8]) -> usize
+    requires some { 0 < length bytes.now }
+    requires open { 0 < now.old.pending }
+    requires runs { (n : ℕ) × (header : List ℕ) × (before : List (List ℕ)) × (place : Totals)
+        × (from : Left) × (left : Left) × Stands first.now n header before place left builder.old
+        × Runs from left now.old × HasEnough left }
+    ensures { (n : ℕ) (header : List ℕ) (before : List (List ℕ)) (place : Totals) (from left : Left)
+        → Stands first.now n header before place left builder.old → Runs from left now.old
+        → HasEnough left
+        → RunsOn first.now n header before bytes.now place from left now.old builder.old now.new
+        builder.new result }
+{
+    let code = bytes[0];
+    if code >= 0x80 {
+        let size = code / 16 % 8;
+        if size == 0 {
+            return run_kind(
+                first,
+                now,
+                builder,
+                CodeKind::SmallBlock(code % 16, 0),
+                bytes,
+            );
+        }
+        let kind = CodeKind::SmallBlock(code % 16, size);
+        return run_kind(first, now, builder, kind, bytes);
+    }
+    if code >= 0x40 {
+        return run_kind(first, now, builder, CodeKind::SmallInt(code % 64), bytes);
+    }
+    if code >= 0x20 {
+        return run_kind(first, now, builder, CodeKind::SmallString(code % 32), bytes);
+    }
+    run_large(first, now, builder, bytes)
+}
+
+/// Takes such tokens that begin in the first `most` bytes: how many bytes they have, and what is
+/// kept. It is called, so that it has the registers for itself.
+#[inline(never)]
+fn run_all(
+    first: &Totals,
+    begun: Run,
+    builder: &mut Builder,
+    bytes: &[u8],
+    most: usize,
+) -> (usize, Run)
+    requires open { 0 < begun.pending }
+    requires within { most ≤ length bytes.now }
+    requires runs { (limit : ℕ) × (taken : List ℕ) × (from : Left)
+        × LeadsAs (Some first.now) limit taken builder.old [] × Leaves first.now 0 first.now from
+        × Runs from from begun × HasPlenty from most }
+    ensures { (limit : ℕ) (taken : List ℕ) (from : Left)
+        → LeadsAs (Some first.now) limit taken builder.old [] → Leaves first.now 0 first.now from
+        → Runs from from begun → HasPlenty from most
+        → RunsAll first.now limit taken bytes.now from result.1 builder.new result.0 }
+{
+    let mut at = 0;
+    let mut now = begun;
+    while at < most {
+        let n = run_one(first, &mut now, builder, &bytes[at..]);
+        if n == 0 {
+            return (at, now);
+        }
+        at += n;
+    }
+    (at, now)
+}
+
+/// The less of the two.
+#[inline(always)]
+fn within(most: usize, len: usize) -> usize
+    ensures most { result ≤ most }
+    ensures len { result ≤ len }
+{
+    if most < len { most } else { len }
+}
+
+/// Takes such tokens, where there is enough for those that begin in the first `most` bytes: how
+/// many bytes they have.
+pub fn run(
+    first: &Totals,
+    left: &mut Left,
+    builder: &mut Builder,
+    bytes: &[u8],
+    most: usize,
+) -> usize
+    requires open { 0 < first.now.pending }
+    requires plenty { HasPlenty left.old most }
+    requires short { left.old.w32 < 2 ^ 64 }
+    requires leaves { Leaves first.now 0 first.now left.old }
+    requires leads { (limit : ℕ) × (taken : List ℕ)
+        × LeadsAs (Some first.now) limit taken builder.old [] }
+    ensures { (limit : ℕ) (taken : List ℕ) → LeadsAs (Some first.now) limit taken builder.old [] →
+        TakesAll first.now 0 limit taken bytes.now left.new builder.new result }
+{
+    let begun = Run {
+        pending: left.pending,
+        extra: 0,
+    };
+    let words = builder.words();
+    let most = within(most, bytes.len());
+    let (n, now) = run_all(first, begun, builder, bytes, most);
+    *left = left.after(n as u64, builder.words() - words, now);
+    n
+}
