@@ -23,7 +23,7 @@ IsFlat table graph (vals.Ref o) t last next =
 -- ---- whether all parts are flat
 
 -- The last object, behind a value whose fields with types are these: the value itself, where it is
--- an object. It has to come behind the one before, and to have none.
+-- an object. It has to come behind the one before, and to have no such fields.
 abbrev pub last_with : Val → ℕ → List (ℕ × ℕ) → Option ℕ
 last_with (vals.Int z) last fields = Some last
 last_with (vals.Atom tag) last fields = Some last
@@ -44,7 +44,8 @@ last_of_all table graph o (part ∷ parts) last =
     option_and_then (λ (next : ℕ). last_of_all table graph o parts next)
     (option_and_then (last_behind table graph part.1 last) (field_at graph o part.0))
 
--- at most eight parts of the object have types at type 0, and all are flat
+-- the object has at most eight parts at type 0, those of which nothing is asked too, and all are
+-- flat
 abbrev pub are_few_and_flat : Table → List Obj → ℕ → Bool
 are_few_and_flat table graph o =
     let parts = typed_fields table graph (vals.Ref o) 0 in
