@@ -1,15 +1,13 @@
 -- What numbers names have in a table.
 use Rattle.std.specs.Prelude.{ℕ, ◌<◌, ◌≡◌, ◌≢◌, List, Option, Some, slice_get, MatchOption}
 use Rattle.std.specs.Prelude.{unwrap_or, if◌then◌else◌}
-use Rattle.std.specs.BTreeMap.{get_by}
-use Rattle.std.specs.Cmp.Lexicographic.{slice_cmp}
-use Rattle.std.specs.Ordering.{nat_cmp}
 use Rattle.std.specs.Str.{bytes_eq}
+use Rattle.indexmap.specs.IndexMap.{get_by}
 use Rattle.om_scope.specs.declared.table.Table.{Table}
 
 -- the number of this name, where the table has it
 abbrev pub number_of : Table → List ℕ → Option ℕ
-number_of table name = get_by (λ k. slice_cmp nat_cmp name k.now) table.entries
+number_of table name = get_by (λ k. bytes_eq name k.now) table.entries
 
 -- numbers with one more, unless the name has one
 abbrev pub added : (List ℕ → Option ℕ) → List ℕ → ℕ → List ℕ → Option ℕ

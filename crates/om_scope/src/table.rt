@@ -3,14 +3,14 @@
 ghost use Rattle.std.specs.Prelude.{◌≡◌, ℕ, List, OnOk, IfOk, None};
 ghost use Rattle.om_scope.specs.Names.{number_of, added};
 
+use indexmap::IndexMap;
 use om_model::Memory;
 use std::alloc::Global;
-use std::collections::BTreeMap;
 
 /// Names, each with a number.
 #[derive(Drop)]
 pub struct Table<'a> {
-    entries: BTreeMap<&'a [u8], usize>,
+    entries: IndexMap<&'a [u8], usize>,
 }
 
 /// A table without names.
@@ -18,7 +18,7 @@ pub fn empty<'a>(alloc: Global) -> Table<'a>
     ensures { (q : List ℕ) → number_of result q ≡ None }
 {
     Table {
-        entries: BTreeMap::new(alloc),
+        entries: IndexMap::new(alloc),
     }
 }
 
