@@ -3,6 +3,7 @@ use Rattle.std.proofs.Common.{ℕ, ◌≡◌, ◌∙◌, Bool, true, false, cond
 use Rattle.std.specs.Prelude.{not, ◌||◌, filter}
 use Rattle.std.specs.Str.{bytes_eq}
 use Rattle.std.specs.Cmp.Lexicographic.{bytes_decides}
+use Rattle.std.proofs.Math.Bool.{or-true}
 use Rattle.std.proofs.lemmas.Bool.{false≢true}
 use Rattle.std.proofs.lemmas.List.{append_assoc, append-nil}
 use Rattle.std.proofs.lemmas.List.Elements.{filter-append}
@@ -93,6 +94,25 @@ pub none_new_more : (tags more last : List (TagOf Ty)) → filter (is_new tags) 
 none_new_more tags more last none =
     sym (filter-filter (is_new more) (is_new tags) (is_new (joined tags more)) (is_new-joined tags more) last)
     ∙ none_kept (is_new more) (is_new tags) last none
+
+has_tag-own : (front rest : List (TagOf Ty)) (item : TagOf Ty) → has_tag (front ++ item ∷ rest) item.name ≡ true
+has_tag-own [] rest item = ap (λ b. b || has_tag rest item.name) ((bytes_decides item.name item.name).1 refl)
+has_tag-own (other ∷ front) rest item =
+    ap (λ b. bytes_eq other.name item.name || b) (has_tag-own front rest item) ∙ or-true (bytes_eq other.name item.name)
+
+none_new_after : (front more : List (TagOf Ty)) → filter (is_new (front ++ more)) more ≡ []
+none_new_after front [] = refl
+none_new_after front (item ∷ more) =
+    let rest = filter (is_new (front ++ item ∷ more)) more in
+    ap (λ b. cond (not b) (item ∷ rest) rest) (has_tag-own front more item)
+    ∙ ap (λ ts. filter (is_new ts) more) (sym (append_assoc front (item ∷ []) more))
+    ∙ none_new_after (front ++ item ∷ []) more
+
+-- what was joined is there
+pub joined_there : (tags more : List (TagOf Ty)) → filter (is_new (joined tags more)) more ≡ []
+joined_there tags more =
+    sym (filter-filter (is_new more) (is_new tags) (is_new (joined tags more)) (is_new-joined tags more) more)
+    ∙ ap (filter (is_new tags)) (none_new_after [] more)
 
 pub joined_none : (tags more : List (TagOf Ty)) → filter (is_new tags) more ≡ [] → joined tags more ≡ tags
 joined_none tags more none = ap (λ ts. tags ++ ts) none ∙ append-nil tags

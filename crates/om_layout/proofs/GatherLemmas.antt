@@ -31,7 +31,7 @@ use Rattle.om_layout.specs.declared.bracket.Step.{Step}
 use Rattle.om_layout.specs.declared.bracket.Step.TheVariants as steps
 use Rattle.om_layout.specs.Tags.{has_bracket, before_item, items, tags_of_item, with_item, with_items, tags_at, tags_of_entries, IsTagWithin, has_name, with_tag, IsHeadOf}
 use Rattle.om_layout.specs.Work.{work, written_work}
-use Rattle.om_layout.specs.Steps.{BringsNone, IsSettled, AreSettled, AreLeft, AreGathered, AreAll, IsStepWithin, item_work, steps_work}
+use Rattle.om_layout.specs.Steps.{BringsNone, IsSettled, IsSure, AreSettled, AreLeft, AreGathered, AreAll, IsStepWithin, item_work, steps_work}
 use Rattle.om_layout.proofs.BracketLemmas.{none_new_more, joined_none, joined-plain, joined-no_bracket, head_of_bracket, head_of_no_bracket}
 
 -- ---- a tag more
@@ -106,7 +106,7 @@ module _ (decls : List Decl) (types added : List Ty) where
     subst (λ (t : Ty). AreLeft decls (types ++ added) (joined tags (tags_in (head decls t))) rest all) (sym (at_kept types added n left.0))
         (left_kept rest (joined tags (tags_in (head decls (type_at types n)))) all left.1),
   )
-  left_kept (steps.Settle d ∷ rest) tags all left = (left.0, left_kept rest tags all left.1)
+  left_kept (steps.Settle d ∷ rest) tags all left = (left.0, left.1, left_kept rest tags all left.2)
 
   work_kept : (rest : List Step) (tags all : List (TagOf Ty)) → AreLeft decls types tags rest all
       → steps_work decls (types ++ added) rest ≡ steps_work decls types rest
@@ -119,7 +119,7 @@ module _ (decls : List Decl) (types added : List Ty) where
       ap (λ (t : Ty). suc (work decls t) + steps_work decls (types ++ added) rest) (at_kept types added n left.0)
       ∙ ap (λ m. suc (work decls (type_at types n)) + m)
       (work_kept rest (joined tags (tags_in (head decls (type_at types n)))) all left.1)
-  work_kept (steps.Settle d ∷ rest) tags all left = ap (λ k. 1 + k) (work_kept rest tags all left.1)
+  work_kept (steps.Settle d ∷ rest) tags all left = ap (λ k. 1 + k) (work_kept rest tags all left.2)
 
 settled_more : (decls : List Decl) (tags more : List (TagOf Ty)) (settled : List ℕ) → AreSettled decls tags settled
     → AreSettled decls (joined tags more) settled
@@ -223,15 +223,16 @@ including_less decls types item rest whole included is =
 module _ (decls : List Decl) (old new : List Ty) (grown : Grows old new) (found : List (TagOf ℕ)) (settled : List ℕ)
     (d : ℕ) (rest : List Step) (all : List (TagOf Ty)) (was : AreGathered decls old found settled (steps.Settle d ∷ rest) all) where
   pub settle_gathered : (settled' : List ℕ)
-      → (AreSettled decls (tags_at new found) settled → AreSettled decls (tags_at new found) settled')
+      → (IsSure decls (tags_at new found) d → AreSettled decls (tags_at new found) settled
+      → AreSettled decls (tags_at new found) settled')
       → AreGathered decls new found settled' rest all
   settle_gathered settled' more =
       let now = gathered_kept decls old new grown found settled (steps.Settle d ∷ rest) all was in
-      record { found_within = now.found_within; brought = more now.brought; left = now.left.1 }
+      record { found_within = now.found_within; brought = more now.left.1 now.brought; left = now.left.2 }
 
   pub settle_less : steps_work decls new rest < steps_work decls old (steps.Settle d ∷ rest)
   settle_less =
-      let kept = rest_kept decls old new grown found settled rest all (tags_at old found) was.left.1 in omega (arith, kept)
+      let kept = rest_kept decls old new grown found settled rest all (tags_at old found) was.left.2 in omega (arith, kept)
 
 -- ---- an included type
 

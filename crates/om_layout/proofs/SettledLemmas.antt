@@ -1,6 +1,6 @@
 -- Abbreviations whose tags are all there, at any arguments.
 use Rattle.std.proofs.Common.{ℕ, suc, ◌+◌, ◌<◌, ◌≤◌, ◌≡◌, ◌∙◌, nat_eq, Bool, true, false, cond, List, [], ◌∷◌, ◌++◌, length, Option, Some, None, refl, sym, ap, subst, arith}
-use Rattle.std.specs.Prelude.{slice_get, not, filter, IfSome}
+use Rattle.std.specs.Prelude.{slice_get, not, filter, IfSome, IsSome}
 use Rattle.std.specs.List.{list_any}
 use Rattle.std.proofs.lemmas.Bool.{false≢true, eqb-true}
 use Rattle.std.proofs.lemmas.List.Elements.{filter-append, All-push, All-contains}
@@ -16,16 +16,16 @@ use Rattle.om_types.specs.declared.head.HeadOf.TheVariants as heads
 use Rattle.om_types.specs.Ty.{Ty, variable, named, tuple, bracket, part, tag, tag_of, including, parts, instance, argument_for}
 use Rattle.om_types.specs.Nodes.{type_at}
 use Rattle.om_types.specs.Declarations.{abbreviated, unfolded}
-use Rattle.om_types.specs.Head.{head, plain_head, with_tags, tags_in, has_tag, bare_tag, carrying_tag}
+use Rattle.om_types.specs.Head.{head, plain_head, with_tags, tags_in, joined, has_tag, bare_tag, carrying_tag}
 use Rattle.om_types.specs.Accepted.{AreSound}
 use Rattle.om_equal.proofs.NeedLemmas.{head_again, head_plain}
 use Rattle.om_equal.proofs.RankedLemmas.{are_ranked}
 use Rattle.om_layout.specs.Tags.{has_bracket, before_item}
-use Rattle.om_layout.specs.Way.{EachLeads, IsAbbreviation}
+use Rattle.om_layout.specs.Way.{EachLeads, IsAbbreviation, IsBare}
 use Rattle.om_layout.specs.Work.{work}
-use Rattle.om_layout.specs.Steps.{AreThere, BringsNone, EachBringsNone, EachItemBringsNone, IsSettled, IsSettledAt, AreSettled, numbers_work}
-use Rattle.om_layout.proofs.BracketLemmas.{is_new, none_kept}
-use Rattle.om_layout.proofs.WayLemmas.{name_instance, instance_itself, unfolded_is, way_head, way_work}
+use Rattle.om_layout.specs.Steps.{AreThere, BringsNone, EachBringsNone, EachItemBringsNone, IsSettled, IsSure, IsSettledAt, AreSettled, numbers_work}
+use Rattle.om_layout.proofs.BracketLemmas.{is_new, none_kept, joined_there}
+use Rattle.om_layout.proofs.WayLemmas.{name_instance, instance_itself, unfolded_is, bare_next, way_head, way_work}
 
 -- ---- tags that are there
 
@@ -146,6 +146,32 @@ module _ (decls : List Decl) (tags : List (TagOf Ty)) where
         ap (λ h. filter (is_new tags) (tags_in h))
         (head_again decls sound.rank (are_ranked decls sound) t (instance value body) next)
         ∙ each value
+
+-- ---- abbreviations without parameters
+
+module _ (decls : List Decl) (sound : AreSound decls) where
+  body_at : (o : Option Ty) → IsSome o → (body : Ty) × (o ≡ Some body)
+  body_at (Some body) is = (body, refl)
+  body_at None is = absurd (false≢true is)
+
+  -- all types of the abbreviation have one head
+  one_head : (d : ℕ) → IsBare decls d → (t u : Ty) → IsAbbreviation decls t d → IsAbbreviation decls u d
+      → head decls t ≡ head decls u
+  one_head d bare t u at other =
+      let body = body_at (abbreviated at.decl.body) at.abbreviates in
+      head_again decls sound.rank (are_ranked decls sound) t body.0
+      (bare_next decls None d t body.0 at.decl bare at at.there body.1)
+      ∙ sym (head_again decls sound.rank (are_ranked decls sound) u body.0
+      (bare_next decls None d u body.0 at.decl bare other at.there body.1))
+
+  -- once the tags of a type with the head of t were joined
+  pub sure_joined : (t u : Ty) (decl : Option ℕ) (tags : List (TagOf Ty)) → IfSome decl (IsAbbreviation decls t)
+      → head decls u ≡ head decls t → IfSome decl (IsSure decls (joined tags (tags_in (head decls u))))
+  sure_joined t u None tags is same = tt
+  sure_joined t u (Some d) tags is same = λ bare other at.
+      ap (λ h. filter (is_new (joined tags (tags_in (head decls u)))) (tags_in h))
+      (one_head d bare other t at is ∙ sym same)
+      ∙ joined_there tags (tags_in (head decls u))
 
 -- ---- how much is to be done
 

@@ -12,7 +12,7 @@ use Rattle.om_types.specs.Head.{head}
 use Rattle.om_equal.proofs.HeadMapLemmas.{append-map}
 use Rattle.om_equal.proofs.NeedLemmas.{head_again}
 use Rattle.om_equal.proofs.RankedLemmas.{are_ranked}
-use Rattle.om_layout.specs.Way.{IsOf, IsOfAt, IsAt, Way, Leads, Passes, EachLeads, EachPasses, IsArgument, ComesToArgument}
+use Rattle.om_layout.specs.Way.{IsAbbreviation, IsBare, IsOf, IsOfAt, IsAt, Way, Leads, Passes, EachLeads, EachPasses, IsArgument, ComesToArgument}
 use Rattle.om_layout.proofs.ReplacedLemmas.{ComesTo, times_more}
 use Rattle.om_layout.specs.Work.{work}
 use Rattle.om_layout.proofs.WorkLemmas.{work_again}
@@ -97,6 +97,20 @@ module _ (decls : List Decl) (group : Option ℕ) where
       ap (λ o. abbreviated_by decls o (parts t)) named'
       ∙ ap (λ o. abbreviated_at o (parts t)) found
       ∙ ap (option_map (instance (argument_for decl.parameters (parts t)))) is
+
+  -- an abbreviation without parameters stands for its type as it is
+  module _ (d : ℕ) where
+    pub is_bare : (decl : Decl) → slice_get decls d ≡ Some decl → decl.parameters ≡ [] → IsBare decls d
+    is_bare decl there none other at =
+        subst (λ (x : Decl). x.parameters ≡ []) (same_Some decl other (sym there ∙ at)) none
+
+    pub bare_next : (t body : Ty) (decl : Decl) → IsBare decls d → IsAbbreviation decls t d → slice_get decls d ≡ Some decl
+        → abbreviated decl.body ≡ Some body → unfolded decls t ≡ Some body
+    bare_next t body decl bare at there is =
+        let one = same_Some at.decl decl (sym at.there ∙ there) in
+        let same : instance (argument_for decl.parameters (parts t)) body ≡ body =
+        ap (λ ps. instance (argument_for ps (parts t)) body) (bare decl there) ∙ instance_itself body in
+        unfolded_is t body decl at.name at.named (at.found ∙ ap Some one) is ∙ ap Some same
 
   not_at :
       (t : Ty) (decl : Decl) (name : List ℕ) → name_of t ≡ Some name → declaration_of decls name ≡ Some decl

@@ -9,7 +9,7 @@ use Rattle.om_types.specs.Head.{head, has_tag, joined, tags_in}
 use Rattle.om_layout.specs.declared.bracket.Step.{Step}
 use Rattle.om_layout.specs.declared.bracket.Step.TheVariants as steps
 use Rattle.om_layout.specs.Tags.{tags_of_item, with_item, tags_at, IsTagWithin}
-use Rattle.om_layout.specs.Way.{IsAbbreviation}
+use Rattle.om_layout.specs.Way.{IsAbbreviation, IsBare}
 use Rattle.om_layout.specs.Work.{work}
 
 -- its number is that of a type, or of a declaration
@@ -51,6 +51,10 @@ abbrev pub IsSettledAt : List Decl → List (TagOf Ty) → Option ℕ → Type 0
 IsSettledAt decls tags None = ⊥
 IsSettledAt decls tags (Some d) = IsSettled decls tags d
 
+-- it is so where it has no parameters
+abbrev pub IsSure : List Decl → List (TagOf Ty) → ℕ → Type 0
+IsSure decls tags d = IsBare decls d → IsSettled decls tags d
+
 abbrev pub AreSettled : List Decl → List (TagOf Ty) → List ℕ → Type 0
 AreSettled decls tags settled = All (IsSettled decls tags) settled
 
@@ -66,7 +70,7 @@ AreLeft decls types tags (steps.Included n ∷ rest) all =
     (n < length types)
     × AreLeft decls types (joined tags (tags_in (head decls (type_at types n)))) rest all
 AreLeft decls types tags (steps.Settle d ∷ rest) all =
-    (d < length decls) × AreLeft decls types tags rest all
+    (d < length decls) × IsSure decls tags d × AreLeft decls types tags rest all
 
 -- The tags found and those that are left are all, and the tags of what is settled were found.
 pub record AreGathered (decls : List Decl) (types : List Ty) (found : List (TagOf ℕ))

@@ -1,6 +1,6 @@
 -- Ways of replacements at the head, and what is known of abbreviations.
-use Rattle.std.specs.Prelude.{ℕ, zero, suc, ◌<◌, ◌≤◌, ◌≡◌, List, Option, Some, None, IsSome, length}
-use Rattle.std.specs.Prelude.{nat_eq, position, slice_get}
+use Rattle.std.specs.Prelude.{ℕ, zero, suc, ◌<◌, ◌≤◌, ◌≡◌, List, [], Option, Some, None, IsSome}
+use Rattle.std.specs.Prelude.{nat_eq, position, slice_get, length}
 use Rattle.std.specs.Prelude.{option_and_then, All}
 use Rattle.std.specs.Str.{bytes_eq}
 use Rattle.indexmap.specs.IndexMap.{IndexMap, IsUnique, get, keys}
@@ -65,6 +65,10 @@ pub record IsAbbreviation (decls : List Decl) (t : Ty) (number : ℕ) : Type 0 w
   pub found : declaration_of decls name ≡ Some decl
   pub there : slice_get decls number ≡ Some decl
   pub abbreviates : IsSome (abbreviated decl.body)
+
+-- the declaration with this number has no parameters
+abbrev pub IsBare : List Decl → ℕ → Type 0
+IsBare decls number = (decl : Decl) → slice_get decls number ≡ Some decl → decl.parameters ≡ []
 
 -- each type with this declaration at its head comes to its argument i
 abbrev pub ComesToArgument : List Decl → Option ℕ → Decl → ℕ → Type 0

@@ -7,7 +7,7 @@ ghost use Rattle.om_types.specs.declared.head.TagOf.{TagOf as Tag};
 ghost use Rattle.om_types.specs.Ty.{Ty};
 ghost use Rattle.om_types.specs.Nodes.{type_at};
 ghost use Rattle.om_types.specs.Declarations.{unfolded};
-ghost use Rattle.om_types.specs.Head.{head};
+ghost use Rattle.om_types.specs.Head.{head, joined, tags_in};
 ghost use Rattle.om_types.specs.Accepted.{AreSound};
 ghost use Rattle.om_store.specs.Held.{Grows};
 ghost use Rattle.om_layout.specs.Plain.{IsBracketed};
@@ -16,11 +16,12 @@ ghost use Rattle.om_layout.specs.Tags.{has_bracket, before_item, items, with_ite
 ghost use Rattle.om_layout.specs.Tags.{tags_of_entries, IsHeadOf};
 ghost use Rattle.om_layout.specs.Way.{AreKnown};
 ghost use Rattle.om_layout.specs.Work.{work, written_work};
-ghost use Rattle.om_layout.specs.Steps.{AreLeft, AreGathered, AreAll, IsStepWithin, steps_work};
+ghost use Rattle.om_layout.specs.Steps.{AreLeft, AreGathered, AreAll, IsStepWithin, IsSure};
+ghost use Rattle.om_layout.specs.Steps.{steps_work};
 
 use crate::known::{Known, abbreviation, none_known};
 use crate::lent::Stored;
-use crate::replaced::nearer;
+use crate::replaced::nearer_from;
 use crate::settled::{Settled, is_settled, settle};
 use indexmap::{IndexMap, IndexSet};
 use om_model::Memory;
@@ -208,7 +209,7 @@ fn include(
     if is_settled(settled, decl) {
         return Ok(());
     }
-    match nearer(alloc, types, decls, None, known, included)? {
+    match nearer_from(alloc, types, decls, None, known, included, decl)? {
         Some(next) => push_next(decl, next, waiting),
         None => put_items(types, included, waiting),
     }
@@ -219,6 +220,7 @@ fn push_next(decl: Option<usize>, next: usize, waiting: &mut Vec<Step>) -> Resul
     ensures left { OnOk result
         ((decls : List Declaration) (types : List Ty) (tags all : List (Tag Ty))
         → IfSome decl (λ d. d < length decls)
+        → IfSome decl (IsSure decls (joined tags (tags_in (head decls (type_at types next)))))
         → AreLeft decls types tags (steps.Included next ∷ reverse waiting.old.items) all
         → AreLeft decls types tags (reverse waiting.new.items) all) }
     ensures work { OnOk result
@@ -286,17 +288,16 @@ fn add_tag(
 }
 
 /// The tags in a list.
-fn listed(alloc: Global, mut tags: Tags) -> Result<Vec<TagOf<usize>>, Memory>
+fn listed(alloc: Global, tags: Tags) -> Result<Vec<TagOf<usize>>, Memory>
     ensures { IfOk result (λ v. v.items ≡ tags_of_entries tags.entries) }
 {
-    let mut found = Vec::new(alloc);
-    while let Some((name, argument)) = tags.pop() {
+    let mut found = Vec::with_capacity(alloc, tags.len())?;
+    for (name, argument) in tags {
         found.push(TagOf {
             name: List::of(name),
             argument,
         })?;
     }
-    found.reverse();
     Ok(found)
 }
 

@@ -75,7 +75,7 @@ fn shape_at(
 fn hashed(alloc: Global, tags: &[TagOf<usize>]) -> Result<Vec<PolyTag<usize>>, Memory>
     ensures { IfOk result (λ v. v.items ≡ map hashed tags.now) }
 {
-    let mut found = Vec::new(alloc);
+    let mut found = Vec::with_capacity(alloc, tags.len())?;
     for tag in tags {
         found.push(PolyTag {
             hash: hash(tag.name.as_slice()),

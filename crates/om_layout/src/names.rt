@@ -204,7 +204,7 @@ fn constr_names(alloc: Global, constructor: &Constructor) -> Result<Option<Const
 fn tag_names(alloc: Global, tags: &[TagOf<usize>]) -> Result<Vec<TagName>, Memory>
     ensures { IfOk result (λ v. v.items ≡ map named tags.now) }
 {
-    let mut names = Vec::new(alloc);
+    let mut names = Vec::with_capacity(alloc, tags.len())?;
     for tag in tags {
         let name = tag.name.as_slice();
         names.push(TagName {

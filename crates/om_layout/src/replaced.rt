@@ -1,12 +1,12 @@
 //! Abbreviations at the head of a type, replaced.
 
-ghost use Rattle.std.specs.Prelude.{ℕ, ◌≡◌, ◌<◌, Option, None, length, IfOk, OnErr, OnOk};
+ghost use Rattle.std.specs.Prelude.{ℕ, ◌≡◌, ◌<◌, Option, None, length, IfOk, IfSome, OnErr, OnOk};
 ghost use Rattle.std.specs.Prelude.{MatchOption};
 ghost use Rattle.om_types.specs.Nodes.{type_at};
 ghost use Rattle.om_types.specs.Declarations.{unfolded, IsExpanded};
 ghost use Rattle.om_store.specs.Held.{Grows};
 ghost use Rattle.om_layout.specs.Unfolded.{IsReplaced, IsLeft, HasHeadOf};
-ghost use Rattle.om_layout.specs.Way.{AreKnown, IsNearer};
+ghost use Rattle.om_layout.specs.Way.{AreKnown, IsAbbreviation, IsBare, IsNearer};
 
 use crate::known::{Known, abbreviation, known_part, look_at, none_known};
 use crate::lent::Stored;
@@ -74,6 +74,31 @@ fn passed(
     }
 }
 
+/// The type after one replacement at its head, where this abbreviation without parameters is. It
+/// takes a step for each node of the abbreviation's type.
+fn bare_unfolded(
+    alloc: Global,
+    types: &mut Types,
+    decls: &SoundEnvironment<'_>,
+    number: usize,
+    decl: usize,
+) -> Result<Option<usize>, Memory>
+    requires number { number < length types.old }
+    requires decl { IsAbbreviation decls.now (type_at types.old number) decl }
+    requires bare { IsBare decls.now decl }
+    ensures ok { IfOk result
+        (λ next. MatchOption next
+        (IsLeft decls.now types.old types.new (type_at types.old number))
+        (IsReplaced decls.now types.old types.new (type_at types.old number))) }
+    ensures err { OnErr result (types.new ≡ types.old) }
+{
+    let Body::Abbreviation(body) = &decls.at(decl).body else {
+        return unfolded(alloc, types, decls, number);
+    };
+    let next = types.add(alloc, body)?;
+    Ok(Some(next))
+}
+
 /// The type after one or more replacements at its head, where an abbreviation is there. Those after
 /// the first are at no abbreviation of the group.
 pub fn nearer(
@@ -92,9 +117,36 @@ pub fn nearer(
     ensures known { OnOk result (AreKnown decls.now group known.new) }
     ensures grown { Grows types.old types.new }
 {
-    let Some(decl) = abbreviation(&Stored { types, number }, decls) else {
-        return passed(alloc, types, decls, known, number);
+    let decl = abbreviation(&Stored { types, number }, decls);
+    nearer_from(alloc, types, decls, group, known, number, decl)
+}
+
+/// The same, where the abbreviation at the head was looked for. One without parameters is replaced
+/// once, since it comes to none of its arguments.
+pub(crate) fn nearer_from(
+    alloc: Global,
+    types: &mut Types,
+    decls: &SoundEnvironment<'_>,
+    group: Option<usize>,
+    known: &mut Known,
+    number: usize,
+    decl: Option<usize>,
+) -> Result<Option<usize>, Memory>
+    requires number { number < length types.old }
+    requires known { AreKnown decls.now group known.old }
+    requires decl { IfSome decl (IsAbbreviation decls.now (type_at types.old number)) }
+    ensures ok { IfOk result
+        (λ next. MatchOption next (unfolded decls.now (type_at types.old number) ≡ None)
+        (IsNearer decls.now group types.new (type_at types.old number))) }
+    ensures known { OnOk result (AreKnown decls.now group known.new) }
+    ensures grown { Grows types.old types.new }
+{
+    let Some(decl) = decl else {
+        return unfolded(alloc, types, decls, number);
     };
+    if decls.at(decl).parameters.as_slice().is_empty() {
+        return bare_unfolded(alloc, types, decls, number, decl);
+    }
     look_at(alloc, types, decls, group, known, decl)?;
     passed(alloc, types, decls, known, number)
 }

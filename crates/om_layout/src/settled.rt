@@ -10,7 +10,7 @@ ghost use Rattle.om_store.specs.Held.{Grows};
 ghost use Rattle.om_layout.specs.Tags.{tags_at, tags_of_entries};
 ghost use Rattle.om_layout.specs.Way.{AreKnown};
 ghost use Rattle.om_layout.specs.Work.{work};
-ghost use Rattle.om_layout.specs.Steps.{AreSettled, IsSettledAt, EachBringsNone};
+ghost use Rattle.om_layout.specs.Steps.{AreSettled, IsSettledAt, IsSure, EachBringsNone};
 ghost use Rattle.om_layout.specs.Steps.{EachItemBringsNone, AreEachThere, numbers_work, item_work};
 
 use crate::bracket::{Tags, before_item, has_bracket};
@@ -37,9 +37,35 @@ pub(crate) fn is_settled(settled: &Settled, decl: Option<usize>) -> bool
     }
 }
 
+/// Settles an abbreviation, if all its tags are there at any arguments: where it has no parameters,
+/// they are, since it waited until those of one of its types were gathered.
+pub(crate) fn settle(
+    alloc: Global,
+    types: &mut Types,
+    decls: &SoundEnvironment<'_>,
+    known: &Known,
+    tags: &Tags,
+    settled: &mut Settled,
+    decl: usize,
+) -> Result<(), Memory>
+    requires decl { decl < length decls.now }
+    requires known { AreKnown decls.now None known.now }
+    ensures settled { let there = tags_at types.new (tags_of_entries tags.now.entries) in
+        OnOk result
+        (IsSure decls.now there decl → AreSettled decls.now there settled.old.keys
+        → AreSettled decls.now there settled.new.keys) }
+    ensures grown { Grows types.old types.new }
+{
+    if decls.at(decl).parameters.as_slice().is_empty() {
+        settled.insert(decl)?;
+        return Ok(());
+    }
+    settle_if_there(alloc, types, decls, known, tags, settled, decl)
+}
+
 /// Settles an abbreviation, if all its tags are there at any arguments. It takes a step for each
 /// node of its type.
-pub(crate) fn settle(
+fn settle_if_there(
     alloc: Global,
     types: &mut Types,
     decls: &SoundEnvironment<'_>,

@@ -8,7 +8,7 @@ use Rattle.om_layout.specs.declared.bracket.Step.TheVariants as steps
 use Rattle.om_layout.specs.Tags.{tags_at}
 use Rattle.om_layout.proofs.NearerLemmas.{type_kept, nearer_head, nearer_work_more}
 use Rattle.om_layout.proofs.GatherLemmas.{gathered_kept, left_by, include_there, include_next, included_less, next_less, last_less}
-use Rattle.om_layout.proofs.SettledLemmas.{settled_at, abbreviation_within}
+use Rattle.om_layout.proofs.SettledLemmas.{settled_at, abbreviation_within, sure_joined}
 use Rattle.om_layout.proofs.bracket.include.Goals as goal
 
 pub returns-then-is_settled-clause-gathered : goal.returns-then-is_settled-clause-gathered
@@ -31,7 +31,7 @@ pub returns-in-Some-clause-gathered : goal.returns-in-Some-clause-gathered
 returns-in-Some-clause-gathered c =
     let decls = c.args.decls.now in
     let old = c.args.types.now in
-    let new = c.nearer.new.types in
+    let new = c.nearer_from.new.types in
     let grown = c.in_ok-next.ensures.grown in
     let n = c.args.included in
     let rest = reverse c.args.waiting.now.items in
@@ -44,6 +44,8 @@ returns-in-Some-clause-gathered c =
     (gathered_kept decls old new grown found c.args.settled.now.keys (steps.Included n ∷ rest) all was)
     (λ left.
     put decls new (tags_at new found) all (abbreviation_within decls (tags_at new found) (type_at old n) c.abbreviation-decl.result c.abbreviation-decl.ensures)
+    (sure_joined decls c.holds.ensures (type_at old n) (type_at new c.in-Some.next) c.abbreviation-decl.result (tags_at new found)
+    c.abbreviation-decl.ensures (nearer_head decls None c.holds.ensures new (type_at old n) c.in-Some.next nearer))
     (include_next decls c.holds.ensures new n rest (tags_at new found) all left c.in-Some.next nearer.within same)))
     c.push_next.ensures.left
 
@@ -51,7 +53,7 @@ pub returns-in-Some-clause-less : goal.returns-in-Some-clause-less
 returns-in-Some-clause-less c =
     let decls = c.args.decls.now in
     let old = c.args.types.now in
-    let new = c.nearer.new.types in
+    let new = c.nearer_from.new.types in
     let n = c.args.included in
     let nearer = MatchOption-at_some _ _ c.in-Some.next c.in-Some.is c.in_ok-next.ensures.ok in
     on_ok_weaker c.push_next.result
@@ -65,7 +67,7 @@ pub returns-in-None-clause-gathered : goal.returns-in-None-clause-gathered
 returns-in-None-clause-gathered c =
     let decls = c.args.decls.now in
     let old = c.args.types.now in
-    let new = c.nearer.new.types in
+    let new = c.nearer_from.new.types in
     let grown = c.in_ok-next.ensures.grown in
     let n = c.args.included in
     let rest = reverse c.args.waiting.now.items in
@@ -82,7 +84,7 @@ pub returns-in-None-clause-less : goal.returns-in-None-clause-less
 returns-in-None-clause-less c =
     let decls = c.args.decls.now in
     let old = c.args.types.now in
-    let new = c.nearer.new.types in
+    let new = c.nearer_from.new.types in
     let grown = c.in_ok-next.ensures.grown in
     let n = c.args.included in
     let none = MatchOption-at_none _ _ c.in-None.is c.in_ok-next.ensures.ok in

@@ -1,19 +1,22 @@
-use Rattle.std.proofs.Common.{ℕ, List, sym, subst}
-use Rattle.std.proofs.lemmas.Option.{get_or_from_slice_get}
-use Rattle.om_types.specs.Ty.{tuple}
+use Rattle.std.proofs.Common.{ℕ, ◌≡◌, ◌∙◌, List, None, length, arith, sym, subst}
+use Rattle.std.proofs.lemmas.List.{nil_from_length}
+use Rattle.std.proofs.lemmas.Result.{on_ok_weaker}
 use Rattle.om_layout.specs.Tags.{tags_at, tags_of_entries}
-use Rattle.om_layout.specs.Steps.{AreSettled, EachBringsNone}
-use Rattle.om_layout.proofs.SettledLemmas.{settled_added, settles}
+use Rattle.om_layout.specs.Steps.{AreSettled}
+use Rattle.om_layout.proofs.WayLemmas.{is_bare}
+use Rattle.om_layout.proofs.SettledLemmas.{settled_added}
 use Rattle.om_layout.proofs.settled.settle.Goals as goal
 
-pub returns-in_ok-insert-clause-settled : goal.returns-in_ok-insert-clause-settled
-returns-in_ok-insert-clause-settled c = λ settled.
+pub returns-then-is_empty-clause-settled : goal.returns-then-is_empty-clause-settled
+returns-then-is_empty-clause-settled c = λ sure settled.
     let decls = c.args.decls.now in
-    let types = c.add.new.self in
-    let there = tags_at types (tags_of_entries c.args.tags.now.entries) in
-    let body = c.in-Abbreviation.body in
-    let at = get_or_from_slice_get types c.in_ok-number.number body tuple c.in_ok-number.ensures.ok.there in
-    let each = subst (EachBringsNone decls there) at (c.in_ok-are_there.ensures c.if-branch.true settled) in
+    let few : length c.as_slice.result.now ≡ 0 = grind (arith, c.if-is_empty.true, c.is_empty.ensures) in
+    let none = sym c.as_slice.ensures ∙ nil_from_length c.as_slice.result.now few in
+    let there = tags_at c.args.types.now (tags_of_entries c.args.tags.now.entries) in
     subst (λ (ks : List ℕ). AreSettled decls there ks) (sym c.in_ok-insert.ensures.keys)
     (settled_added decls there c.args.settled.now.keys c.args.decl settled
-    (settles decls there c.holds.ensures c.args.decl c.at.result.now body c.at.ensures c.in-Abbreviation.is each))
+    (sure (is_bare decls None c.args.decl c.at.result.now c.at.ensures none)))
+
+pub returns-clause-settled : goal.returns-clause-settled
+returns-clause-settled c =
+    on_ok_weaker c.settle_if_there.result (λ kept sure settled. kept settled) c.settle_if_there.ensures.settled
