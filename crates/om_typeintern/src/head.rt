@@ -42,7 +42,7 @@ fn placed_tags(
 ) -> Result<List<TagOf<usize>>, Memory>
     ensures { IfOk result (AreHeadTagsPlaced met.old.keys met.new.keys tags.now) }
 {
-    let mut found = Vec::new(alloc);
+    let mut found = Vec::with_capacity(alloc, tags.len())?;
     for tag in tags {
         let name = copied(alloc, tag.name.as_slice())?;
         let argument = place_if(met, tag.argument)?;

@@ -71,7 +71,7 @@ fn placed_tags(
 ) -> Result<List<PolyTag<usize>>, Memory>
     ensures { IfOk result (AreTagsPlaced met.old.keys met.new.keys tags.now) }
 {
-    let mut found = Vec::new(alloc);
+    let mut found = Vec::with_capacity(alloc, tags.len())?;
     for tag in tags {
         found.push(placed_tag(met, tag)?)?;
     }

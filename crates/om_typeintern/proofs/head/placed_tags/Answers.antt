@@ -9,7 +9,7 @@ use Rattle.om_typeintern.proofs.head.placed_tags.Goals as goal
 
 pub loop-tag-init : goal.loop-tag-init
 loop-tag-init c =
-    rw c.new-found.ensures.items
+    rw c.in_ok-found.ensures.items
     (placed_none {A = TagOf ℕ} {B = TagOf (Option Ty)} argument_of (λ f x. tag_with_part f x) (λ xs. flat_map argument_of xs) c.args.met.now.keys refl)
 
 pub loop-tag-preserved : goal.loop-tag-preserved

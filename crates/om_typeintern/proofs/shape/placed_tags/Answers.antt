@@ -10,7 +10,7 @@ use Rattle.om_typeintern.proofs.shape.placed_tags.Goals as goal
 
 pub loop-tag-init : goal.loop-tag-init
 loop-tag-init c =
-    rw c.new-found.ensures.items
+    rw c.in_ok-found.ensures.items
     (placed_none {A = PolyTag ℕ} {B = PolyTag (Option Ty)} argument_in (λ f x. tag_with_parts f x) (λ xs. flat_map argument_in xs) c.args.met.now.keys refl)
 
 pub loop-tag-preserved : goal.loop-tag-preserved
