@@ -78,6 +78,7 @@ pub enum Seen {
 }
 
 /// The line of a value that has one misfit, in place of what was there.
+#[inline(never)]
 fn put_missed_line(
     line: &mut Vec<u8>,
     alloc: Global,
@@ -96,6 +97,7 @@ fn put_missed_line(
 
 /// A look at the value in hand, of which bytes were kept, with a piece more: what is told of it, or
 /// whether more of it has to come. The line of a `no` is put in place of what was there.
+#[inline(always)]
 pub fn glimpse<'a>(
     alloc: Global,
     requested: &'a Requested,

@@ -73,10 +73,10 @@ fn keep(kept: &mut Vec<Value>, value: Value) -> Result<(), Memory>
     Ok(kept.push(value)?)
 }
 
-/// The memory of a line of no more bytes is kept for the lines to come.
+/// Memory with room for no more bytes is kept for the lines to come.
 const ROOM_KEPT: usize = 1 << 20;
 
-/// Gives the memory of a longer line back.
+/// Gives memory with room for more back.
 fn give_back(line: &mut Vec<u8>, alloc: Global) {
     if line.capacity() > ROOM_KEPT {
         *line = Vec::new(alloc);
@@ -282,6 +282,7 @@ impl Values {
 
     /// Takes a value, of which bytes were kept and the first n in hand are the others: looks at
     /// them showed the verdict on it. Its line is put.
+    #[inline(always)]
     pub fn take_told<K: Sink>(
         &mut self,
         requested: &Requested,
