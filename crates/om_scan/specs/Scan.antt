@@ -187,8 +187,8 @@ Stops table graph marks noted o (stops.Needs t unmet) =
     (mark_of graph marks o ≡ suc t)
     × ((table_shapes table).fits graph (vals.Ref o) t × IsUnmet table graph marks noted o t unmet)
 
--- All needs of an object are met, or noted, in a step and one for each; or one is the first that is
--- not, and no step is counted.
+-- All needs of an object are met, or noted, in at most a step and one for each; or one is the first
+-- that is not, and no step is counted.
 abbrev pub IsTried :
     Table → List Obj → List ℕ → List (ℕ × ℕ) → ℕ → ℕ → ℕ → ℕ → Stop → Bool → Type 0
 IsTried table graph marks noted o t old new stop true =

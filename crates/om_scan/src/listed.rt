@@ -63,7 +63,7 @@ fn tagged_types(blocks: &[Constr<usize>], tag: u64) -> Option<&[usize]>
     }
 }
 
-/// Whether no field of an object that fits the shape has a type, which the shape alone says.
+/// The shape alone says that no field of an object that fits it has a type.
 #[inline(always)]
 pub fn needs_nothing(shape: &ShapeOf<usize>) -> bool
     ensures { (heap : List Obj) (v : Val) → IsTrue result → IsSome (fields_of heap v shape.now)

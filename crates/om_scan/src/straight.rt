@@ -74,20 +74,19 @@ enum Stop {
     Needs(usize, Unmet),
 }
 
-/// Tries the objects in the order of their numbers, the first at type 0, which it fits, and each
-/// other at the type at which it was met first. One that is not met before its turn is passed: it
-/// is told at a type of whose values nothing is asked, if the table has one. Where all is met or
-/// passed and fits, the answer is the type of each, with what was met at unequal types too; where
-/// not, what was taken until then, or until the first that was met at an unequal type. A step is
-/// counted for each object taken that is not passed, and for each need tested.
+/// Tries the objects in the order of their numbers, the first at type 0, and each other at the
+/// type at which it was met first. One that is not met before its turn is passed: it is told at a
+/// type of whose values nothing is asked, if the table has one. Where all is met or passed and
+/// fits, the answer is the type of each, with what was met at unequal types too; where not, what
+/// was taken until then, or until the first that was met at an unequal type. A step is counted for
+/// each object taken that is not passed, and for each need tested.
 pub fn scan(
     alloc: Global,
     heap: &Heap,
     fitting: Fitting<'_>,
     steps: &mut Steps,
 ) -> Result<Scanned, Memory>
-    requires some { 0 < length heap.now }
-    requires root { (table_shapes (table_in fitting)).fits heap.now (vals.Ref 0) 0 }
+    requires { 0 < length heap.now }
     ensures types { IfOk result (Tells (table_in fitting.entry) heap.now) }
     ensures paths { IfOk result (HavePaths (table_in fitting.entry) heap.now) }
     ensures steps { AreCounted (table_in fitting.entry) heap.now steps.old steps.new result }

@@ -26,10 +26,6 @@ returns-in-Told-clause-verdict c =
           (shape_asked c.args.table.now.nodes 0 c.shape.result.now c.shape.ensures (sym c.is_asked.ensures ∙ c.if-not-is_asked.false)) yes.1,
     )
 
-pub scan-requires-clause-root : goal.scan-requires-clause-root
-scan-requires-clause-root c =
-    subst (λ o. (table_shapes (table_of c.args.table.now)).fits c.args.heap.now (vals.Ref o) 0) c.if-object-ne0.false c.requires.fits
-
 pub returns-in-Told-clause-paths : goal.returns-in-Told-clause-paths
 returns-in-Told-clause-paths c =
     let table = table_of c.args.table.now in

@@ -31,7 +31,7 @@ loop-o-init c =
       refl,
       record {
         scanning = scanning_none (table_of c.args.fitting.table.now) graph c.set.new.self c.keys.result c.key.result c.new-taken.result
-            c.count.ensures.heap.is_graph c.requires.some c.holds.ensures.lawful.rooted c.keys.ensures (c.key.ensures 0 c.requires.some c.word.ensures) made c.new-taken.ensures _;
+            c.count.ensures.heap.is_graph c.requires c.holds.ensures.lawful.rooted c.keys.ensures (c.key.ensures 0 c.requires c.word.ensures) made c.new-taken.ensures _;
         noted = notes_none (table_of c.args.fitting.table.now) graph c.set.new.self _ 0 c.none-notes.result c.none-notes.ensures.none c.none-notes.ensures.known c.none-notes.ensures.first;
       },
     )
