@@ -184,9 +184,10 @@ impl<'a> Finding<'a> {
         Ok(true)
     }
 
-    /// The token comes in the first open place, if it is no reference, nor an integer that does not
-    /// have the type that is asked for there. Where the byte of the next object is to be marked it
-    /// is kept; that of the first one is marked at the begin.
+    /// The token comes in the first open place: it has the type that is asked for there, or misses
+    /// it. Kept are references, integers that miss, objects at types whose numbers are not noted,
+    /// and each 64th object, whose byte is to be marked; the first one's is marked at the begin.
+    /// Where the token cannot come, for want of words or since one missed before, nothing is said.
     #[inline(always)]
     fn settle(
         &mut self,
@@ -237,7 +238,7 @@ impl<'a> Finding<'a> {
         Ok(Quick::Untold)
     }
 
-    /// The token of this kind comes, which begins the bytes, if it has the type.
+    /// The token of this kind, which begins the bytes, comes if `settle` takes it.
     #[inline(always)]
     fn hasten_kind(
         &mut self,
@@ -330,8 +331,8 @@ impl<'a> Finding<'a> {
         }
     }
 
-    /// The first token of the bytes comes, if it is a common one and has the type, and the places
-    /// of the innermost block are listed. Each kind gets code of its own.
+    /// The first token of the bytes comes, if it is a common one that `settle` takes, and the
+    /// places of the innermost block are listed. Each kind gets code of its own.
     #[tactic(auto, unfolding(om_format::specs::Code::kind_of))]
     #[inline(always)]
     fn hasten(&mut self, alloc: Global, table: &'a TypeTable, rest: &[u8]) -> Result<Quick, Memory>

@@ -168,7 +168,7 @@ impl Builder {
         self.heap.count()
     }
 
-    /// How many words the objects have together.
+    /// How many words the objects have together on 64 bits.
     #[inline(always)]
     pub fn words(&self) -> u64
         ensures { result ≡ heap_words self.now.built.objects }
