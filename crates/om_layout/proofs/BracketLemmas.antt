@@ -62,7 +62,7 @@ new_to_both true false c same = refl
 new_to_both false true c same = ap not (same refl)
 new_to_both false false c same = ap not (same refl)
 
-is_new-joined : (tags more : List (TagOf Ty)) (item : TagOf Ty)
+pub is_new-joined : (tags more : List (TagOf Ty)) (item : TagOf Ty)
     → is_new (joined tags more) item ≡ cond (is_new more item) (is_new tags item) false
 is_new-joined tags more item =
     ap not (list_any-append (λ (other : TagOf Ty). bytes_eq other.name item.name) tags (filter (is_new tags) more))

@@ -70,7 +70,7 @@ module _ (types added : List Ty) where
       (argument_kept item.argument (All-head (IsTagWithin types) item tags within))
       ∙ ap (λ all. tag_with_part (type_at types) item ∷ all) (tags_kept tags (All-tail (IsTagWithin types) item tags within))
 
-  numbers_kept : (numbers : List ℕ) → All (λ i. i < length types) numbers
+  pub numbers_kept : (numbers : List ℕ) → All (λ i. i < length types) numbers
       → map (type_at (types ++ added)) numbers ≡ map (type_at types) numbers
   numbers_kept [] within = refl
   numbers_kept (n ∷ numbers) within =
@@ -89,6 +89,15 @@ tags_within_more : (types added : List Ty) (tags : List (TagOf ℕ)) → All (Is
     → All (IsTagWithin (types ++ added)) tags
 tags_within_more types added tags within k d below =
     tag_within_more types added _ (within k d below)
+
+-- a tag more, or none
+pub tag_pushed :
+    (types : List Ty) (found : List (TagOf ℕ)) → All (IsTagWithin types) found → (there : Bool) (name : List ℕ) (argument : Option ℕ)
+    → IfSome argument (λ i. i < length types)
+    → All (IsTagWithin types) (cond there found (found ++ record { name = name; argument = argument } ∷ []))
+tag_pushed types found all true name argument within = all
+tag_pushed types found all false name argument within =
+    All-push (IsTagWithin types) found (record { name = name; argument = argument }) all within
 
 -- ---- steps, of types that grow
 
@@ -121,7 +130,7 @@ module _ (decls : List Decl) (types added : List Ty) where
       (work_kept rest (joined tags (tags_in (head decls (type_at types n)))) all left.1)
   work_kept (steps.Settle d ∷ rest) tags all left = ap (λ k. 1 + k) (work_kept rest tags all left.2)
 
-settled_more : (decls : List Decl) (tags more : List (TagOf Ty)) (settled : List ℕ) → AreSettled decls tags settled
+pub settled_more : (decls : List Decl) (tags more : List (TagOf Ty)) (settled : List ℕ) → AreSettled decls tags settled
     → AreSettled decls (joined tags more) settled
 settled_more decls tags more settled are k d below = λ t is.
     none_new_more tags more (tags_in (head decls t)) (are k d below t is)
@@ -170,12 +179,6 @@ module _ (decls : List Decl) (types : List Ty) (found : List (TagOf ℕ)) (settl
       record { found_within = was.found_within; brought = was.brought; left = goes was.left }
 
   module _ (item : ℕ) (was : AreGathered decls types found settled (steps.Item item ∷ rest) all) where
-    tag_within : (there : Bool) (name : List ℕ) (argument : Option ℕ) → IfSome argument (λ i. i < length types)
-        → All (IsTagWithin types) (cond there found (found ++ record { name = name; argument = argument } ∷ []))
-    tag_within true name argument within = was.found_within
-    tag_within false name argument within =
-        All-push (IsTagWithin types) found (record { name = name; argument = argument }) was.found_within within
-
     brings : (more : List (TagOf Ty)) → tags_of_item (head decls) (type_at types item) ≡ more
         → AreLeft decls types (joined (tags_at types found) more) rest all
     brings more is = subst (λ (ts : List (TagOf Ty)). AreLeft decls types (joined (tags_at types found) ts) rest all) is was.left.1
@@ -185,7 +188,7 @@ module _ (decls : List Decl) (types : List Ty) (found : List (TagOf ℕ)) (settl
         → AreGathered decls types (with_tag found name argument) settled rest all
     gather_tag name argument within is =
         let same = joined-tag (type_at types) found name argument in record {
-          found_within = tag_within (has_name found name) name argument within;
+          found_within = tag_pushed types found was.found_within (has_name found name) name argument within;
           brought = subst (λ (ts : List (TagOf Ty)). AreSettled decls ts settled) same
               (settled_more decls (tags_at types found) (record { name = name; argument = option_map (type_at types) argument } ∷ []) settled
               was.brought);

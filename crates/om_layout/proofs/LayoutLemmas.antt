@@ -42,7 +42,7 @@ module _ {T U : Type 0} (f g : T → U) where
   argument_agrees (Some t) rest agree =
       (ap (λ u. Some u) (All-head (λ u. f u ≡ g u) t rest agree), All-tail (λ u. f u ≡ g u) t rest agree)
 
-  tags_agree : (tags : List (TagOf T)) → All (λ t. f t ≡ g t) (parts_of (heads.Variants tags))
+  pub tags_agree : (tags : List (TagOf T)) → All (λ t. f t ≡ g t) (parts_of (heads.Variants tags))
       → map (tag_with_part f) tags ≡ map (tag_with_part g) tags
   tags_agree [] agree = refl
   tags_agree (tag ∷ tags) agree =
@@ -70,7 +70,7 @@ module _ {T U V : Type 0} (f : T → U) (g : U → V) where
     by None = refl
     by (Some t) = refl
 
-  tags_twice : (tags : List (TagOf T)) → map (tag_with_part g) (map (tag_with_part f) tags) ≡ map (tag_with_part (λ t. g (f t))) tags
+  pub tags_twice : (tags : List (TagOf T)) → map (tag_with_part g) (map (tag_with_part f) tags) ≡ map (tag_with_part (λ t. g (f t))) tags
   tags_twice [] = refl
   tags_twice (tag ∷ tags) = λ k. tag_twice tag k ∷ tags_twice tags k
 

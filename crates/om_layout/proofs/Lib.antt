@@ -5,6 +5,8 @@ pub mod BracketLemmas
 pub mod GatherLemmas
 pub mod SettledLemmas
 pub mod EntryLemmas
+pub mod FoundLemmas
+pub mod HeadsLemmas
 pub mod KindLemmas
 pub mod LoopLemmas
 pub mod LayoutLemmas

@@ -2,6 +2,8 @@ pub mod Unfolded
 pub mod Way
 pub mod Plain
 pub mod Tags
+pub mod Found
+pub mod Heads
 pub mod Work
 pub mod Steps
 pub mod Kind

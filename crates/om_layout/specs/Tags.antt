@@ -66,6 +66,10 @@ abbrev pub with_tag : List (TagOf ℕ) → List ℕ → Option ℕ → List (Tag
 with_tag tags name argument =
     if has_name tags name then tags else tags ++ record { name = name; argument = argument } ∷ []
 
+-- these one after another
+abbrev pub with_tags : List (TagOf ℕ) → List (TagOf ℕ) → List (TagOf ℕ)
+with_tags tags more = fold (λ all (tag : TagOf ℕ). with_tag all tag.name tag.argument) tags more
+
 -- the tags of a map's entries
 abbrev pub tag_of_entry : Vec ℕ × Option ℕ → TagOf ℕ
 tag_of_entry entry = record { name = entry.0.items; argument = entry.1 }

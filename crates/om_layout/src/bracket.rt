@@ -14,11 +14,13 @@ ghost use Rattle.om_layout.specs.Plain.{IsBracketed};
 ghost use Rattle.om_layout.specs.declared.bracket.Step.TheVariants as steps;
 ghost use Rattle.om_layout.specs.Tags.{has_bracket, before_item, items, with_items, with_tag};
 ghost use Rattle.om_layout.specs.Tags.{tags_of_entries, IsHeadOf};
+ghost use Rattle.om_layout.specs.Found.{AreFound};
 ghost use Rattle.om_layout.specs.Way.{AreKnown};
 ghost use Rattle.om_layout.specs.Work.{work, written_work};
 ghost use Rattle.om_layout.specs.Steps.{AreLeft, AreGathered, AreAll, IsStepWithin, IsSure};
 ghost use Rattle.om_layout.specs.Steps.{steps_work};
 
+use crate::found::{Found, add_found, found_tags};
 use crate::known::{Known, abbreviation, none_known};
 use crate::lent::Stored;
 use crate::replaced::nearer_from;
@@ -45,14 +47,18 @@ pub(crate) enum Step {
 
 /// The head of a type that is a bracket with or without items. It takes a step for each item, and
 /// for each item of what is included, once for each abbreviation that is included, whatever its
-/// arguments. It may add types at the end, before `Memory` too.
+/// arguments, or for each of their tags where these were found. It may add types at the end, before
+/// `Memory` too.
 pub fn bracket_head(
     alloc: Global,
     types: &mut Types,
     decls: &SoundEnvironment<'_>,
+    found: &Found<'_>,
     number: usize,
 ) -> Result<HeadOf<usize>, Memory>
     requires number { number < length types.old }
+    requires found { AreFound decls.now types.old found.now.by_place found.now.met.now.keys
+        found.now.heads.now }
     requires bracketed { IsBracketed (type_at types.old number) }
     ensures ok { IfOk result (IsHeadOf decls.now types.new (type_at types.old number)) }
     ensures grown { Grows types.old types.new }
@@ -64,7 +70,7 @@ pub fn bracket_head(
     let mut waiting = Vec::new(alloc);
     push_items(&Stored { types, number }, &mut waiting)?;
     let mut tags: Tags = IndexMap::new(alloc);
-    gather_all(alloc, types, decls, &mut tags, &mut waiting)?;
+    gather_all(alloc, types, decls, found, &mut tags, &mut waiting)?;
     Ok(HeadOf::Variants(List::of(listed(alloc, tags)?)))
 }
 
@@ -73,9 +79,12 @@ fn gather_all(
     alloc: Global,
     types: &mut Types,
     decls: &SoundEnvironment<'_>,
+    found: &Found<'_>,
     tags: &mut Tags,
     waiting: &mut Vec<Step>,
 ) -> Result<(), Memory>
+    requires found { AreFound decls.now types.old found.now.by_place found.now.met.now.keys
+        found.now.heads.now }
     requires gathered { (all : List (Tag Ty))
         × AreGathered decls.now types.old (tags_of_entries tags.old.entries) []
         (reverse waiting.old.items) all }
@@ -93,6 +102,7 @@ fn gather_all(
             alloc,
             types,
             decls,
+            found,
             step,
             &mut known,
             tags,
@@ -108,6 +118,7 @@ fn gather(
     alloc: Global,
     types: &mut Types,
     decls: &SoundEnvironment<'_>,
+    found: &Found<'_>,
     step: Step,
     known: &mut Known,
     tags: &mut Tags,
@@ -115,6 +126,8 @@ fn gather(
     waiting: &mut Vec<Step>,
 ) -> Result<(), Memory>
     requires step { IsStepWithin decls.now types.old step }
+    requires found { AreFound decls.now types.old found.now.by_place found.now.met.now.keys
+        found.now.heads.now }
     requires known { AreKnown decls.now None known.old }
     ensures gathered { OnOk result
         ((all : List (Tag Ty))
@@ -133,7 +146,10 @@ fn gather(
 {
     match step {
         Step::Item(item) => gather_item(alloc, types, item, tags, waiting),
-        Step::Included(included) => include(alloc, types, decls, known, settled, included, waiting),
+        Step::Included(included) => match found_tags(found, included, tags.len()) {
+            Some(more) => add_found(alloc, tags, found, more),
+            None => include(alloc, types, decls, known, settled, included, waiting),
+        },
         Step::Settle(decl) => settle(alloc, types, decls, known, tags, settled, decl),
     }
 }
@@ -269,7 +285,7 @@ fn put_items(types: &Types, bracket: usize, waiting: &mut Vec<Step>) -> Result<(
 }
 
 /// Adds a tag, unless its name is there.
-fn add_tag(
+pub(crate) fn add_tag(
     alloc: Global,
     tags: &mut Tags,
     name: &[u8],

@@ -4,11 +4,14 @@ ghost use Rattle.std.specs.Prelude.{◌<◌, length, IfOk};
 ghost use Rattle.om_types.specs.Nodes.{type_at};
 ghost use Rattle.om_store.specs.Held.{Grows};
 ghost use Rattle.om_layout.specs.Tags.{IsHeadOf};
+ghost use Rattle.om_layout.specs.Found.{AreFound};
 
 use crate::bracket::bracket_head;
+use crate::found::Found;
 use crate::lent::Stored;
 use crate::plain::plain;
 use crate::replaced::expanded;
+use indexmap::IndexSet;
 use om_model::Memory;
 use om_scope::SoundEnvironment;
 use om_store::Types;
@@ -27,10 +30,33 @@ pub fn head_of(
     ensures ok { IfOk result (IsHeadOf decls.now types.new (type_at types.old number)) }
     ensures grown { Grows types.old types.new }
 {
+    let met = IndexSet::new(alloc);
+    let none = Found {
+        by_place: true,
+        met: &met,
+        heads: &[],
+    };
+    head_with(alloc, types, decls, &none, number)
+}
+
+/// The same, where heads were found before.
+pub(crate) fn head_with(
+    alloc: Global,
+    types: &mut Types,
+    decls: &SoundEnvironment<'_>,
+    found: &Found<'_>,
+    number: usize,
+) -> Result<HeadOf<usize>, Memory>
+    requires number { number < length types.old }
+    requires found { AreFound decls.now types.old found.now.by_place found.now.met.now.keys
+        found.now.heads.now }
+    ensures ok { IfOk result (IsHeadOf decls.now types.new (type_at types.old number)) }
+    ensures grown { Grows types.old types.new }
+{
     decls.holds();
     let at = expanded(alloc, types, decls, number)?;
     match plain(alloc, &Stored { types, number: at })? {
         Some(head) => Ok(head),
-        None => bracket_head(alloc, types, decls, at),
+        None => bracket_head(alloc, types, decls, found, at),
     }
 }

@@ -5,11 +5,14 @@ ghost use Rattle.om_types.specs.Nodes.{type_at};
 ghost use Rattle.om_types.specs.Shape.{head_shape};
 ghost use Rattle.om_types.specs.Reached.{parts_of};
 ghost use Rattle.om_store.specs.Held.{Grows};
+ghost use Rattle.om_layout.specs.Found.{AreFound};
 ghost use Rattle.om_layout.specs.Layout.{head_of_types, hashed, IsLayoutOf, IsShapeAt};
 
 use crate::datatype::datatype_shape;
-use crate::head::head_of;
+use crate::found::Found;
+use crate::head::head_with;
 use crate::predeclared::predeclared_shape;
+use indexmap::IndexSet;
 use om_model::Memory;
 use om_model::list::List;
 use om_polyvar::hash;
@@ -37,7 +40,30 @@ pub fn layout_of(
     ensures ok { IfOk result (IsLayoutOf decls.now types.new (type_at types.old number)) }
     ensures grown { Grows types.old types.new }
 {
-    let head = head_of(alloc, types, decls, number)?;
+    let met = IndexSet::new(alloc);
+    let none = Found {
+        by_place: true,
+        met: &met,
+        heads: &[],
+    };
+    layout_with(alloc, types, decls, &none, number)
+}
+
+/// The same, where heads were found before.
+pub fn layout_with(
+    alloc: Global,
+    types: &mut Types,
+    decls: &SoundEnvironment<'_>,
+    found: &Found<'_>,
+    number: usize,
+) -> Result<Layout, Memory>
+    requires number { number < length types.old }
+    requires found { AreFound decls.now types.old found.now.by_place found.now.met.now.keys
+        found.now.heads.now }
+    ensures ok { IfOk result (IsLayoutOf decls.now types.new (type_at types.old number)) }
+    ensures grown { Grows types.old types.new }
+{
+    let head = head_with(alloc, types, decls, found, number)?;
     let shape = shape_at(alloc, types, decls, &head)?;
     Ok(Layout { head, shape })
 }

@@ -4,7 +4,9 @@
 mod bracket;
 mod calls;
 mod datatype;
+mod found;
 mod head;
+mod heads;
 mod kind;
 mod known;
 mod layout;
@@ -19,10 +21,12 @@ mod trees;
 
 pub use bracket::bracket_head;
 pub use calls::{expand, flat_float, shape};
+pub use found::Found;
 pub use head::head_of;
+pub use heads::{Heads, item_head, no_heads};
 pub use kind::{is_float, is_polymorphic_variant};
 pub use known::{Known, none_known};
-pub use layout::{Layout, layout_of};
+pub use layout::{Layout, layout_of, layout_with};
 pub use lent::Stored;
 pub use names::names_at;
 pub use plain::plain as plain_head;

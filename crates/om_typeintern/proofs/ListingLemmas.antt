@@ -1,15 +1,17 @@
 -- Types are met one after the other.
-use Rattle.std.proofs.Common.{ℕ, zero, suc, ◌+◌, ◌<◌, ◌≤◌, ◌≡◌, ◌∙◌, ◌⊎◌, ⊎_elim, inl, inr, List, [], ◌∷◌, ◌++◌, length, map, take, Option, Some, refl, sym, ap, subst, nat_eq, length-append, arith}
+use Rattle.std.proofs.Common.{ℕ, zero, suc, true, ◌+◌, ◌<◌, ◌≤◌, ◌≡◌, ◌∙◌, ◌⊎◌, ⊎_elim, inl, inr, List, [], ◌∷◌, ◌++◌, length, map, take, Option, Some, refl, sym, ap, subst, nat_eq, length-append, arith}
 use Rattle.std.specs.Prelude.{slice_get}
 use Rattle.std.specs.List.{flat_map}
 use Rattle.std.proofs.lemmas.List.{map-append, take_more, take-append-le, length_push}
 use Rattle.std.proofs.lemmas.List.Sums.{fold-append}
 use Rattle.std.proofs.lemmas.List.Elements.{All-append, All-weaker, All-contains, All-head, All-tail}
-use Rattle.std.proofs.lemmas.Option.{same_Some, slice_get-get_or, slice_get_within, get_or_from_slice_get}
+use Rattle.std.proofs.lemmas.Option.{same_Some, none-some, slice_get-get_or, slice_get_within, get_or_from_slice_get}
 use Rattle.indexmap.specs.IndexSet.{insert_key, insert_all}
+use Rattle.om_model.proofs.Lists.{map-slice_get}
 use Rattle.om_model.proofs.Options.{slice_get-Contains, Contains-none}
 use Rattle.om_types.specs.declared.decl.Decl.{Decl}
 use Rattle.om_types.specs.declared.head.HeadOf.{HeadOf}
+use Rattle.om_types.specs.declared.head.HeadOf.TheVariants as heads
 use Rattle.om_types.specs.declared.names.Names.{Names}
 use Rattle.om_types.specs.declared.shape.ShapeOf.{ShapeOf}
 use Rattle.om_types.specs.Ty.{Ty, tuple}
@@ -20,8 +22,10 @@ use Rattle.om_types.specs.Names.{names_of}
 use Rattle.om_types.specs.Reached.{named_in, parts_of, reached_from, IsWithoutRepeats, IsFromEarlier, ReachesTooMany}
 use Rattle.om_types.specs.Table.{with_parts, head_with_parts}
 use Rattle.om_store.specs.Held.{AreDistinct, Grows}
-use Rattle.om_store.proofs.HeldLemmas.{Grows-then, there_kept, get-map}
+use Rattle.om_store.proofs.HeldLemmas.{Grows-none, Grows-then, there_kept, get-map}
+use Rattle.om_layout.proofs.FoundLemmas.{tags_of_head}
 use Rattle.om_layout.specs.declared.layout.Layout.{Layout}
+use Rattle.om_layout.specs.Found.{AreFound}
 use Rattle.om_layout.specs.Layout.{IsLayoutOf, AreNamesAt}
 use Rattle.om_typeintern.specs.declared.entry.Entry.{Entry}
 use Rattle.om_typeintern.specs.Placed.{SayTheSame, IsShapePlaced, IsHeadPlaced}
@@ -222,6 +226,33 @@ next_listed decls t met nodes tops names was u next more entry is shapes' tops' 
     (subst (λ (k : ℕ). IsListing decls t k more (nodes ++ entry.shape ∷ []) (tops ++ entry.head ∷ []) (names ++ entry.names ∷ []))
     (sym (length_push nodes entry.shape))
     (one_listed decls t (length nodes) met nodes tops names was u next more entry is))))
+
+-- ---- heads of the first types
+
+-- what stands among the first of a list stands in it
+in_front : {X : Type 0} (xs : List X) (k i : ℕ) (x : X) → slice_get (take k xs) i ≡ Some x → slice_get xs i ≡ Some x
+in_front xs zero i x is = absurd (none-some x is)
+in_front [] (suc k) i x is = absurd (none-some x is)
+in_front (y ∷ xs) (suc k) zero x is = is
+in_front (y ∷ xs) (suc k) (suc i) x is = in_front xs k i x is
+
+pub listed_heads :
+    (decls : List Decl) (t : Ty) (k : ℕ) (types : List Ty) (numbers : List ℕ) (nodes : List (ShapeOf ℕ)) (tops : List (HeadOf ℕ)) (names : List Names)
+    → AreWithin types numbers → IsListing decls t k (types_at types numbers) nodes tops names → AreFound decls types true numbers tops
+listed_heads decls t k types numbers nodes tops names within is = record {
+  within = within;
+  are = λ place number tags at_number at_head.
+      let met = types_at types numbers in
+      let h = heads.Variants tags in
+      let whole = λ (u : Ty). head_with_parts (λ (v : Ty). Some v) (head decls u) in
+      let here =
+      ap (λ (hs : List (HeadOf (Option Ty))). slice_get hs place) (sym (is.heads met (Grows-none met)))
+      ∙ get-map (head_with_parts (slice_get met)) tops place h at_head in
+      let found = map-slice_get whole (take k met) place (head_with_parts (slice_get met) h) here in
+      let same = same_Some found.0 (type_at types number)
+      (sym (in_front met k place found.0 found.1) ∙ get-map (type_at types) numbers place number at_number) in
+      tags_of_head decls met (type_at types number) tags (sym found.2 ∙ ap whole same);
+}
 
 -- ---- the first type
 

@@ -1,16 +1,17 @@
 //! What a table says of one type.
 
-ghost use Rattle.std.specs.Prelude.{◌<◌, List, length, IfOk, OnOk};
+ghost use Rattle.std.specs.Prelude.{◌<◌, true, List, length, IfOk, OnOk};
 ghost use Rattle.om_types.specs.declared.decl.Decl.{Decl as Declaration};
 ghost use Rattle.om_types.specs.Nodes.{type_at};
 ghost use Rattle.om_store.specs.Held.{Grows, AreDistinct};
+ghost use Rattle.om_layout.specs.Found.{AreFound};
 ghost use Rattle.om_layout.specs.Layout.{AreNamesAt};
 ghost use Rattle.om_typeintern.specs.Listed.{types_at, AreWithin, IsPlacedEntry, IsEntry};
 
 use crate::head::placed_head;
 use crate::met::Met;
 use crate::shape::placed_shape;
-use om_layout::{Layout, layout_of, names_at};
+use om_layout::{Found, Layout, layout_with, names_at};
 use om_model::Memory;
 use om_scope::SoundEnvironment;
 use om_store::Types;
@@ -27,24 +28,30 @@ pub(crate) struct Entry {
     pub(crate) names: Names,
 }
 
-/// The entry of a type. What the type names is met: first what its shape names, then the parts of
-/// its head.
+/// The entry of a type, where the first that were met have these heads. What the type names
+/// is met: first what its shape names, then the parts of its head.
 pub(crate) fn entry_of(
     alloc: Global,
     types: &mut Types,
     met: &mut Met,
     decls: &SoundEnvironment<'_>,
+    heads: &[HeadOf<usize>],
     number: usize,
 ) -> Result<Entry, Memory>
     requires number { number < length types.old }
-    requires met { AreWithin types.old met.old.keys }
+    requires found { AreFound decls.now types.old true met.old.keys heads.now }
     ensures within { OnOk result (AreWithin types.new met.new.keys) }
     ensures ok { IfOk result
         (IsEntry decls.now (type_at types.old number) (types_at types.old met.old.keys)
         (types_at types.new met.new.keys)) }
     ensures grown { Grows types.old types.new }
 {
-    let layout = layout_of(alloc, types, decls, number)?;
+    let found = Found {
+        by_place: true,
+        met,
+        heads,
+    };
+    let layout = layout_with(alloc, types, decls, &found, number)?;
     stand_once(types);
     placed_entry(alloc, met, decls, &layout)
 }

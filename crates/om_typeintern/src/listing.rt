@@ -55,6 +55,7 @@ pub(crate) fn go_on(
 ) -> Result<(), Memory>
     requires within { AreWithin listing.old.types listing.old.met.keys }
     requires more { length listing.old.nodes.items < length listing.old.met.keys }
+    requires listed { (t : Tree) × IsListingOf decls.now t listing.old }
     ensures within { OnOk result (AreWithin listing.new.types listing.new.met.keys) }
     ensures one { OnOk result
         (length listing.new.nodes.items ≡ length listing.old.nodes.items + 1) }
@@ -62,7 +63,14 @@ pub(crate) fn go_on(
         ((t : Tree) → IsListingOf decls.now t listing.old → IsListingOf decls.now t listing.new) }
 {
     let number = listing.met.as_slice()[listing.nodes.len()];
-    let entry = entry_of(alloc, &mut listing.types, &mut listing.met, decls, number)?;
+    let entry = entry_of(
+        alloc,
+        &mut listing.types,
+        &mut listing.met,
+        decls,
+        listing.heads.as_slice(),
+        number,
+    )?;
     put(listing, entry)?;
     Ok(())
 }

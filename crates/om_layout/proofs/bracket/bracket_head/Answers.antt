@@ -17,6 +17,7 @@ gather_all-requires c =
     let decls = c.args.decls.now in
     let t = type_at c.args.types.now c.args.number in
     let all = with_items (head decls) [] (items t) in record {
+      found = c.requires.found;
       gathered = (
         all,
         none_gathered decls c.args.types.now t c.new-tags.result.entries (reverse c.push_items.new.waiting.items)

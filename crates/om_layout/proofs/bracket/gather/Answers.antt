@@ -1,8 +1,10 @@
-use Rattle.std.proofs.Common.{◌<◌, ◌∷◌, reverse, sym, subst}
+use Rattle.std.proofs.Common.{ℕ, ◌<◌, ◌∷◌, List, reverse, sym, subst}
 use Rattle.std.proofs.lemmas.Result.{on_ok_weaker}
 use Rattle.om_layout.specs.declared.bracket.Step.{Step}
+use Rattle.om_types.specs.declared.head.TagOf.{TagOf}
 use Rattle.om_layout.specs.Tags.{tags_of_entries}
 use Rattle.om_layout.specs.Steps.{AreGathered, steps_work}
+use Rattle.om_layout.proofs.FoundLemmas.{places_there, found_gathered}
 use Rattle.om_layout.proofs.GatherLemmas.{settle_gathered, settle_less}
 use Rattle.om_layout.proofs.bracket.gather.Goals as goal
 
@@ -24,8 +26,8 @@ returns-in-Item-clause-less c =
     (less c.args.decls.now))
     c.gather_item.ensures.less
 
-pub returns-in-Included-clause-gathered : goal.returns-in-Included-clause-gathered
-returns-in-Included-clause-gathered c =
+pub returns-in-None-clause-gathered : goal.returns-in-None-clause-gathered
+returns-in-None-clause-gathered c =
     let found = tags_of_entries c.args.tags.now.entries in
     on_ok_weaker c.include.result
     (λ gathers all was.
@@ -34,8 +36,8 @@ returns-in-Included-clause-gathered c =
     (s ∷ reverse c.args.waiting.now.items) all) c.in-Included.is was))
     c.include.ensures.gathered
 
-pub returns-in-Included-clause-less : goal.returns-in-Included-clause-less
-returns-in-Included-clause-less c =
+pub returns-in-None-clause-less : goal.returns-in-None-clause-less
+returns-in-None-clause-less c =
     let found = tags_of_entries c.args.tags.now.entries in
     on_ok_weaker c.include.result
     (λ less all was.
@@ -45,6 +47,30 @@ returns-in-Included-clause-less c =
     (subst (λ (s : Step). AreGathered c.args.decls.now c.args.types.now found c.args.settled.now.keys
     (s ∷ reverse c.args.waiting.now.items) all) c.in-Included.is was)))
     c.include.ensures.less
+
+pub add_found-requires : goal.add_found-requires
+add_found-requires c =
+    let found = c.args.found.now in
+    places_there c.args.decls.now c.args.types.now found.by_place found.met.now.keys found.heads.now c.requires.found
+    c.in-Some.more.now c.in-Included.included c.in-Some.ensures
+
+pub returns-in-Some-clause-gathered : goal.returns-in-Some-clause-gathered
+returns-in-Some-clause-gathered c =
+    let decls = c.args.decls.now in
+    let types = c.args.types.now in
+    let found = c.args.found.now in
+    let more = c.in-Some.more.now in
+    let gathered = tags_of_entries c.args.tags.now.entries in
+    let settled = c.args.settled.now.keys in
+    let rest = reverse c.args.waiting.now.items in
+    on_ok_weaker c.add_found.result
+    (λ put all was.
+    subst (λ (ts : List (TagOf ℕ)). AreGathered decls types ts settled rest all)
+    (sym put)
+    (found_gathered decls types found.by_place found.met.now.keys found.heads.now c.requires.found more c.in-Included.included c.in-Some.ensures
+    gathered settled rest all
+    (subst (λ (s : Step). AreGathered decls types gathered settled (s ∷ rest) all) c.in-Included.is was)))
+    c.add_found.ensures
 
 pub returns-in-Settle-clause-gathered : goal.returns-in-Settle-clause-gathered
 returns-in-Settle-clause-gathered c =

@@ -3,6 +3,7 @@ use Rattle.om_store.proofs.HeldLemmas.{Grows-none, Grows-then}
 use Rattle.om_layout.specs.declared.bracket.Step.{Step}
 use Rattle.om_layout.specs.Tags.{tags_at, tags_of_entries}
 use Rattle.om_layout.specs.Steps.{AreGathered, steps_work}
+use Rattle.om_layout.proofs.FoundLemmas.{found_kept}
 use Rattle.om_layout.proofs.GatherLemmas.{nothing_waits, nothing_left, pushed_first, step_within}
 use Rattle.om_layout.proofs.bracket.gather_all.Goals as goal
 
@@ -21,6 +22,11 @@ gather-requires-clause-step c =
     c.in-Some.step (reverse c.pop.new.self.items)
     (subst (λ (ss : List Step). AreGathered c.args.decls.now c.step.types (tags_of_entries c.step.tags.entries) c.step.settled.keys ss c.requires.gathered.0)
     first was).left
+
+pub gather-requires-clause-found : goal.gather-requires-clause-found
+gather-requires-clause-found c =
+    found_kept c.args.decls.now c.args.types.now c.args.found.now.by_place c.args.found.now.met.now.keys c.args.found.now.heads.now c.step.types
+    c.step.invariant.grown c.requires.found
 
 pub step-smaller : goal.step-smaller
 step-smaller c =

@@ -7,8 +7,8 @@ pub returns-clause-within : goal.returns-clause-within
 returns-clause-within c =
     IfOk-weaker c.placed_entry.result _ _
     (λ entry placed.
-    (placed_is_met c.args.decls.now (type_at c.args.types.now c.args.number) c.args.types.now c.layout_of.new.types c.stand_once.ensures
-    c.in_ok-layout.ensures.grown c.args.met.now.keys c.placed_entry.new.met.keys c.requires.met c.in_ok-layout.layout
+    (placed_is_met c.args.decls.now (type_at c.args.types.now c.args.number) c.args.types.now c.layout_with.new.types c.stand_once.ensures
+    c.in_ok-layout.ensures.grown c.args.met.now.keys c.placed_entry.new.met.keys c.requires.found.within c.in_ok-layout.layout
     c.in_ok-layout.ensures.ok entry placed).within)
     c.placed_entry.ensures
 
@@ -16,7 +16,7 @@ pub returns-clause-ok : goal.returns-clause-ok
 returns-clause-ok c =
     IfOk-weaker c.placed_entry.result _ _
     (λ entry placed.
-    (placed_is_met c.args.decls.now (type_at c.args.types.now c.args.number) c.args.types.now c.layout_of.new.types c.stand_once.ensures
-    c.in_ok-layout.ensures.grown c.args.met.now.keys c.placed_entry.new.met.keys c.requires.met c.in_ok-layout.layout
+    (placed_is_met c.args.decls.now (type_at c.args.types.now c.args.number) c.args.types.now c.layout_with.new.types c.stand_once.ensures
+    c.in_ok-layout.ensures.grown c.args.met.now.keys c.placed_entry.new.met.keys c.requires.found.within c.in_ok-layout.layout
     c.in_ok-layout.ensures.ok entry placed).is)
     c.placed_entry.ensures

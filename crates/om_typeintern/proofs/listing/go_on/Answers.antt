@@ -4,7 +4,7 @@ use Rattle.om_types.specs.Ty.{Ty}
 use Rattle.om_types.specs.Nodes.{type_at}
 use Rattle.om_store.proofs.HeldLemmas.{get-map}
 use Rattle.om_typeintern.specs.Listed.{types_at, IsListing}
-use Rattle.om_typeintern.proofs.ListingLemmas.{next_listed}
+use Rattle.om_typeintern.proofs.ListingLemmas.{next_listed, listed_heads}
 use Rattle.om_typeintern.proofs.listing.go_on.Goals as goal
 
 pub returns-clause-is : goal.returns-clause-is
@@ -23,3 +23,10 @@ returns-clause-is c t was =
     (get-map (type_at listing.types) listing.met.keys k number (slice_get-get_or listing.met.keys k 0 c.requires.more ∙ ap (λ (n : ℕ). Some n) same))
     (types_at c.entry_of.new.types c.entry_of.new.met.keys) c.in_ok-entry.entry c.in_ok-entry.ensures.ok
     new.nodes.items new.heads.items new.names.items c.in_ok-put.ensures.nodes c.in_ok-put.ensures.heads c.in_ok-put.ensures.names)
+
+pub entry_of-requires-clause-found : goal.entry_of-requires-clause-found
+entry_of-requires-clause-found c =
+    let listing = c.args.listing.now in
+    rw c.as_slice-2.ensures.value
+    (listed_heads c.args.decls.now c.requires.listed.0 (length listing.nodes.items) listing.types listing.met.keys listing.nodes.items
+    listing.heads.items listing.names.items c.requires.within c.requires.listed.1)

@@ -26,3 +26,6 @@ loop-alloc-preserved c = record {
   listed = c.in_ok-go_on.ensures.is c.args.ty.now c.loop-alloc.invariant.listed;
   few = omega (arith, c.if-len-gt-MOST.false, c.len-in-loop-alloc-2.ensures.len);
 }
+
+pub go_on-requires-clause-listed : goal.go_on-requires-clause-listed
+go_on-requires-clause-listed c = (c.args.ty.now, c.loop-alloc.invariant.listed)

@@ -6,14 +6,14 @@ use Rattle.om_types.specs.Nodes.{type_at}
 use Rattle.om_types.specs.Shape.{head_shape}
 use Rattle.om_layout.specs.Layout.{IsShapeAt}
 use Rattle.om_layout.proofs.LayoutLemmas.{head_found, head_within, head_kept}
-use Rattle.om_layout.proofs.layout.layout_of.Goals as goal
+use Rattle.om_layout.proofs.layout.layout_with.Goals as goal
 
 pub shape_at-requires : goal.shape_at-requires
 shape_at-requires c = record { within = head_within _ c.in_ok-head.head _ c.in_ok-head.ensures.ok }
 
 pub returns-clause-ok : goal.returns-clause-ok
 returns-clause-ok c =
-    let types = c.head_of.new.types in
+    let types = c.head_with.new.types in
     let all = head c.args.decls.now (type_at c.args.types.now c.args.number) in
     record {
       head = head_kept types c.in_ok-head.head all c.in_ok-head.ensures.ok c.shape_at.new.types c.in_ok-shape.ensures.grown;

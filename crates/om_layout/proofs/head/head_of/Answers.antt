@@ -1,8 +1,0 @@
-use Rattle.std.proofs.lemmas.Option.{MatchOption-at_some}
-use Rattle.om_layout.proofs.GatherLemmas.{plain_is_head}
-use Rattle.om_layout.proofs.head.head_of.Goals as goal
-
-pub returns-in-Some-clause-ok : goal.returns-in-Some-clause-ok
-returns-in-Some-clause-ok c =
-    let is = MatchOption-at_some _ _ c.in-Some.head c.in-Some.is c.in_ok-head.ensures in
-    plain_is_head c.args.decls.now c.holds.ensures c.expanded.new.types _ c.in_ok-at.at c.in-Some.head c.in_ok-at.ensures.ok is

@@ -1,0 +1,84 @@
+//! Heads that were found before.
+
+ghost use Rattle.std.specs.Prelude.{ℕ, ◌≡◌, Some, map, slice_get, All};
+ghost use Rattle.std.specs.Prelude.{IfSome, OnOk, option_map};
+ghost use Rattle.om_types.specs.declared.head.TagOf.{TagOf as Tag};
+ghost use Rattle.om_types.specs.declared.head.HeadOf.TheVariants as all_heads;
+ghost use Rattle.om_types.specs.Table.{tag_with_part};
+ghost use Rattle.om_layout.specs.Tags.{tags_of_entries, with_tags};
+ghost use Rattle.om_layout.specs.Found.{part_number, IsPlace};
+
+use crate::bracket::{Tags, add_tag};
+use indexmap::IndexSet;
+use om_model::Memory;
+use om_types::head::{HeadOf, TagOf};
+use std::alloc::Global;
+
+/// The heads of the first of the types with these numbers. Their parts are given by the places of
+/// the parts' numbers among these, or by their numbers.
+#[derive(Clone, Copy)]
+pub struct Found<'a> {
+    pub by_place: bool,
+    pub met: &'a IndexSet<usize>,
+    pub heads: &'a [HeadOf<usize>],
+}
+
+/// The tags of a type, where its head was found and has at least twice as many as are there so far:
+/// all that are ever added at once are at most twice as many as there are at the end.
+pub(crate) fn found_tags<'a>(
+    found: &Found<'a>,
+    number: usize,
+    so_far: usize,
+) -> Option<&'a [TagOf<usize>]>
+    ensures { IfSome result
+        (λ tags. (place : ℕ) × (slice_get found.now.met.now.keys place ≡ Some number)
+        × (slice_get found.now.heads.now place ≡ Some (all_heads.Variants tags.now))) }
+{
+    let place = found.met.get_index_of(&number)?;
+    if place >= found.heads.len() {
+        return None;
+    }
+    match &found.heads[place] {
+        HeadOf::Variants(tags) if so_far <= tags.len() / 2 => Some(tags.as_slice()),
+        _ => None,
+    }
+}
+
+/// Adds tags that were found, with the numbers of their arguments.
+pub(crate) fn add_found(
+    alloc: Global,
+    tags: &mut Tags,
+    found: &Found<'_>,
+    more: &[TagOf<usize>],
+) -> Result<(), Memory>
+    requires { All
+        (λ (tag : Tag ℕ). IfSome tag.argument
+        (IsPlace found.now.by_place found.now.met.now.keys)) more.now }
+    ensures { OnOk result
+        (tags_of_entries tags.new.entries
+        ≡ with_tags (tags_of_entries tags.old.entries)
+        (map (tag_with_part (part_number found.now.by_place found.now.met.now.keys)) more.now)) }
+{
+    for tag in more {
+        let argument = number_at(found, tag.argument);
+        add_tag(alloc, tags, tag.name.as_slice(), argument)?;
+    }
+    Ok(())
+}
+
+/// The number of a part, where there is one.
+fn number_at(found: &Found<'_>, part: Option<usize>) -> Option<usize>
+    requires { IfSome part (IsPlace found.now.by_place found.now.met.now.keys) }
+    ensures { result ≡ option_map (part_number found.now.by_place found.now.met.now.keys) part }
+{
+    match part {
+        Some(place) => {
+            if found.by_place {
+                Some(found.met.as_slice()[place])
+            } else {
+                Some(place)
+            }
+        }
+        None => None,
+    }
+}

@@ -1,0 +1,125 @@
+//! Heads of brackets with one item, which are remembered for the types that these include.
+
+ghost use Rattle.std.specs.Prelude.{◌≡◌, ◌<◌, length, IfOk, OnOk, List};
+ghost use Rattle.om_types.specs.declared.decl.Decl.{Decl as Declaration};
+ghost use Rattle.om_types.specs.Ty.{Ty};
+ghost use Rattle.om_types.specs.Nodes.{type_at};
+ghost use Rattle.om_store.specs.Held.{Grows};
+ghost use Rattle.om_layout.specs.Tags.{IsHeadOf};
+ghost use Rattle.om_layout.specs.Heads.{AreHeads, IsTagsHead};
+
+use crate::found::Found;
+use crate::head::head_with;
+use indexmap::IndexSet;
+use om_model::Memory;
+use om_model::list::List;
+use om_scope::SoundEnvironment;
+use om_store::{TypeNode, Types};
+use om_types::head::{HeadOf, TagOf};
+use std::alloc::Global;
+
+/// Heads of types that were included, and the numbers of these types.
+#[derive(Drop)]
+pub struct Heads {
+    met: IndexSet<usize>,
+    heads: Vec<HeadOf<usize>>,
+}
+
+/// No heads.
+pub fn no_heads(alloc: Global) -> Heads
+    ensures { (decls : List Declaration) (types : List Ty) → AreHeads decls types result }
+{
+    Heads {
+        met: IndexSet::new(alloc),
+        heads: Vec::new(alloc),
+    }
+}
+
+/// The head of a type, as `head_of` answers it. Where the type is a bracket that includes another
+/// alone, it is remembered as the other one's head.
+pub fn item_head(
+    alloc: Global,
+    types: &mut Types,
+    decls: &SoundEnvironment<'_>,
+    heads: &mut Heads,
+    number: usize,
+) -> Result<HeadOf<usize>, Memory>
+    requires number { number < length types.old }
+    requires heads { AreHeads decls.now types.old heads.old }
+    ensures ok { IfOk result (IsHeadOf decls.now types.new (type_at types.old number)) }
+    ensures heads { OnOk result (AreHeads decls.now types.new heads.new) }
+    ensures grown { Grows types.old types.new }
+{
+    let found = Found {
+        by_place: false,
+        met: &heads.met,
+        heads: heads.heads.as_slice(),
+    };
+    let head = head_with(alloc, types, decls, &found, number)?;
+    keep(alloc, types, decls, heads, number, &head)?;
+    Ok(head)
+}
+
+/// Remembers the head of an item as that of the type that it includes, where it includes one.
+fn keep(
+    alloc: Global,
+    types: &Types,
+    decls: &SoundEnvironment<'_>,
+    heads: &mut Heads,
+    number: usize,
+    head: &HeadOf<usize>,
+) -> Result<(), Memory>
+    requires number { number < length types.now }
+    requires heads { AreHeads decls.now types.now heads.old }
+    requires head { IsHeadOf decls.now types.now (type_at types.now number) head.now }
+    ensures { OnOk result (AreHeads decls.now types.now heads.new) }
+{
+    let TypeNode::Including(whole, included) = types.node(number) else {
+        return Ok(());
+    };
+    let TypeNode::Bracket = types.node(whole) else {
+        return Ok(());
+    };
+    decls.holds();
+    remember(alloc, types, decls, heads, included, head)
+}
+
+/// Remembers the tags of a type.
+fn remember(
+    alloc: Global,
+    types: &Types,
+    decls: &SoundEnvironment<'_>,
+    heads: &mut Heads,
+    number: usize,
+    head: &HeadOf<usize>,
+) -> Result<(), Memory>
+    requires number { number < length types.now }
+    requires heads { AreHeads decls.now types.now heads.old }
+    requires tags { IsTagsHead decls.now types.now (type_at types.now number) head.now }
+    ensures { OnOk result (AreHeads decls.now types.now heads.new) }
+{
+    let HeadOf::Variants(tags) = head else {
+        return Ok(());
+    };
+    if heads.met.contains(&number) {
+        return Ok(());
+    }
+    let copied = copied(alloc, tags.as_slice())?;
+    heads.met.insert(number)?;
+    heads.heads.push(HeadOf::Variants(List::of(copied)))?;
+    Ok(())
+}
+
+/// The same tags.
+fn copied(alloc: Global, tags: &[TagOf<usize>]) -> Result<Vec<TagOf<usize>>, Memory>
+    ensures { IfOk result (λ v. v.items ≡ tags.now) }
+{
+    let mut found = Vec::with_capacity(alloc, tags.len())?;
+    for tag in tags {
+        found.push(TagOf {
+            name: List::of(Vec::from_slice(alloc, tag.name.as_slice())?),
+            argument: tag.argument,
+        })?;
+    }
+    Ok(found)
+}
