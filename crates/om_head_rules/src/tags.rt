@@ -1,14 +1,15 @@
 //! Items of brackets with the tags that they bring.
 
-ghost use Rattle.std.specs.Prelude.{◌≡◌, map, IfOk};
+ghost use Rattle.std.specs.Prelude.{◌≡◌, map, IfOk, OnOk};
 ghost use Rattle.om_store.specs.Held.{Grows};
+ghost use Rattle.om_layout.specs.Heads.{AreHeads};
 ghost use Rattle.om_brackets.specs.Trees.{typed_item, written_item};
 ghost use Rattle.om_head_rules.specs.Rules.{AreWithin, AreAllWithin, AreTagged, items_at};
 ghost use Rattle.om_head_rules.specs.Rules.{brackets_at, tags_of_head};
 
 use crate::item::NumberedItem;
 use om_brackets::Item;
-use om_layout::head_of;
+use om_layout::{Heads, item_head, no_heads};
 use om_model::Memory;
 use om_model::list::List;
 use om_scope::SoundEnvironment;
@@ -31,17 +32,20 @@ fn tagged_items(
     alloc: Global,
     types: &mut Types,
     decls: &SoundEnvironment<'_>,
+    heads: &mut Heads,
     items: &[NumberedItem],
 ) -> Result<List<Item>, Memory>
     requires within { AreWithin types.old items.now }
+    requires heads { AreHeads decls.now types.old heads.old }
     ensures ok { IfOk result
         (λ all. map (typed_item types.new) all
         ≡ map (written_item decls.now) (items_at types.old items.now)) }
+    ensures heads { OnOk result (AreHeads decls.now types.new heads.new) }
     ensures grown { Grows types.old types.new }
 {
     let mut all = List::new(alloc);
     for item in items {
-        let head = head_of(alloc, types, decls, item.number)?;
+        let head = item_head(alloc, types, decls, heads, item.number)?;
         all.push(Item {
             place: item.place,
             tags: tags_in(alloc, head),
@@ -55,9 +59,11 @@ fn all_tagged(
     alloc: Global,
     types: &mut Types,
     decls: &SoundEnvironment<'_>,
+    heads: &mut Heads,
     brackets: &[List<NumberedItem>],
 ) -> Result<List<List<Item>>, Memory>
     requires within { AreAllWithin types.old brackets.now }
+    requires heads { AreHeads decls.now types.old heads.old }
     ensures ok { IfOk result
         (λ all. map (map (typed_item types.new)) all
         ≡ map (map (written_item decls.now)) (brackets_at types.old brackets.now)) }
@@ -65,7 +71,8 @@ fn all_tagged(
 {
     let mut all = List::new(alloc);
     for items in brackets {
-        all.push(tagged_items(alloc, types, decls, items.as_slice())?)?;
+        let tagged = tagged_items(alloc, types, decls, heads, items.as_slice())?;
+        all.push(tagged)?;
     }
     Ok(all)
 }
@@ -82,7 +89,8 @@ pub fn tagged_brackets(
         (λ tagged. AreTagged types.new decls.now tagged (brackets_at types.old brackets.now)) }
     ensures grown { Grows types.old types.new }
 {
-    let tagged = all_tagged(alloc, types, decls, brackets)?;
+    let mut heads = no_heads(alloc);
+    let tagged = all_tagged(alloc, types, decls, &mut heads, brackets)?;
     // Its contract says that no type stands twice.
     let _ = types.len();
     Ok(tagged)
